@@ -1,0 +1,13 @@
+pub mod AnswerList
+pub mod Days
+pub mod DateTexts
+pub mod Terms
+pub mod FormFields
+pub mod FormRanges
+pub mod FormShape
+pub mod FormJson
+pub mod FormFaults
+pub mod ShownFields
+pub mod AnswerFaults
+pub mod Outside
+pub mod KeptRows

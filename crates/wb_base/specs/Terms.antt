@@ -1,0 +1,25 @@
+-- The terms of a report (Directive (EU) 2019/1937, Article 9(1)(b) and (f)).
+use Rattle.std.specs.Prelude.{ℕ, ◌+◌, ◌-◌, ◌*◌, ◌/◌, ◌%◌, min, Option, unwrap_or, ℤ, pos, ◌+ℤ◌}
+use Rattle.jiff_core.specs.Calendar.{days_in_month, days_from_civil}
+use Rattle.wb_base.specs.Days.{CivilDate, date_of}
+
+-- the day k months after a date: the same day of the month, or the month's last where it lacks that day
+abbrev pub months_after : ℕ → CivilDate → ℤ
+months_after k d = let month = d.year * 12 + (d.month - 1) + k in
+    days_from_civil (pos (month / 12)) (month % 12 + 1) (min d.day (days_in_month (pos (month / 12)) (month % 12 + 1)))
+
+-- the day k months after a day
+abbrev pub months_later : ℕ → ℤ → ℤ
+months_later k day = months_after k (date_of day)
+
+-- receipt is acknowledged within seven days of that receipt
+abbrev pub ack_due : ℤ → ℤ
+ack_due received = received +ℤ pos 7
+
+-- feedback comes within three months of the acknowledgement, or of the end of the seven days where there is none
+abbrev pub feedback_due : ℤ → Option ℤ → ℤ
+feedback_due received acknowledged = months_later 3 (unwrap_or acknowledged (ack_due received))
+
+-- a report expires so many days after a day
+abbrev pub expiry : ℤ → ℕ → ℤ
+expiry from retention = from +ℤ pos retention

@@ -1,0 +1,231 @@
+//! A table sorted by a key.
+ghost use Rattle.std.specs.Prelude.{◌≡◌, ◌+◌, ◌<◌, ◌≤◌, [], length, slice_get, Some, None, OnOk, OnSome, IfOk, IfErr, Bool, not, find, filter};
+ghost use Rattle.std.specs.Option.{option_copied};
+ghost use Rattle.wb_list.specs.Keyed.{IsAscending, has_key, insert_item, without_first, IsPlace, IsGap};
+
+use crate::{Memory, TryClone};
+use std::alloc::Global;
+use std::cmp::Ordering;
+use std::marker::Model;
+
+/// What has a key, which may be computed from several of its fields.
+pub trait Keyed {
+    type Key: Ord;
+
+    /// Its key.
+    ghost key_of: { Self → Self.Key };
+
+    /// How its key compares to a key.
+    fn compare(&self, key: &Self::Key) -> Ordering
+        ensures { result ≡ Self.Key.cmp (key_of self.now) key.now };
+
+    /// How its key compares to that of another.
+    fn compare_to(&self, other: &Self) -> Ordering
+        ensures { result ≡ Self.Key.cmp (key_of self.now) (key_of other.now) };
+}
+
+/// A pair has its first part as its key.
+impl<K: Ord, V> Keyed for (K, V) {
+    type Key = K;
+
+    ghost key_of = { λ pair. pair.0 };
+
+    fn compare(&self, key: &K) -> Ordering {
+        self.0.cmp(key)
+    }
+
+    fn compare_to(&self, other: &(K, V)) -> Ordering {
+        self.0.cmp(&other.0)
+    }
+}
+
+/// A test of items.
+pub trait ItemTest<T> {
+    /// Whether an item passes.
+    ghost passes: { Self → T → Bool };
+
+    /// Whether an item passes.
+    fn passes(&self, item: &T) -> bool
+        ensures { result ≡ passes self.now item.now };
+}
+
+/// Items that ascend by their keys, each key once, found by binary search, seen as their list and its spare room.
+#[derive(Drop)]
+pub struct Sorted<T: Keyed> {
+    items: Vec<T>,
+}
+
+impl<T: Keyed> Model for Sorted<T> {
+    ghost use Rattle.std.specs.Prelude.{◌-◌};
+    ghost use Rattle.std.specs.Vec.{vec_len, vec_capacity};
+    ghost use Rattle.wb_list.specs.Room.{Room};
+    ghost use Rattle.wb_list.specs.Keyed.{IsAscending};
+
+    ghost Value = { Room T };
+
+    ghost view = { λ s. record { items = s.items.items; spare = vec_capacity s.items - vec_len s.items } };
+
+    ghost invariant = { λ s. IsAscending T.Key.cmp T.key_of s.items.items };
+}
+
+impl<T: Keyed> Sorted<T> {
+    /// No item. It takes no memory.
+    pub fn new(alloc: Global) -> Sorted<T>
+        ensures { result.items ≡ [] }
+    {
+        Sorted {
+            items: Vec::new(alloc),
+        }
+    }
+
+    /// These items, which ascend. It takes no memory.
+    pub fn of(items: Vec<T>) -> Sorted<T>
+        requires { IsAscending T.Key.cmp T.key_of items.items }
+        ensures { result.items ≡ items.items }
+    {
+        Sorted { items }
+    }
+
+    /// How many items there are.
+    pub fn len(&self) -> usize
+        ensures { result ≡ length self.now.items }
+    {
+        self.items.len()
+    }
+
+    /// The item at a place, counted from 0 in the order of keys.
+    pub fn get(&self, at: usize) -> &T
+        requires { at < length self.now.items }
+        ensures { slice_get self.now.items at ≡ Some result.now }
+    {
+        &self.items[at]
+    }
+
+    /// All items in the order of their keys.
+    pub fn as_slice(&self) -> &[T]
+        ensures all { result.now ≡ self.now.items }
+        ensures ascending { IsAscending T.Key.cmp T.key_of self.now.items }
+    {
+        self.items.as_slice()
+    }
+
+    /// The items as a `Vec`, in the order of their keys. It takes no memory.
+    pub fn into_vec(self) -> Vec<T>
+        ensures all { result.items ≡ self.items }
+        ensures ascending { IsAscending T.Key.cmp T.key_of self.items }
+    {
+        self.items
+    }
+
+    /// The allocator that it was made with.
+    pub fn allocator(&self) -> Global {
+        *self.items.allocator()
+    }
+
+    /// Makes room for n more items.
+    pub fn reserve(&mut self, n: usize) -> Result<(), Memory>
+        ensures items { self.new.items ≡ self.old.items }
+        ensures room { OnOk result (n ≤ self.new.spare) }
+        ensures kept { self.old.spare ≤ self.new.spare }
+    {
+        self.items.reserve(n)?;
+        Ok(())
+    }
+
+    // Where the key is, or where it would go.
+    fn place(&self, key: &T::Key) -> Result<usize, usize>
+        ensures found { IfOk result (IsPlace T.Key.cmp T.key_of self.now.items key.now) }
+        ensures absent { IfErr result (IsGap T.Key.cmp T.key_of self.now.items key.now) }
+    {
+        self.items.binary_search_by(|item| item.compare(key))
+    }
+
+    // Where an item with this one's key is, or where it would go.
+    fn place_of(&self, item: &T) -> Result<usize, usize>
+        ensures found { IfOk result (IsPlace T.Key.cmp T.key_of self.now.items (T.key_of item.now)) }
+        ensures absent { IfErr result (IsGap T.Key.cmp T.key_of self.now.items (T.key_of item.now)) }
+    {
+        self.items.binary_search_by(|other| other.compare_to(item))
+    }
+
+    /// The item of a key.
+    pub fn find(&self, key: &T::Key) -> Option<&T>
+        ensures { option_copied result ≡ find (has_key T.Key.cmp T.key_of key.now) self.now.items }
+    {
+        match self.place(key) {
+            Ok(at) => Some(&self.items[at]),
+            Err(_) => None,
+        }
+    }
+}
+
+impl<T: Keyed + Drop> Sorted<T> {
+    /// Adds an item whose key is free, into room that was made. It takes no memory.
+    pub fn add(&mut self, item: T)
+        requires room { 0 < self.old.spare }
+        requires free { find (has_key T.Key.cmp T.key_of (T.key_of item)) self.old.items ≡ None }
+        ensures items { self.new.items ≡ insert_item T.Key.cmp T.key_of self.old.items item }
+        ensures room { self.old.spare ≤ self.new.spare + 1 }
+    {
+        match self.place_of(&item) {
+            Ok(_) => unreachable!(),
+            Err(at) => {
+                let inserted = self.items.insert(at, item);
+                inserted.unwrap()
+            }
+        }
+    }
+
+    /// Puts an item at its place, instead of one with its key if there is one, into room that was made.
+    /// It takes no memory.
+    pub fn set(&mut self, item: T)
+        requires { 0 < self.old.spare }
+        ensures items { self.new.items ≡ insert_item T.Key.cmp T.key_of self.old.items item }
+        ensures room { self.old.spare ≤ self.new.spare + 1 }
+    {
+        match self.place_of(&item) {
+            Ok(at) => self.items[at] = item,
+            Err(at) => {
+                let inserted = self.items.insert(at, item);
+                inserted.unwrap()
+            }
+        }
+    }
+
+    /// Takes the item of a key out. Its room is spare again.
+    pub fn take(&mut self, key: &T::Key) -> Option<T>
+        ensures item { result ≡ find (has_key T.Key.cmp T.key_of key.now) self.old.items }
+        ensures items { self.new.items ≡ without_first (has_key T.Key.cmp T.key_of key.now) self.old.items }
+        ensures kept { self.old.spare ≤ self.new.spare }
+        ensures room { OnSome result (self.old.spare + 1 ≤ self.new.spare) }
+    {
+        match self.place(key) {
+            Ok(at) => {
+                let item = self.items.remove(at);
+                Some(item)
+            }
+            Err(_) => None,
+        }
+    }
+
+    /// Drops the items that pass a test. It takes no memory.
+    pub fn drop_passing<X: ItemTest<T>>(&mut self, test: &X)
+        ensures items { self.new.items ≡ filter (λ item. not (X.passes test.now item)) self.old.items }
+        ensures kept { self.old.spare ≤ self.new.spare }
+    {
+        self.items.retain(|item| !test.passes(item));
+    }
+}
+
+impl<T: Keyed + TryClone> Sorted<T> {
+    /// The same table once more, with or without its spare room.
+    pub fn try_clone(&self) -> Result<Sorted<T>, Memory>
+        ensures { IfOk result (λ copy. copy.items ≡ self.now.items) }
+    {
+        let mut copy = Vec::new(*self.items.allocator());
+        for item in &self.items {
+            copy.push(item.try_clone()?)?;
+        }
+        Ok(Sorted { items: copy })
+    }
+}
