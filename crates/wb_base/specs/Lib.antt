@@ -9,5 +9,6 @@ pub mod FormJson
 pub mod FormFaults
 pub mod ShownFields
 pub mod AnswerFaults
+pub mod Sealing
 pub mod Outside
 pub mod KeptRows
