@@ -12,3 +12,4 @@ pub mod AnswerFaults
 pub mod Sealing
 pub mod Outside
 pub mod KeptRows
+pub mod MemoryEnds

@@ -4,12 +4,17 @@
 
 mod answers;
 mod callers;
+mod calls;
 mod faults;
 mod form;
 mod laws;
+mod memory_keeper;
+mod memory_sink;
+mod memory_source;
 mod numbers;
 mod outside;
 mod rows;
+mod std_ends;
 mod text;
 mod words;
 
@@ -18,9 +23,13 @@ pub use callers::{Presented, Principal, Role};
 pub use faults::{AnswerFault, Failed, FormFault, KeepErr, TextFault};
 pub use laws::good_forms;
 pub use form::{Choice, Cond, Field, FieldKind, Form, Step, Trigger};
+pub use memory_keeper::MemKeeper;
+pub use memory_sink::MemSink;
+pub use memory_source::MemSource;
 pub use numbers::{Day, Moment, Number, Tenant, UserId};
 pub use outside::{Keeper, Sink, Source};
 pub use rows::{Change, Key, Row};
+pub use std_ends::{StdSink, StdSource};
 pub use text::Text;
 pub use wb_list::Memory;
 pub use words::{Digest, Salt, Words};
