@@ -1,10 +1,9 @@
 -- Where no public field hangs on an identity field, what is shown of public fields hangs on public answers alone.
-use Rattle.std.proofs.Common.{◌≡◌, ℕ, zero, suc, ◌+◌, Bool, true, false, not, cond, ◌&&◌, ◌||◌, if◌then◌else◌, List, [], ◌∷◌, ◌++◌, get_or, filter, find, slice_get, Option, Some, None, refl, sym, ap, ◌∙◌, append_assoc, inl, inr}
+use Rattle.std.proofs.Common.{◌≡◌, ℕ, zero, suc, Bool, true, false, not, cond, ◌&&◌, ◌||◌, if◌then◌else◌, List, [], ◌∷◌, ◌++◌, get_or, filter, find, slice_get, Option, Some, None, refl, sym, ap, ◌∙◌, append_assoc}
 use Rattle.std.specs.List.{list_any, list_all}
 use Rattle.std.specs.Option.{option_map, option_map_or}
 use Rattle.std.specs.Cmp.Lexicographic.{bytes_decides}
-use Rattle.std.proofs.lemmas.Bool.{cases_Bool, or_parts}
-use Rattle.std.proofs.Math.Bool.{or-false}
+use Rattle.std.proofs.lemmas.Bool.{or_parts}
 use Rattle.wb_base.specs.declared.answers.Given.{Given}
 use Rattle.wb_base.specs.declared.form.Form.{Form}
 use Rattle.wb_base.specs.declared.form.Field.{Field}
@@ -12,8 +11,8 @@ use Rattle.wb_base.specs.declared.form.Cond.{Cond}
 use Rattle.wb_base.specs.declared.form.Trigger.{Trigger}
 use Rattle.wb_base.specs.declared.form.Trigger.TheVariants.{Always, Any, All}
 use Rattle.wb_base.specs.AnswerList.{Answered, answer_to, id_of, is_text}
-use Rattle.wb_base.specs.FormFields.{fields_of, is_field, conds_of}
-use Rattle.wb_base.specs.FormFaults.{Rule, is_late, is_sealed, first_from}
+use Rattle.wb_base.specs.FormFields.{is_field, conds_of}
+use Rattle.wb_base.specs.FormFaults.{is_late, is_sealed, first_from}
 use Rattle.wb_base.specs.ShownFields.{Look, is_met, is_triggered, shows, is_shown, shown_from}
 use Rattle.wb_base.specs.AnswerFaults.{is_identity, public_of}
 
@@ -116,7 +115,7 @@ module _ (p q : Look) where
         let ss = first_none (is_sealed before f) f.id (first_from is_sealed (before ++ f ∷ []) fs) s in
         walk (before ++ f ∷ []) (f ∷ earlier) fs (whole ∙ sym (append_assoc before (f ∷ []) fs)) (λ t. any-more t before f ∙ ap (λ v. t f || v) (rel t))
         (λ id h. let parts = or_parts (is_field id f && f.identity) (list_any (sealed id) earlier) h in
-            rw (same id parts.1, guard (is_field id f) (is_shown p earlier f) (is_shown q earlier f) (λ at. field-same before earlier (f ∷ fs) whole rel same f ls.0 ss.0 (not_both (is_field id f) f.identity parts.0 at))) refl)
+        rw (same id parts.1, guard (is_field id f) (is_shown p earlier f) (is_shown q earlier f) (λ at. field-same before earlier (f ∷ fs) whole rel same f ls.0 ss.0 (not_both (is_field id f) f.identity parts.0 at))) refl)
         ls.1 ss.1 k g e i
 
     pub public-same : first_from is_late [] all ≡ None → first_from is_sealed [] all ≡ None → (k : ℕ) (g : Field) → slice_get all k ≡ Some g → g.identity ≡ false
@@ -130,9 +129,9 @@ find-kept test keeps h (x ∷ xs) =
     elim (test x) as (λ b. test x ≡ b → find test (filter keeps (x ∷ xs)) ≡ cond b (Some x) (find test xs)) [
       | true ↦ λ passes. rw (h x passes, passes) refl
       | false ↦ λ fails. elim (keeps x) as (λ b. find test (cond b (x ∷ filter keeps xs) (filter keeps xs)) ≡ find test xs) [
-          | true ↦ rw (fails) (find-kept test keeps h xs)
-          | false ↦ find-kept test keeps h xs
-        ]
+        | true ↦ rw (fails) (find-kept test keeps h xs)
+        | false ↦ find-kept test keeps h xs
+      ]
     ] refl
 
 same_id : (id k : List ℕ) → is_text k id ≡ true → k ≡ id

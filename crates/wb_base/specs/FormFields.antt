@@ -1,7 +1,6 @@
 -- The fields of a form in form order, their ids, options and conditions.
 use Rattle.std.specs.Prelude.{ℕ, List, [], ◌∷◌, ◌++◌, Bool, true, false}
 use Rattle.wb_base.specs.AnswerList.{is_text}
-use Rattle.wb_base.specs.declared.form.Form.{Form}
 use Rattle.wb_base.specs.declared.form.Step.{Step}
 use Rattle.wb_base.specs.declared.form.Field.{Field}
 use Rattle.wb_base.specs.declared.form.FieldKind.{FieldKind}

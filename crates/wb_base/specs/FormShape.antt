@@ -127,8 +127,8 @@ field_keys = codes "id" ∷ codes "label" ∷ codes "kind" ∷ codes "required" 
 abbrev pub field_of : Data → Option Field
 field_of d = if has_only field_keys d then
     option_and_then (λ id. option_and_then (λ label. option_and_then (λ kind. option_and_then (λ required. option_and_then (λ identity. option_map (λ show.
-        record { id = id; label = label; kind = kind; required = required; identity = identity; show = show })
-        (show_at d)) (flag_at (codes "identity") d)) (flag_at (codes "required") d)) (kind_of d)) (text_at is_label (codes "label") d)) (text_at is_id (codes "id") d) else None
+    record { id = id; label = label; kind = kind; required = required; identity = identity; show = show })
+    (show_at d)) (flag_at (codes "identity") d)) (flag_at (codes "required") d)) (kind_of d)) (text_at is_label (codes "label") d)) (text_at is_id (codes "id") d) else None
 
 -- `{"title", "fields"}`
 abbrev pub step_of : Data → Option Step

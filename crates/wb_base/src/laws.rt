@@ -9,5 +9,4 @@ ghost use Rattle.wb_base.specs.Sealing.{HangsOnPublicAnswers};
 pub fn good_forms()
     ensures few { (form : Form) → is_good form ≡ true → length (fields_of form.steps) ≤ 256 }
     ensures sealed { (form : Form) → is_good form ≡ true → HangsOnPublicAnswers form }
-{
-}
+{}

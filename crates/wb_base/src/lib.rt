@@ -21,8 +21,8 @@ mod words;
 pub use answers::{Answers, Given};
 pub use callers::{Presented, Principal, Role};
 pub use faults::{AnswerFault, Failed, FormFault, KeepErr, TextFault};
-pub use laws::good_forms;
 pub use form::{Choice, Cond, Field, FieldKind, Form, Step, Trigger};
+pub use laws::good_forms;
 pub use memory_keeper::MemKeeper;
 pub use memory_sink::MemSink;
 pub use memory_source::MemSource;
@@ -33,3 +33,6 @@ pub use std_ends::{StdSink, StdSource};
 pub use text::Text;
 pub use wb_list::Memory;
 pub use words::{Digest, Salt, Words};
+
+#[cfg(test)]
+mod tests;

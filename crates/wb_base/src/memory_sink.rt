@@ -81,7 +81,11 @@ impl Sink for MemSink {
         let is_to_fail = self.calls.fails_next();
         let fails = is_to_fail || self.room < bytes.len();
         self.calls.count(fails);
-        let fitting = if is_to_fail { 0 } else { bytes.len().min(self.room) };
+        let fitting = if is_to_fail {
+            0
+        } else {
+            bytes.len().min(self.room)
+        };
         self.take(&bytes[..fitting]);
         if fails { Err(Failed) } else { Ok(()) }
     }

@@ -13,5 +13,5 @@ pub use roomy::Roomy;
 pub use sorted::{ItemTest, Keyed, Sorted};
 pub use try_clone::TryClone;
 
-
-
+#[cfg(test)]
+mod tests;
