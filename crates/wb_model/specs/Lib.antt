@@ -1,0 +1,14 @@
+pub mod BodyBytes
+pub mod Built
+pub mod Access
+pub mod Trails
+pub mod Secrets
+pub mod Tables
+pub mod Json
+pub mod Refusals
+pub mod Targets
+pub mod Views
+pub mod Requests
+pub mod Rules
+pub mod Host
+pub mod Alike

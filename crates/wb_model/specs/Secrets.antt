@@ -1,0 +1,25 @@
+-- Receipts, session secrets and digests.
+use Rattle.std.specs.Prelude.{ℕ, zero, suc, ◌+◌, ◌*◌, ◌/◌, ◌%◌, ◌^◌, List, [], ◌∷◌, ◌++◌, slice_index}
+use Rattle.std.specs.Int.{to_be_bytes, w64}
+use Rattle.hex.specs.Hex.{encode_lower}
+use Rattle.sha2.specs.Sha256.{sha256}
+use Rattle.wb_base.specs.declared.words.Words.{Words}
+use Rattle.wb_base.specs.declared.words.Salt.{Salt}
+use Rattle.wb_base.specs.declared.words.Digest.{Digest}
+
+-- the last n decimal digits of a number
+abbrev pub last_digits : ℕ → ℕ → List ℕ
+last_digits zero number = []
+last_digits (suc n) number = last_digits n (number / 10) ++ (48 + number % 10) ∷ []
+
+-- a receipt: 16 decimal digits, of the first two words
+unfoldable pub receipt_text : Words → List ℕ
+receipt_text words = last_digits 16 ((slice_index words.0 0 * 2 ^ 64 + slice_index words.0 1) % 10 ^ 16)
+
+-- a session's secret: 32 lower-case hexadecimal digits, those of the last two words
+unfoldable pub secret_text : Words → List ℕ
+secret_text words = encode_lower (to_be_bytes w64 (slice_index words.0 2) ++ to_be_bytes w64 (slice_index words.0 3))
+
+-- the digest of a text under a tenant's salt (FIPS 180-4)
+unfoldable pub digest : Salt → List ℕ → Digest
+digest salt text = record { 0 = sha256 (salt.0 ++ text) }

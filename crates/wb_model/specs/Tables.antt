@@ -1,0 +1,109 @@
+-- One tenant's tables but for identity answers, and their look-ups.
+use Rattle.std.specs.Prelude.{ℕ, ◌+◌, ◌==◌, ◌&&◌, nat_lt, not, Bool, true, false, if◌then◌else◌, List, [], ◌∷◌, length, map, filter, find, fold, Option, Some, None, ℤ}
+use Rattle.std.specs.Ordering.{int_eq}
+use Rattle.std.specs.List.{list_any}
+use Rattle.std.specs.Option.{option_map_or}
+use Rattle.wb_base.specs.declared.callers.Role.{Role}
+use Rattle.wb_base.specs.declared.callers.Presented.{Presented}
+use Rattle.wb_base.specs.declared.callers.Presented.TheVariants as presented
+use Rattle.wb_base.specs.declared.form.Form.{Form}
+use Rattle.wb_base.specs.declared.words.Digest.{Digest}
+use Rattle.wb_base.specs.declared.words.Salt.{Salt}
+use Rattle.wb_base.specs.AnswerList.{is_text}
+use Rattle.wb_base.specs.Days.{day_of}
+use Rattle.wb_model.specs.declared.entry.Entry.{Entry}
+use Rattle.wb_model.specs.declared.numbering.Numbering.{Numbering}
+use Rattle.wb_model.specs.declared.registry.TenantItem.{TenantItem}
+use Rattle.wb_model.specs.declared.registry.UserItem.{UserItem}
+use Rattle.wb_model.specs.declared.registry.FormItem.{FormItem}
+use Rattle.wb_model.specs.declared.registry.ContextItem.{ContextItem}
+use Rattle.wb_model.specs.Secrets.{digest}
+
+-- ---- what a tenant is set up with
+
+pub record Registry : Type 0 where
+  pub settings : TenantItem
+  pub users : List UserItem
+  pub forms : List FormItem
+  pub contexts : List ContextItem
+
+abbrev pub user : ℕ → Registry → Option UserItem
+user u g = find (λ x. x.id == u) g.users
+
+abbrev pub context : ℕ → Registry → Option ContextItem
+context c g = find (λ x. x.id == c) g.contexts
+
+-- the newest version of a form
+abbrev pub newest_form : ℕ → Registry → Option FormItem
+newest_form f g = fold (λ before x. if x.id == f then Some x else before) None g.forms
+
+-- how often a user was disabled
+abbrev pub disablings : ℕ → Registry → ℕ
+disablings u g = option_map_or (λ x. x.disabled) (user u g) 0
+
+-- ---- reports
+
+-- a report: its number, and its trail
+pub record Case : Type 0 where
+  pub number : ℕ
+  pub trail : List Entry
+
+abbrev pub has_number : ℕ → Case → Bool
+has_number n case = case.number == n
+
+abbrev pub report : ℕ → List Case → Option Case
+report n cases = find (has_number n) cases
+
+abbrev pub is_there : ℕ → List Case → Bool
+is_there n cases = list_any (has_number n) cases
+
+-- a report is live while it has a trail
+abbrev pub is_live : TenantItem → ℕ → Case → Bool
+is_live settings now case = not (length case.trail == 0)
+
+-- ---- sessions
+
+-- who a session is of
+pub data Who : Type 0 where
+  TheUser : ℕ → Who
+  TheReporter : ℕ → Who
+
+-- a standing session: the turn that made it, its secret's digest, and its moment
+pub record Session : Type 0 where
+  pub turn : ℕ
+  pub digest : Digest
+  pub role : Role
+  pub who : Who
+  pub at : ℕ
+
+-- a reporter's session stands as long as its report
+abbrev pub stays : List Case → Who → Bool
+stays cases (TheUser u) = true
+stays cases (TheReporter n) = is_there n cases
+
+-- a session stands for 14,400 seconds
+abbrev pub lasts : ℕ → List Case → Session → Bool
+lasts now cases s = nat_lt now (s.at + 14_400) && stays cases s.who
+
+abbrev pub same_digest : Digest → Digest → Bool
+same_digest a b = is_text a.0 b.0
+
+-- the session that a request presents, where it stands
+abbrev pub session : Salt → Presented → List Session → Option Session
+session salt presented.None ss = None
+session salt presented.Bad ss = None
+session salt (presented.Token turn secret) ss = find (λ s. (s.turn == turn) && same_digest s.digest (digest salt secret)) ss
+
+-- ---- the whole
+
+pub record Plain : Type 0 where
+  pub registry : Registry
+  pub numbering : Numbering
+  -- in the order in which their numbers were drawn
+  pub cases : List Case
+  -- in the order of their turns
+  pub sessions : List Session
+
+-- how many numbers were drawn on a day
+abbrev pub drawn_on : ℤ → TenantItem → Numbering → ℕ
+drawn_on day settings numbering = if int_eq (day_of numbering.at settings.offset) day then numbering.drawn else 0

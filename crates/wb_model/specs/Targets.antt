@@ -1,0 +1,151 @@
+-- Whom and what a request is about: session, role, right and thing, in this order.
+use Rattle.std.specs.Prelude.{ℕ, ◌==◌, ◌&&◌, Bool, true, false, if◌then◌else◌, List, [], Option, Some, None}
+use Rattle.wb_base.specs.declared.callers.Role.{Role}
+use Rattle.wb_base.specs.declared.callers.Role.TheVariants.{Reporter, Recipient, Custodian, Admin}
+use Rattle.wb_base.specs.declared.callers.Presented.{Presented}
+use Rattle.wb_model.specs.declared.body.Told.{Told}
+use Rattle.wb_model.specs.declared.entry.Entry.{Entry}
+use Rattle.wb_model.specs.declared.command.Command.{Command}
+use Rattle.wb_model.specs.declared.command.Command.TheVariants as commands
+use Rattle.wb_model.specs.declared.registry.Rights.{Rights}
+use Rattle.wb_model.specs.declared.registry.UserItem.{UserItem}
+use Rattle.wb_model.specs.Trails.{reads}
+use Rattle.wb_model.specs.Tables.{Registry, Plain, Case, Session, Who, TheUser, TheReporter, user, report, session}
+use Rattle.wb_model.specs.Refusals.{not_found, no_session, wrong_role, wrong_right}
+
+-- ---- who may call a route, and what it names
+
+pub data Right : Type 0 where
+  Free : Right
+  To_postpone : Right
+  To_share : Right
+  To_transfer : Right
+
+abbrev pub has_right : Right → Rights → Bool
+has_right Free may = true
+has_right To_postpone may = may.postpone
+has_right To_share may = may.share
+has_right To_transfer may = may.transfer
+
+pub data Need : Type 0 where
+  -- no session
+  Anyone : Need
+  -- any session
+  Any_session : Need
+  -- a reporter's session, on the own report
+  Own : Need
+  -- a user of a role
+  Staff : Role → Need
+  -- a user of a role and with a right, on the report of a number
+  Names : Role → Right → ℕ → Need
+
+-- the table of routes
+abbrev pub need : Command → Need
+need commands.Health = Anyone
+need (commands.Public t) = Anyone
+need (commands.ContextOf t c) = Anyone
+need (commands.Login t user password) = Anyone
+need (commands.ReceiptLogin t receipt) = Anyone
+need (commands.Logout t) = Any_session
+need (commands.Submit t context answers) = Anyone
+need (commands.OwnReport t) = Own
+need (commands.OwnComment t text) = Own
+need (commands.GiveIdentity t answers) = Own
+need (commands.List t) = Staff Recipient
+need (commands.DueList t) = Staff Recipient
+need (commands.ReadReport t n) = Names Recipient Free n
+need (commands.Comment t n text internal) = Names Recipient Free n
+need (commands.Label t n label) = Names Recipient Free n
+need (commands.SetStatus t n status) = Names Recipient Free n
+need (commands.Acknowledge t n) = Names Recipient Free n
+need (commands.Feedback t n text) = Names Recipient Free n
+need (commands.Share t n user) = Names Recipient To_share n
+need (commands.Unshare t n u) = Names Recipient To_share n
+need (commands.Transfer t n context) = Names Recipient To_transfer n
+need (commands.Postpone t n) = Names Recipient To_postpone n
+need (commands.Ask t n reason) = Names Recipient Free n
+need (commands.ReadIdentity t n) = Names Recipient Free n
+need (commands.Requests t) = Staff Custodian
+need (commands.Decide t n k decision reason withhold) = Names Custodian Free n
+need (commands.Admin t) = Staff Admin
+need (commands.SetSettings t next) = Staff Admin
+need (commands.SetUser t u next) = Staff Admin
+need (commands.SetContext t c next) = Staff Admin
+need (commands.SetForm t f form) = Staff Admin
+
+-- ---- the target
+
+pub data Target : Type 0 where
+  -- refused
+  Nobody : Told → Target
+  -- on no report, by this caller
+  Alone : Option Who → Target
+  -- on a live report that the caller finds
+  On : Who → Case → Target
+
+abbrev pub same_role : Role → Role → Bool
+same_role Reporter Reporter = true
+same_role Recipient Recipient = true
+same_role Custodian Custodian = true
+same_role Admin Admin = true
+same_role _ _ = false
+
+-- a recipient finds the reports that it reads, a custodian every live one
+abbrev pub finds : Role → ℕ → Case → Bool
+finds Custodian u c = true
+finds role u c = reads u c.trail
+
+abbrev pub named_case : Role → ℕ → Option Case → Target
+named_case role u None = Nobody not_found
+named_case role u (Some c) = if finds role u c then On (TheUser u) c else Nobody not_found
+
+-- the target of a user whose session has this role: the role, then the right, then the thing
+abbrev pub staff : Role → Role → Right → UserItem → Target → Target
+staff has role right x t = if same_role has role then (if has_right right x.may then t else Nobody wrong_right) else Nobody wrong_role
+
+abbrev pub user_target : Plain → Role → UserItem → Need → Target
+user_target p has x Anyone = Alone (Some (TheUser x.id))
+user_target p has x Any_session = Alone (Some (TheUser x.id))
+user_target p has x Own = Nobody wrong_role
+user_target p has x (Staff role) = staff has role Free x (Alone (Some (TheUser x.id)))
+user_target p has x (Names role right n) = staff has role right x (named_case role x.id (report n p.cases))
+
+-- the report of a reporter
+abbrev pub own_case : ℕ → Option Case → Target
+own_case n None = Nobody no_session
+own_case n (Some c) = On (TheReporter n) c
+
+abbrev pub reporter_target : Plain → ℕ → Need → Target
+reporter_target p n Any_session = own_case n (report n p.cases)
+reporter_target p n Own = own_case n (report n p.cases)
+reporter_target p n _ = Nobody wrong_role
+
+abbrev pub some_user_target : Plain → Role → Need → Option UserItem → Target
+some_user_target p has k None = Nobody no_session
+some_user_target p has k (Some x) = user_target p has x k
+
+abbrev pub who_target : Plain → Role → Need → Who → Target
+who_target p has k (TheUser u) = some_user_target p has k (user u p.registry)
+who_target p has k (TheReporter n) = reporter_target p n k
+
+abbrev pub session_target : Plain → Need → Option Session → Target
+session_target p k None = Nobody no_session
+session_target p k (Some s) = who_target p s.role k s.who
+
+-- a request that needs no session
+abbrev pub unasked : Plain → Command → Target
+unasked p command = Alone None
+
+abbrev pub needed_target : Plain → Presented → Command → Need → Target
+needed_target p presented command Anyone = unasked p command
+needed_target p presented command k = session_target p k (session p.registry.settings.salt presented p.sessions)
+
+-- the target of a request
+abbrev pub target : Plain → Presented → Command → Target
+target p presented command = needed_target p presented command (need command)
+
+-- the trail of the report that a request is on
+abbrev pub trail_at : Target → List Entry
+trail_at (Nobody told) = []
+trail_at (Alone who) = []
+trail_at (On who c) = c.trail

@@ -1,0 +1,101 @@
+-- The bodies of replies.
+use Rattle.std.specs.Prelude.{ℕ, ◌==◌, ◌+◌, not, nat_lt, Bool, true, false, if◌then◌else◌, List, [], ◌∷◌, map, filter, Option, Some, None, is_some, codes}
+use Rattle.serde_json.specs.Data.{Data, null, boolean, string}
+use Rattle.wb_base.specs.AnswerList.{Answered}
+use Rattle.wb_model.specs.declared.access.State.{State}
+use Rattle.wb_model.specs.declared.access.State.TheVariants as states
+use Rattle.wb_model.specs.declared.access.AccessRequest.{AccessRequest}
+use Rattle.wb_model.specs.declared.entry.Status.{Status}
+use Rattle.wb_model.specs.declared.entry.Status.TheVariants as statuses
+use Rattle.wb_model.specs.declared.entry.Entry.{Entry}
+use Rattle.wb_model.specs.Access.{requests, state_now, in_force}
+use Rattle.wb_model.specs.Trails.{Remark, received, ack_due, form, version, answers, context, status, label, acknowledged, feedback_due, feedback_given, expires, readers, has_identity, dialogue}
+use Rattle.wb_model.specs.Tables.{Registry, Case, disablings}
+use Rattle.wb_model.specs.Json.{Member, object_of, list_of, whole, date, or_null, answers_data}
+
+abbrev pub status_name : Status → List ℕ
+status_name statuses.New = codes "new"
+status_name statuses.Opened = codes "opened"
+status_name statuses.Closed = codes "closed"
+
+abbrev pub state_name : State → List ℕ
+state_name states.Waiting = codes "waiting"
+state_name states.Granted = codes "granted"
+state_name states.Denied = codes "denied"
+state_name states.Revoked = codes "revoked"
+state_name states.Ended = codes "ended"
+
+-- ---- a submission
+
+unfoldable pub submission_view : ℕ → List ℕ → Data
+submission_view n receipt = object_of ((codes "number", whole n) ∷ (codes "receipt", string receipt) ∷ [])
+
+-- ---- the recipient view
+
+abbrev pub remark_data : Remark → Data
+remark_data r = object_of (
+    (codes "at", whole r.at) ∷
+    (codes "from", string r.from) ∷
+    (codes "internal", boolean r.internal) ∷
+    (codes "kind", string r.kind) ∷
+    (codes "text", string r.text) ∷
+    (codes "user", or_null whole r.user) ∷ [])
+
+-- requests, numbered from the number on, with the states that they have by now
+abbrev pub requests_from : Registry → ℕ → List AccessRequest → List Data
+requests_from g id [] = []
+requests_from g id (r ∷ rs) = object_of (
+    (codes "by", whole r.by) ∷
+    (codes "effective", or_null whole r.effective) ∷
+    (codes "id", whole id) ∷
+    (codes "reason", string r.reason) ∷
+    (codes "state", string (state_name (state_now (disablings r.by g) r))) ∷ []) ∷ requests_from g (id + 1) rs
+
+-- `none` where no identity answer was given, `open` under a grant of this user in force, else `sealed`
+abbrev pub identity_word : Registry → ℕ → ℕ → List Entry → List ℕ
+identity_word g user now trail =
+    if not (has_identity trail) then codes "none"
+    else if in_force user (disablings user g) now trail then codes "open"
+    else codes "sealed"
+
+unfoldable pub recipient_view : Registry → ℕ → ℕ → Case → Data
+recipient_view g user now case = let trail = case.trail in object_of (
+    (codes "ack_due", date (ack_due trail)) ∷
+    (codes "acknowledged", or_null date (acknowledged trail)) ∷
+    (codes "answers", answers_data (answers trail)) ∷
+    (codes "context", whole (context trail)) ∷
+    (codes "dialogue", list_of remark_data (dialogue trail)) ∷
+    (codes "expires", date (expires trail)) ∷
+    (codes "feedback_due", date (feedback_due trail)) ∷
+    (codes "feedback_given", boolean (feedback_given trail)) ∷
+    (codes "form", whole (form trail)) ∷
+    (codes "identity", string (identity_word g user now trail)) ∷
+    (codes "label", string (label trail)) ∷
+    (codes "number", whole case.number) ∷
+    (codes "readers", list_of whole (readers trail)) ∷
+    (codes "received", date (received trail)) ∷
+    (codes "requests", list_of (λ d. d) (requests_from g 1 (requests trail))) ∷
+    (codes "status", string (status_name (status trail))) ∷
+    (codes "version", whole (version trail)) ∷ [])
+
+-- ---- the two views that show identity answers
+
+abbrev pub own_remark_data : Remark → Data
+own_remark_data r = object_of ((codes "at", whole r.at) ∷ (codes "from", string r.from) ∷ (codes "kind", string r.kind) ∷ (codes "text", string r.text) ∷ [])
+
+unfoldable pub reporter_view : Case → Option Answered → Data
+reporter_view case identity = let trail = case.trail in object_of (
+    (codes "acknowledged", or_null date (acknowledged trail)) ∷
+    (codes "answers", answers_data (answers trail)) ∷
+    (codes "dialogue", list_of own_remark_data (filter (λ (r : Remark). not r.internal) (dialogue trail))) ∷
+    (codes "expires", date (expires trail)) ∷
+    (codes "feedback_due", date (feedback_due trail)) ∷
+    (codes "form", whole (form trail)) ∷
+    (codes "identity", or_null answers_data identity) ∷
+    (codes "number", whole case.number) ∷
+    (codes "received", date (received trail)) ∷
+    (codes "status", string (status_name (status trail))) ∷
+    (codes "version", whole (version trail)) ∷ [])
+
+unfoldable pub identity_view : ℕ → Option Answered → Data
+identity_view n identity = object_of ((codes "answers", or_null answers_data identity) ∷ (codes "number", whole n) ∷ [])

@@ -1,0 +1,27 @@
+//! Laws of the definitions, each a function with no body.
+ghost use Rattle.std.specs.Prelude.{◌≡◌, ◌+◌, ℕ, List, false};
+ghost use Rattle.wb_model.specs.Requests.{Frame};
+ghost use Rattle.wb_model.specs.Host.{Host, purge_at, reply_to, host_after, replies_from};
+ghost use Rattle.wb_model.specs.Alike.{HostsAlike, LaterAlike, SubmissionsAlike, ScriptsAlike, is_reader, hidden};
+
+/// A turn does not tell two hosts apart that differ in the identity answers of report r alone.
+///
+/// Its two requests are equal, or two valid identities that r's reporter gives. The replies are equal, but where one of
+/// r's readers asks; and the hosts after the turn differ in r's identity answers alone.
+pub fn a_turn_keeps_hosts_alike()
+    ensures reply { (r : ℕ) (h k : Host) (a b : Frame) → HostsAlike r h k → LaterAlike r h a b → is_reader r h a ≡ false → reply_to h a ≡ reply_to k b }
+    ensures host { (r : ℕ) (h k : Host) (a b : Frame) → HostsAlike r h k → LaterAlike r h a b → HostsAlike r (host_after h a) (host_after k b) }
+{}
+
+/// Two submissions that are both valid, with equal public answers and marks, get the same reply; and the hosts after
+/// them differ in the identity answers of the report so submitted alone.
+pub fn a_submission_makes_hosts_alike()
+    ensures reply { (h : Host) (a b : Frame) → SubmissionsAlike (purge_at h a).plain a b → reply_to h a ≡ reply_to h b }
+    ensures host { (h : Host) (a b : Frame) → SubmissionsAlike (purge_at h a).plain a b → HostsAlike (h.tables.plain.numbering.last + 1) (host_after h a) (host_after h b) }
+{}
+
+/// Scripts that differ in one report's valid identity answers alone get the same replies, but where one of that
+/// report's readers asks.
+pub fn alike_scripts_get_the_same_replies()
+    ensures { (i r : ℕ) (h : Host) (xs ys : List Frame) → ScriptsAlike i r h xs ys → hidden r h xs (replies_from h xs) ≡ hidden r h xs (replies_from h ys) }
+{}

@@ -1,0 +1,5 @@
+pub mod CivilDates
+pub mod JiffWords
+pub mod Ranges
+pub mod ReadBack
+pub mod ReadExactly

@@ -1,0 +1,16 @@
+//! The terms of a report: days and their texts, and when an acknowledgement, feedback and expiry are due.
+#![tactic(auto)]
+
+mod date_texts;
+mod days;
+mod laws;
+mod terms;
+#[cfg(test)]
+mod tests;
+
+pub use date_texts::{date_text, read_date};
+pub use days::day_of;
+pub use laws::{
+    date_text_reads_back, dates_are_jiffs, months_are_jiffs, read_date_is_exact, texts_are_jiffs,
+};
+pub use terms::{ack_due, expiry, feedback_due};

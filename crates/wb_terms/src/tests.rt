@@ -1,0 +1,151 @@
+ghost use Rattle.wb_base.specs.Days.{IsEarlyDay};
+
+use super::*;
+use std::process::Abort;
+use wb_base::{Day, Moment};
+
+// A day to which terms may be added, by its text.
+fn early(rt: &impl Abort, text: &str) -> Day
+    ensures { IsEarlyDay result }
+{
+    let day = read_date(text.as_bytes()).expect(rt, "a date");
+    let days = day.days();
+    assert!(rt; days <= 1_190_000, "{text} is early");
+    day
+}
+
+#[test]
+fn days_are_written_and_read(rt: HostRuntime) {
+    let rows = [
+        (-1, "1969-12-31", false),
+        (0, "1970-01-01", true),
+        (11_016, "2000-02-29", true),
+        (19_782, "2024-02-29", true),
+        (47_481, "2099-12-31", true),
+        (47_540, "2100-02-28", true),
+        (47_541, "2100-03-01", true),
+        (47_847, "2101-01-01", true),
+        (1_179_732, "5199-12-31", true),
+        (1_179_733, "5200-01-01", false),
+        (1_200_000, "5255-06-28", false),
+    ];
+    for (days, text, is_read) in rows {
+        let day = Day::try_new(days).expect(&rt, "a day");
+        assert_eq!(rt;
+            date_text(day).as_slice(),
+            text.as_bytes(),
+            "the text of {days}"
+        );
+        let read = if is_read { Some(day) } else { None };
+        assert_eq!(rt; read_date(text.as_bytes()), read, "the day of {text}");
+    }
+}
+
+#[test]
+fn what_is_no_date_is_refused(rt: HostRuntime) {
+    let rows = [
+        "",
+        "2025-1-31",
+        "2025-01-311",
+        "2025-02-30",
+        "2023-02-29",
+        "2100-02-29",
+        "2025-00-01",
+        "2025-13-01",
+        "2025-01-00",
+        "2025/01/31",
+        "20250-1-31",
+        "abcd-ef-gh",
+        "202a-01-31",
+        "+025-01-31",
+        "-025-01-31",
+        "2025-01-+1",
+        " 025-01-31",
+    ];
+    for text in rows {
+        assert_eq!(rt; read_date(text.as_bytes()), None, "{text}");
+    }
+}
+
+#[test]
+fn terms_end_on_their_days(rt: HostRuntime) {
+    // received, acknowledged, the last day for an acknowledgement, and for feedback
+    let rows = [
+        ("2024-11-20", Some("2024-11-30"), "2024-11-27", "2025-02-28"),
+        ("2025-01-30", Some("2025-01-31"), "2025-02-06", "2025-04-30"),
+        ("2025-11-23", None, "2025-11-30", "2026-02-28"),
+        ("2023-11-20", Some("2023-11-29"), "2023-11-27", "2024-02-29"),
+        ("2023-11-20", Some("2023-11-30"), "2023-11-27", "2024-02-29"),
+        ("2099-11-28", Some("2099-11-30"), "2099-12-05", "2100-02-28"),
+        ("2099-12-20", None, "2099-12-27", "2100-03-27"),
+        ("2100-11-30", Some("2100-11-30"), "2100-12-07", "2101-02-28"),
+        ("2100-02-22", None, "2100-03-01", "2100-06-01"),
+        ("1970-01-01", None, "1970-01-08", "1970-04-08"),
+        ("5199-12-31", None, "5200-01-07", "5200-04-07"),
+    ];
+    for (received, acknowledged, answered, fed_back) in rows {
+        let day = early(&rt, received);
+        assert_eq!(rt;
+            date_text(ack_due(day)).as_slice(),
+            answered.as_bytes(),
+            "received {received}"
+        );
+        let feedback = match acknowledged {
+            Some(text) => feedback_due(day, Some(early(&rt, text))),
+            None => feedback_due(day, None),
+        };
+        assert_eq!(rt;
+            date_text(feedback).as_slice(),
+            fed_back.as_bytes(),
+            "received {received}"
+        );
+    }
+}
+
+#[test]
+fn reports_expire_on_their_days(rt: HostRuntime) {
+    let rows = [
+        ("2025-01-30", 1, "2025-01-31"),
+        ("2024-02-28", 1, "2024-02-29"),
+        ("2024-02-28", 366, "2025-02-28"),
+        ("2099-12-31", 365, "2100-12-31"),
+        ("2025-11-23", 1825, "2030-11-22"),
+        ("2025-11-23", 3650, "2035-11-21"),
+    ];
+    for (from, retention, expired) in rows {
+        let day = early(&rt, from);
+        assert!(rt; 1 <= retention && retention <= 3650);
+        assert_eq!(rt;
+            date_text(expiry(day, retention)).as_slice(),
+            expired.as_bytes(),
+            "from {from}"
+        );
+    }
+}
+
+#[test]
+fn moments_fall_on_their_days(rt: HostRuntime) {
+    let rows = [
+        (0, -720, "1969-12-31"),
+        (43_199, -720, "1969-12-31"),
+        (43_200, -720, "1970-01-01"),
+        (1_738_324_799, -720, "2025-01-30"),
+        (1_738_324_800, -720, "2025-01-31"),
+        (1_738_231_199, 840, "2025-01-30"),
+        (1_738_231_200, 840, "2025-01-31"),
+        (1_738_274_399, 120, "2025-01-30"),
+        (1_738_274_400, 120, "2025-01-31"),
+        (1_738_281_599, 0, "2025-01-30"),
+        (1_738_281_600, 0, "2025-01-31"),
+        (99_999_999_999, 840, "5138-11-16"),
+    ];
+    for (seconds, offset, day) in rows {
+        let moment = Moment::try_new(seconds).expect(&rt, "a moment");
+        assert!(rt; -720 <= offset && offset <= 840);
+        assert_eq!(rt;
+            date_text(day_of(moment, offset)).as_slice(),
+            day.as_bytes(),
+            "{seconds} at {offset}"
+        );
+    }
+}
