@@ -12,3 +12,4 @@ pub mod Requests
 pub mod Rules
 pub mod Host
 pub mod Alike
+pub mod Tenants

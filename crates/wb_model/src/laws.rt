@@ -2,6 +2,7 @@
 ghost use Rattle.std.specs.Prelude.{◌≡◌, ◌+◌, ℕ, List, false};
 ghost use Rattle.wb_model.specs.Requests.{Frame};
 ghost use Rattle.wb_model.specs.Host.{Host, purge_at, reply_to, host_after, replies_from};
+ghost use Rattle.wb_model.specs.Tenants.{Hosts, AllHostsAlike, OneLaterAlike, AllScriptsAlike, is_report_reader, hidden_replies, hosts_reply, hosts_after, hosts_replies};
 ghost use Rattle.wb_model.specs.Alike.{HostsAlike, LaterAlike, SubmissionsAlike, ScriptsAlike, is_reader, hidden};
 
 /// A turn does not tell two hosts apart that differ in the identity answers of report r alone.
@@ -13,6 +14,12 @@ pub fn a_turn_keeps_hosts_alike()
     ensures host { (r : ℕ) (h k : Host) (a b : Frame) → HostsAlike r h k → LaterAlike r h a b → HostsAlike r (host_after h a) (host_after k b) }
 {}
 
+/// The same on the host of all tenants, for report r of tenant t.
+pub fn a_turn_keeps_all_hosts_alike()
+    ensures reply { (t r : ℕ) (h k : Hosts) (a b : Frame) → AllHostsAlike t r h k → OneLaterAlike t r h a b → is_report_reader t r h a ≡ false → hosts_reply h a ≡ hosts_reply k b }
+    ensures hosts { (t r : ℕ) (h k : Hosts) (a b : Frame) → AllHostsAlike t r h k → OneLaterAlike t r h a b → AllHostsAlike t r (hosts_after h a) (hosts_after k b) }
+{}
+
 /// Two submissions that are both valid, with equal public answers and marks, get the same reply; and the hosts after
 /// them differ in the identity answers of the report so submitted alone.
 pub fn a_submission_makes_hosts_alike()
@@ -21,7 +28,8 @@ pub fn a_submission_makes_hosts_alike()
 {}
 
 /// Scripts that differ in one report's valid identity answers alone get the same replies, but where one of that
-/// report's readers asks.
+/// report's readers asks: on one tenant's host, and on the host of all tenants.
 pub fn alike_scripts_get_the_same_replies()
-    ensures { (i r : ℕ) (h : Host) (xs ys : List Frame) → ScriptsAlike i r h xs ys → hidden r h xs (replies_from h xs) ≡ hidden r h xs (replies_from h ys) }
+    ensures one { (i r : ℕ) (h : Host) (xs ys : List Frame) → ScriptsAlike i r h xs ys → hidden r h xs (replies_from h xs) ≡ hidden r h xs (replies_from h ys) }
+    ensures all { (i t r : ℕ) (h : Hosts) (xs ys : List Frame) → AllScriptsAlike i t r h xs ys → hidden_replies t r h xs (hosts_replies h xs) ≡ hidden_replies t r h xs (hosts_replies h ys) }
 {}

@@ -18,7 +18,8 @@ pub use command::{Asked, Command, ContextSet, Decision, SettingsSet, UserSet};
 pub use entry::{Actor, Deed, Entry, Status};
 pub use event::{Event, What};
 pub use laws::{
-    a_submission_makes_hosts_alike, a_turn_keeps_hosts_alike, alike_scripts_get_the_same_replies,
+    a_submission_makes_hosts_alike, a_turn_keeps_all_hosts_alike, a_turn_keeps_hosts_alike,
+    alike_scripts_get_the_same_replies,
 };
 pub use numbering::Numbering;
 pub use registry::{ContextItem, FormItem, Lists, Rights, TenantItem, UserItem};

@@ -1,0 +1,160 @@
+-- The host of several tenants: each is a host of its own, and time and turns are one.
+use Rattle.std.specs.Prelude.{◌≡◌, ◌≢◌, ◌⊎◌, ℕ, zero, suc, ◌+◌, ◌==◌, ◌&&◌, max, Bool, true, false, if◌then◌else◌, List, [], ◌∷◌, map, find, Option, Some, None}
+use Rattle.wb_model.specs.declared.body.Told.{Told}
+use Rattle.wb_model.specs.declared.command.Command.{Command}
+use Rattle.wb_model.specs.declared.command.Command.TheVariants as commands
+use Rattle.wb_model.specs.Refusals.{not_found, not_built}
+use Rattle.wb_model.specs.Requests.{Frame}
+use Rattle.wb_model.specs.Host.{Tables, Host, purged, purge_at, ruling_at, reply_to, host_after}
+use Rattle.wb_model.specs.Alike.{TablesAlike, is_reader, LaterAlike, SubmissionsAlike, is_refused}
+
+-- the tenant that a command's path names, 0 where it names none
+abbrev pub tenant_of : Command → ℕ
+tenant_of commands.Health = 0
+tenant_of (commands.Public t) = t
+tenant_of (commands.ContextOf t c) = t
+tenant_of (commands.Login t user password) = t
+tenant_of (commands.ReceiptLogin t receipt) = t
+tenant_of (commands.Logout t) = t
+tenant_of (commands.Submit t context answers) = t
+tenant_of (commands.OwnReport t) = t
+tenant_of (commands.OwnComment t text) = t
+tenant_of (commands.GiveIdentity t answers) = t
+tenant_of (commands.List t) = t
+tenant_of (commands.DueList t) = t
+tenant_of (commands.ReadReport t n) = t
+tenant_of (commands.Comment t n text internal) = t
+tenant_of (commands.Label t n label) = t
+tenant_of (commands.SetStatus t n status) = t
+tenant_of (commands.Acknowledge t n) = t
+tenant_of (commands.Feedback t n text) = t
+tenant_of (commands.Share t n user) = t
+tenant_of (commands.Unshare t n u) = t
+tenant_of (commands.Transfer t n context) = t
+tenant_of (commands.Postpone t n) = t
+tenant_of (commands.Ask t n reason) = t
+tenant_of (commands.ReadIdentity t n) = t
+tenant_of (commands.Requests t) = t
+tenant_of (commands.Decide t n k decision reason withhold) = t
+tenant_of (commands.Admin t) = t
+tenant_of (commands.SetSettings t next) = t
+tenant_of (commands.SetUser t u next) = t
+tenant_of (commands.SetContext t c next) = t
+tenant_of (commands.SetForm t f form) = t
+
+abbrev pub tenant_at : Frame → ℕ
+tenant_at f = tenant_of f.asked.command
+
+-- ---- the hosts of all tenants
+
+pub record Tenancy : Type 0 where
+  pub id : ℕ
+  pub tables : Tables
+
+pub record Hosts : Type 0 where
+  pub turns : ℕ
+  pub now : ℕ
+  pub list : List Tenancy
+
+-- one tenant's host
+abbrev pub one : ℕ → ℕ → Tables → Host
+one turns now t = record { turns = turns; now = now; tables = t }
+
+abbrev pub has_id : ℕ → Tenancy → Bool
+has_id t x = x.id == t
+
+-- the reply where the tenant of a number is not there, 0 standing for none that is named
+abbrev pub without_tenant : ℕ → Told
+without_tenant t = if t == 0 then not_built else not_found
+
+abbrev pub reply_of : Hosts → Frame → Option Tenancy → Told
+reply_of h f None = without_tenant (tenant_at f)
+reply_of h f (Some x) = reply_to (one h.turns h.now x.tables) f
+
+-- the reply of a turn: that of the tenant that it names
+abbrev pub hosts_reply : Hosts → Frame → Told
+hosts_reply h f = reply_of h f (find (has_id (tenant_at f)) h.list)
+
+-- the tenant that the turn names makes it, and each other purges at its time
+abbrev pub one_after : ℕ → ℕ → Frame → Tenancy → Tenancy
+one_after turns now f x = record { id = x.id; tables = if x.id == tenant_at f then (host_after (one turns now x.tables) f).tables else purged (max now f.moment) x.tables }
+
+-- the hosts after a turn
+abbrev pub hosts_after : Hosts → Frame → Hosts
+hosts_after h f = record { turns = h.turns + 1; now = max h.now f.moment; list = map (one_after h.turns h.now f) h.list }
+
+-- the hosts after a turn that was answered with want of memory or a keeper's fault
+abbrev pub hosts_lost : Hosts → Frame → Hosts
+hosts_lost h f = record { turns = h.turns + 1; now = max h.now f.moment; list = h.list }
+
+abbrev pub hosts_replies : Hosts → List Frame → List Told
+hosts_replies h [] = []
+hosts_replies h (f ∷ fs) = hosts_reply h f ∷ hosts_replies (hosts_after h f) fs
+
+abbrev pub hosts_after_all : Hosts → List Frame → Hosts
+hosts_after_all h [] = h
+hosts_after_all h (f ∷ fs) = hosts_after_all (hosts_after h f) fs
+
+-- ---- alike but for the identity answers of report r of tenant t
+
+abbrev pub OneAlike : Bool → ℕ → Tables → Tables → Type 0
+OneAlike true r x y = TablesAlike r x y
+OneAlike false r x y = x ≡ y
+
+abbrev pub AllAlike : ℕ → ℕ → List Tenancy → List Tenancy → Type 0
+AllAlike t r [] [] = Unit {0}
+AllAlike t r (x ∷ xs) [] = ⊥
+AllAlike t r [] (y ∷ ys) = ⊥
+AllAlike t r (x ∷ xs) (y ∷ ys) = ((x.id ≡ y.id) × OneAlike (x.id == t) r x.tables y.tables) × AllAlike t r xs ys
+
+pub record AllHostsAlike (t r : ℕ) (h k : Hosts) : Type 0 where
+  pub turns : h.turns ≡ k.turns
+  pub now : h.now ≡ k.now
+  pub list : AllAlike t r h.list k.list
+
+-- each tenancy with this id, of which a host has one at most
+abbrev pub OnTenant : ℕ → List Tenancy → (Tables → Type 0) → Type 0
+OnTenant t [] P = Unit {0}
+OnTenant t (x ∷ xs) P = (x.id ≡ t → P x.tables) × OnTenant t xs P
+
+-- a later place: equal, or two identities of report r of tenant t
+abbrev pub OneLaterAlike : ℕ → ℕ → Hosts → Frame → Frame → Type 0
+OneLaterAlike t r h a b = (a ≡ b) ⊎ ((tenant_at a ≡ t) × (tenant_at b ≡ t) × OnTenant t h.list (λ x. LaterAlike r (one h.turns h.now x) a b) × (a.moment ≡ b.moment))
+
+abbrev pub EachLaterAlike : ℕ → ℕ → Hosts → List Frame → List Frame → Type 0
+EachLaterAlike t r h [] [] = Unit {0}
+EachLaterAlike t r h (a ∷ xs) [] = ⊥
+EachLaterAlike t r h [] (b ∷ ys) = ⊥
+EachLaterAlike t r h (a ∷ xs) (b ∷ ys) = OneLaterAlike t r h a b × EachLaterAlike t r (hosts_after h a) xs ys
+
+abbrev pub is_reader_in : ℕ → ℕ → Hosts → Frame → Option Tenancy → Bool
+is_reader_in t r h f None = false
+is_reader_in t r h f (Some x) = (x.id == t) && is_reader r (one h.turns h.now x.tables) f
+
+-- the turn's request is one of the readers of report r of tenant t
+abbrev pub is_report_reader : ℕ → ℕ → Hosts → Frame → Bool
+is_report_reader t r h f = is_reader_in t r h f (find (has_id (tenant_at f)) h.list)
+
+-- the replies, but at the places where one of those readers asks
+abbrev pub hidden_replies : ℕ → ℕ → Hosts → List Frame → List Told → List (Option Told)
+hidden_replies t r h [] replies = []
+hidden_replies t r h (f ∷ fs) [] = []
+hidden_replies t r h (f ∷ fs) (reply ∷ replies) = (if is_report_reader t r h f then None else Some reply) ∷ hidden_replies t r (hosts_after h f) fs replies
+
+abbrev pub refused_in : Hosts → Frame → Option Tenancy → Bool
+refused_in h f None = true
+refused_in h f (Some x) = is_refused (ruling_at (one h.turns h.now x.tables) f)
+
+-- what may follow the submission: where it was refused, the same
+abbrev pub AfterSubmission : Bool → ℕ → ℕ → Hosts → List Frame → List Frame → Type 0
+AfterSubmission true t r h xs ys = xs ≡ ys
+AfterSubmission false t r h xs ys = EachLaterAlike t r h xs ys
+
+-- the scripts differ in the submission at place i, to tenant t, which draws the number r, and in the identities that r's reporter gives later
+abbrev pub AllScriptsAlike : ℕ → ℕ → ℕ → Hosts → List Frame → List Frame → Type 0
+AllScriptsAlike i t r h [] ys = ⊥
+AllScriptsAlike i t r h (a ∷ xs) [] = ⊥
+AllScriptsAlike zero t r h (a ∷ xs) (b ∷ ys) =
+    (tenant_at a ≡ t) × (tenant_at b ≡ t) × OnTenant t h.list (λ x. (r ≡ x.plain.numbering.last + 1) × SubmissionsAlike (purge_at (one h.turns h.now x) a).plain a b) × (a.moment ≡ b.moment)
+    × AfterSubmission (refused_in h a (find (has_id t) h.list)) t r (hosts_after h a) xs ys
+AllScriptsAlike (suc i) t r h (a ∷ xs) (b ∷ ys) = (a ≡ b) × AllScriptsAlike i t r (hosts_after h a) xs ys
