@@ -1,2 +1,3 @@
 pub mod Unwinding
 pub mod TenantScripts
+pub mod StarterForm

@@ -13,3 +13,5 @@ pub mod Rules
 pub mod Host
 pub mod Alike
 pub mod Tenants
+pub mod Fits
+pub mod Starter

@@ -1,5 +1,9 @@
 //! Laws of the definitions, each a function with no body.
-ghost use Rattle.std.specs.Prelude.{◌≡◌, ◌+◌, ℕ, List, false};
+ghost use Rattle.std.specs.Prelude.{◌≡◌, ◌+◌, ℕ, List, false, true, Some, option_and_then};
+ghost use Rattle.serde_json.specs.Read.{read};
+ghost use Rattle.wb_base.specs.FormFaults.{is_good};
+ghost use Rattle.wb_base.specs.FormShape.{form_of};
+ghost use Rattle.wb_model.specs.Starter.{starter_form, starter_form_text};
 ghost use Rattle.wb_model.specs.Requests.{Frame};
 ghost use Rattle.wb_model.specs.Host.{Host, purge_at, reply_to, host_after, replies_from};
 ghost use Rattle.wb_model.specs.Tenants.{Hosts, AllHostsAlike, OneLaterAlike, AllScriptsAlike, is_report_reader, hidden_replies, hosts_reply, hosts_after, hosts_replies};
@@ -32,4 +36,10 @@ pub fn a_submission_makes_hosts_alike()
 pub fn alike_scripts_get_the_same_replies()
     ensures one { (i r : ℕ) (h : Host) (xs ys : List Frame) → ScriptsAlike i r h xs ys → hidden r h xs (replies_from h xs) ≡ hidden r h xs (replies_from h ys) }
     ensures all { (i t r : ℕ) (h : Hosts) (xs ys : List Frame) → AllScriptsAlike i t r h xs ys → hidden_replies t r h xs (hosts_replies h xs) ≡ hidden_replies t r h xs (hosts_replies h ys) }
+{}
+
+/// The starter host's form is the one that its JSON text says, and it is good.
+pub fn the_starter_form_is_good()
+    ensures read { option_and_then form_of (read starter_form_text) ≡ Some starter_form }
+    ensures good { is_good starter_form ≡ true }
 {}

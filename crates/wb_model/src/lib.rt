@@ -19,8 +19,11 @@ pub use entry::{Actor, Deed, Entry, Status};
 pub use event::{Event, What};
 pub use laws::{
     a_submission_makes_hosts_alike, a_turn_keeps_all_hosts_alike, a_turn_keeps_hosts_alike,
-    alike_scripts_get_the_same_replies,
+    alike_scripts_get_the_same_replies, the_starter_form_is_good,
 };
 pub use numbering::Numbering;
 pub use registry::{ContextItem, FormItem, Lists, Rights, TenantItem, UserItem};
 pub use trail::Trail;
+
+#[cfg(test)]
+mod tests;
