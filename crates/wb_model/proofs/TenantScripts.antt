@@ -2,12 +2,11 @@
 use Rattle.std.proofs.Common.{zero, suc, ◌≡◌, ◌≢◌, ◌⊎◌, inl, inr, ℕ, ◌+◌, Bool, true, false, cond, eqb, List, [], ◌∷◌, Option, Some, None, refl, sym, ap, ◌∙◌, subst, arith}
 use Rattle.std.specs.Prelude.{map, max, find, ◌&&◌}
 use Rattle.std.proofs.lemmas.Bool.Decides.{nat_tests}
-use Rattle.wb_model.specs.declared.body.Told.{Told}
 use Rattle.wb_model.specs.Requests.{Frame}
-use Rattle.wb_model.specs.Host.{Tables, Host, purged, purge_at, ruling_at, reply_to, host_after}
-use Rattle.wb_model.specs.Alike.{TablesAlike, HostsAlike, is_reader, LaterAlike, SubmissionsAlike, is_refused}
+use Rattle.wb_model.specs.Host.{Tables, purged, reply_to, host_after}
+use Rattle.wb_model.specs.Alike.{TablesAlike, HostsAlike, is_reader, LaterAlike}
 use Rattle.wb_model.specs.Tenants.{tenant_at, Tenancy, Hosts, one, has_id, without_tenant, reply_of, hosts_reply, one_after, hosts_after, hosts_replies, OneAlike, AllAlike, AllHostsAlike, OnTenant, OneLaterAlike, EachLaterAlike, is_reader_in, is_report_reader, hidden_replies, refused_in, AfterSubmission, AllScriptsAlike}
-use Rattle.wb_model.proofs.Unwinding.{purge_keeps_alike, turn_reply, turn_host, submissions_frames, submission_secrets, later_frames, later_secrets, hide_same, same_host}
+use Rattle.wb_model.proofs.Unwinding.{purge_keeps_alike, turn_reply, turn_host, submissions_frames, submission_secrets, later_frames, later_secrets, hide_same}
 
 decide : (n m : ℕ) → (n ≡ m) ⊎ (n ≢ m)
 decide n m = by (eqb n m) refl

@@ -1,27 +1,21 @@
 -- One turn keeps hosts alike, and its reply is the same but to a reader.
 use Rattle.std.proofs.Common.{zero, suc, ◌≡◌, ◌≢◌, ◌⊎◌, inl, inr, ℕ, ◌+◌, Bool, true, false, cond, eqb, List, [], ◌∷◌, Option, Some, None, refl, sym, ap, ◌∙◌, subst, arith}
-use Rattle.std.specs.Prelude.{nat_lt, filter, max, ◌&&◌, is_some}
+use Rattle.std.specs.Prelude.{filter, max}
 use Rattle.std.proofs.lemmas.Bool.Decides.{nat_tests}
 use Rattle.wb_base.specs.declared.faults.AnswerFault.{AnswerFault}
-use Rattle.wb_base.specs.declared.form.Form.{Form}
 use Rattle.wb_base.specs.AnswerList.{Answered}
 use Rattle.wb_model.specs.declared.body.Told.{Told}
-use Rattle.wb_model.specs.declared.command.Asked.{Asked}
 use Rattle.wb_model.specs.declared.command.Command.{Command}
 use Rattle.wb_model.specs.declared.command.Command.TheVariants as commands
-use Rattle.wb_model.specs.declared.entry.Entry.{Entry}
-use Rattle.wb_model.specs.declared.registry.FormItem.{FormItem}
-use Rattle.wb_model.specs.Built.{is_built}
 use Rattle.wb_model.specs.Json.{told}
 use Rattle.wb_model.specs.Views.{reporter_view, identity_view}
-use Rattle.wb_model.specs.Refusals.{not_built}
 use Rattle.wb_model.specs.Trails as trails
-use Rattle.wb_model.specs.Tables.{Registry, Plain, Case, Who, TheUser, TheReporter, is_there, is_live, lasts, context}
+use Rattle.wb_model.specs.Tables.{Registry, Plain, Case, Who, TheReporter, is_there, lasts, context}
 use Rattle.wb_model.specs.Targets.{Target, Nobody, Alone, On, target, trail_at}
-use Rattle.wb_model.specs.Requests.{Frame, Outcome, Unchecked, Checked, Request, outline, outcome, request, asking_form, form_of_trail, submission_outcome, identity_outcome, submission_fault, late_fault, public, mark, plain_part, sealed_part}
-use Rattle.wb_model.specs.Rules.{At, Change, Nothing, Draws, Opens, Notes, Act, Looks, Writes, acted, Deal, Passes, Submits, dealt, deal_of, act_of, Answer, Says, Shows_own, Shows_identity, Verdict, Refused, Accepted, judged, unless, refusal_on, refusal_alone, answer_on, answer_alone, verdict, verdict_on}
-use Rattle.wb_model.specs.Host.{Sealed, Tables, Host, live_cases, purged, plain_after, sealed_under, sealed_after, changed, change_by, said, reply_by, at_frame, ruling, time_at, purge_at, ruling_at, reply_to, tables_after, host_after, replies_from}
-use Rattle.wb_model.specs.Alike.{TablesAlike, HostsAlike, may_see, has_grant, is_reader, FramesAlike, SubmissionsAlike, IdentitiesAlike, LaterAlike, AllLaterAlike, hidden, is_refused, After, ScriptsAlike}
+use Rattle.wb_model.specs.Requests.{Frame, Outcome, Checked, Request, outline, outcome, asking_form, form_of_trail, submission_outcome, identity_outcome, submission_fault, late_fault, public, mark, plain_part, sealed_part}
+use Rattle.wb_model.specs.Rules.{At, Change, Opens, Notes, Act, Looks, Writes, acted, Deal, Passes, Submits, dealt, deal_of, act_of, Answer, Says, Shows_own, Shows_identity, Verdict, Refused, Accepted, judged, refusal_on, answer_on, answer_alone, verdict, verdict_on}
+use Rattle.wb_model.specs.Host.{Sealed, Tables, Host, live_cases, purged, plain_after, sealed_under, sealed_after, changed, change_by, reply_by, at_frame, time_at, purge_at, ruling_at, reply_to, tables_after, host_after, replies_from}
+use Rattle.wb_model.specs.Alike.{TablesAlike, HostsAlike, may_see, is_reader, FramesAlike, SubmissionsAlike, IdentitiesAlike, LaterAlike, AllLaterAlike, hidden, is_refused, After, ScriptsAlike}
 
 -- ---- the purge
 
@@ -196,7 +190,7 @@ same_checked f g x y m n a b c = λ i. Checked (a i) (b i) (c i)
 pub submissions_frames : (p : Plain) (a b : Frame) → SubmissionsAlike p a b → FramesAlike p a b
 submissions_frames p a b s = record { moment = s.moment; words = s.words; asked = same_request _ _ s.session (ap outline s.left ∙ sym (ap outline s.right)) outcomes }
   where
-    checked : (answers : Answered) → submission_outcome (asking_form (context s.context p.registry) p.registry) answers ≡ Checked (submission_fault s.item.form answers) (public s.item.form answers) (mark s.item.form answers)
+    checked : (answers : Answered) → submission_outcome (asking_form (context s.context p.registry.contexts) p.registry.forms) answers ≡ Checked (submission_fault s.item.form answers) (public s.item.form answers) (mark s.item.form answers)
     checked answers = ap (λ o. submission_outcome o answers) s.asks
 
     outcomes : (plain_part p a.asked).outcome ≡ (plain_part p b.asked).outcome
@@ -217,7 +211,7 @@ identities_frames r p a b s = record { moment = s.moment; words = s.words; asked
     on_right : target p b.asked.session (outline b.asked.command) ≡ On (TheReporter r) s.case
     on_right = ap (λ c. target p b.asked.session (outline c)) s.right ∙ (ap (λ x. target p x (commands.GiveIdentity s.tenant [])) (sym s.session) ∙ s.by)
 
-    checked : (answers : Answered) → identity_outcome (form_of_trail s.case.trail p.registry) s.case.trail answers ≡ Checked (late_fault s.item.form (trails.answers s.case.trail) answers) [] true
+    checked : (answers : Answered) → identity_outcome (form_of_trail s.case.trail p.registry.forms) s.case.trail answers ≡ Checked (late_fault s.item.form (trails.answers s.case.trail) answers) [] true
     checked answers = ap (λ o. identity_outcome o s.case.trail answers) s.asks
 
     outcomes : (plain_part p a.asked).outcome ≡ (plain_part p b.asked).outcome

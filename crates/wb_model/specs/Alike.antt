@@ -2,17 +2,16 @@
 use Rattle.std.specs.Prelude.{◌≡◌, ◌≢◌, ◌⊎◌, ℕ, zero, suc, ◌+◌, ◌==◌, ◌&&◌, Bool, true, false, if◌then◌else◌, List, [], ◌∷◌, Option, Some, None}
 use Rattle.wb_base.specs.AnswerList.{Answered}
 use Rattle.wb_model.specs.declared.body.Told.{Told}
-use Rattle.wb_model.specs.declared.command.Asked.{Asked}
 use Rattle.wb_model.specs.declared.command.Command.{Command}
 use Rattle.wb_model.specs.declared.command.Command.TheVariants as commands
 use Rattle.wb_model.specs.declared.registry.FormItem.{FormItem}
 use Rattle.wb_model.specs.Access.{in_force}
 use Rattle.wb_model.specs.Trails as trails
 use Rattle.wb_model.specs.Tables.{Registry, Plain, Case, Who, TheUser, TheReporter, context, disablings}
-use Rattle.wb_model.specs.Targets.{Target, Nobody, Alone, On, target}
+use Rattle.wb_model.specs.Targets.{Target, On, target}
 use Rattle.wb_model.specs.Requests.{Frame, outline, asking_form, form_of_trail, submission_fault, late_fault, public, mark, plain_part}
 use Rattle.wb_model.specs.Rules.{Verdict, Refused, Accepted}
-use Rattle.wb_model.specs.Host.{Tables, Host, time_at, purge_at, ruling_at, reply_to, host_after}
+use Rattle.wb_model.specs.Host.{Tables, Host, time_at, purge_at, ruling_at, host_after}
 
 -- ---- hosts
 
@@ -30,7 +29,7 @@ pub record HostsAlike (r : ℕ) (h k : Host) : Type 0 where
 
 -- the user's grant on the report is in force
 abbrev pub has_grant : ℕ → Registry → Who → Case → Bool
-has_grant now g (TheUser u) case = in_force u (disablings u g) now case.trail
+has_grant now g (TheUser u) case = in_force u (disablings u g.users) now case.trail
 has_grant now g (TheReporter n) case = false
 
 -- a request may be shown r's identity answers: its reporter's of the own report, or a reader's of the identity under a grant in force
@@ -64,7 +63,7 @@ pub record SubmissionsAlike (p : Plain) (a b : Frame) : Type 0 where
   pub left : a.asked.command ≡ commands.Submit tenant context given
   pub right : b.asked.command ≡ commands.Submit tenant context other
   pub item : FormItem
-  pub asks : asking_form (Rattle.wb_model.specs.Tables.context context p.registry) p.registry ≡ Some item
+  pub asks : asking_form (Rattle.wb_model.specs.Tables.context context p.registry.contexts) p.registry.forms ≡ Some item
   pub valid : submission_fault item.form given ≡ None
   pub other_valid : submission_fault item.form other ≡ None
   pub publics : public item.form given ≡ public item.form other
@@ -85,7 +84,7 @@ pub record IdentitiesAlike (r : ℕ) (p : Plain) (a b : Frame) : Type 0 where
   pub here : case.number ≡ r
   pub by : target p a.asked.session (commands.GiveIdentity tenant []) ≡ On (TheReporter r) case
   pub item : FormItem
-  pub asks : form_of_trail case.trail p.registry ≡ Some item
+  pub asks : form_of_trail case.trail p.registry.forms ≡ Some item
   pub valid : late_fault item.form (trails.answers case.trail) given ≡ None
   pub other_valid : late_fault item.form (trails.answers case.trail) other ≡ None
 

@@ -7,7 +7,7 @@ use Rattle.wb_model.specs.declared.command.Asked.{Asked}
 use Rattle.wb_model.specs.declared.entry.Entry.{Entry}
 use Rattle.wb_model.specs.declared.numbering.Numbering.{Numbering}
 use Rattle.wb_model.specs.declared.registry.TenantItem.{TenantItem}
-use Rattle.wb_model.specs.Tables.{Registry, Plain, Case, Session, is_live, is_there, lasts, drawn_on}
+use Rattle.wb_model.specs.Tables.{Plain, Case, is_live, is_there, lasts, drawn_on}
 use Rattle.wb_model.specs.Json.{told}
 use Rattle.wb_model.specs.Views.{reporter_view, identity_view}
 use Rattle.wb_model.specs.Requests.{Frame, plain_part, sealed_part}

@@ -1,6 +1,5 @@
 -- A request in two parts: what the tables but for identity answers see of it, and the identity answers that it gives.
-use Rattle.std.specs.Prelude.{ℕ, ◌==◌, ◌&&◌, find, Bool, true, false, if◌then◌else◌, List, [], Option, Some, None, option_map}
-use Rattle.std.specs.Option.{option_map_or}
+use Rattle.std.specs.Prelude.{ℕ, ◌==◌, ◌&&◌, find, Bool, true, if◌then◌else◌, List, [], Option, Some, None}
 use Rattle.wb_base.specs.declared.callers.Presented.{Presented}
 use Rattle.wb_base.specs.declared.faults.AnswerFault.{AnswerFault}
 use Rattle.wb_base.specs.declared.form.Form.{Form}
@@ -49,13 +48,13 @@ unfoldable pub mark : Form → Answered → Bool
 mark form answers = is_marked form answers
 
 -- the form in which a context asks: its form in the newest version
-abbrev pub asking_form : Option ContextItem → Registry → Option FormItem
-asking_form None g = None
-asking_form (Some c) g = newest_form c.form g
+abbrev pub asking_form : Option ContextItem → List FormItem → Option FormItem
+asking_form None forms = None
+asking_form (Some c) forms = newest_form c.form forms
 
 -- the form in which a report was made
-abbrev pub form_of_trail : List Entry → Registry → Option FormItem
-form_of_trail trail g = find (λ x. (x.id == trails.form trail) && (x.version == trails.version trail)) g.forms
+abbrev pub form_of_trail : List Entry → List FormItem → Option FormItem
+form_of_trail trail forms = find (λ x. (x.id == trails.form trail) && (x.version == trails.version trail)) forms
 
 -- what came of checking a request's answers: the fault, the public answers, and the mark that there are identity answers
 pub data Outcome : Type 0 where
@@ -72,8 +71,8 @@ identity_outcome (Some x) trail answers = Checked (late_fault x.form (trails.ans
 
 -- the outcome of a command's answers, with the trail of the report that it is on
 abbrev pub outcome : Registry → List Entry → Command → Outcome
-outcome g trail (commands.Submit t c answers) = submission_outcome (asking_form (context c g) g) answers
-outcome g trail (commands.GiveIdentity t answers) = identity_outcome (form_of_trail trail g) trail answers
+outcome g trail (commands.Submit t c answers) = submission_outcome (asking_form (context c g.contexts) g.forms) answers
+outcome g trail (commands.GiveIdentity t answers) = identity_outcome (form_of_trail trail g.forms) trail answers
 outcome g trail _ = Unchecked
 
 -- a request without its answers, and what came of checking them
@@ -92,7 +91,7 @@ submission_secret (Some x) answers = if mark x.form answers then Some (secret x.
 
 -- the identity answers that a command gives
 abbrev pub secret_of : Registry → Command → Option Answered
-secret_of g (commands.Submit t c answers) = submission_secret (asking_form (context c g) g) answers
+secret_of g (commands.Submit t c answers) = submission_secret (asking_form (context c g.contexts) g.forms) answers
 secret_of g (commands.GiveIdentity t answers) = Some answers
 secret_of g _ = None
 

@@ -1,7 +1,6 @@
 -- What is answered to a request and what it changes, over the tables but for identity answers.
-use Rattle.std.specs.Prelude.{ℕ, ◌+◌, not, nat_lt, Bool, true, false, if◌then◌else◌, List, [], ◌∷◌, Option, Some, None}
+use Rattle.std.specs.Prelude.{ℕ, ◌+◌, nat_lt, Bool, true, false, List, [], Option, Some, None}
 use Rattle.std.specs.Option.{option_map_or}
-use Rattle.wb_base.specs.declared.faults.AnswerFault.{AnswerFault}
 use Rattle.wb_base.specs.declared.words.Words.{Words}
 use Rattle.wb_base.specs.AnswerList.{Answered}
 use Rattle.wb_base.specs.Days.{day_of}
@@ -16,7 +15,7 @@ use Rattle.wb_model.specs.declared.registry.ContextItem.{ContextItem}
 use Rattle.wb_model.specs.declared.registry.FormItem.{FormItem}
 use Rattle.wb_model.specs.Built.{is_built}
 use Rattle.wb_model.specs.Secrets.{receipt_text, digest}
-use Rattle.wb_model.specs.Tables.{Registry, Plain, Case, Session, Who, TheUser, TheReporter, context}
+use Rattle.wb_model.specs.Tables.{Registry, Plain, Case, Who, TheUser, TheReporter, context}
 use Rattle.wb_model.specs.Targets.{Target, Nobody, Alone, On, target}
 use Rattle.wb_model.specs.Json.{told}
 use Rattle.wb_model.specs.Refusals.{not_found, numbers_spent, not_built, faulty}
@@ -95,7 +94,7 @@ is_open item = option_map_or (λ c. c.is_open) item false
 
 -- the refusals in their order
 abbrev pub refusal_alone : Registry → ℕ → Outcome → Command → Option Told
-refusal_alone g last o (commands.Submit t c answers) = unless (is_open (context c g)) not_found (if_faulty o (unless (nat_lt last 4_294_967_295) numbers_spent None))
+refusal_alone g last o (commands.Submit t c answers) = unless (is_open (context c g.contexts)) not_found (if_faulty o (unless (nat_lt last 4_294_967_295) numbers_spent None))
 refusal_alone g last o command = unless (is_built command) not_built None
 
 abbrev pub answers_in : Outcome → Answered
@@ -120,7 +119,7 @@ submits at g o (Some c) None = Passes
 submits at g o (Some c) (Some form) = Submits (submission_entry at g o c form)
 
 abbrev pub deal_of : At → Registry → Option Who → Outcome → Command → Deal
-deal_of at g who o (commands.Submit t c answers) = submits at g o (context c g) (asking_form (context c g) g)
+deal_of at g who o (commands.Submit t c answers) = submits at g o (context c g.contexts) (asking_form (context c g.contexts) g.forms)
 deal_of at g who o _ = Passes
 
 abbrev pub answer_alone : At → Plain → Command → Answer
@@ -140,7 +139,7 @@ user_of (TheUser u) = u
 user_of (TheReporter n) = 0
 
 abbrev pub answer_on : At → Registry → Who → Case → Command → Answer
-answer_on at g who case (commands.ReadReport t n) = Says (told 200 (recipient_view g (user_of who) at.time case))
+answer_on at g who case (commands.ReadReport t n) = Says (told 200 (recipient_view g.users (user_of who) at.time case))
 answer_on at g who case _ = Says not_built
 
 -- ---- the verdict

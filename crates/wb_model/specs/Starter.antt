@@ -1,24 +1,17 @@
 -- The starter host: one tenant with four users, one form and two contexts, and a standing session of the first user.
-use Rattle.std.specs.Prelude.{ℕ, List, [], ◌∷◌, Bool, true, false, Option, Some, None, ℤ, pos, codes, replicate}
+use Rattle.std.specs.Prelude.{ℕ, List, [], ◌∷◌, Bool, true, false, None, pos, codes, replicate}
 use Rattle.wb_base.specs.declared.callers.Role.{Role}
 use Rattle.wb_base.specs.declared.callers.Role.TheVariants as roles
 use Rattle.wb_base.specs.declared.form.Form.{Form}
 use Rattle.wb_base.specs.declared.form.Field.{Field}
-use Rattle.wb_base.specs.declared.form.FieldKind.{FieldKind}
 use Rattle.wb_base.specs.declared.form.FieldKind.TheVariants as kinds
-use Rattle.wb_base.specs.declared.form.Choice.{Choice}
-use Rattle.wb_base.specs.declared.form.Trigger.{Trigger}
 use Rattle.wb_base.specs.declared.form.Trigger.TheVariants as triggers
 use Rattle.wb_base.specs.declared.words.Salt.{Salt}
 use Rattle.wb_model.specs.declared.registry.ContextItem.{ContextItem}
-use Rattle.wb_model.specs.declared.registry.FormItem.{FormItem}
-use Rattle.wb_model.specs.declared.registry.Rights.{Rights}
-use Rattle.wb_model.specs.declared.registry.TenantItem.{TenantItem}
 use Rattle.wb_model.specs.declared.registry.UserItem.{UserItem}
 use Rattle.wb_model.specs.Secrets.{digest}
-use Rattle.wb_model.specs.Tables.{Registry, Plain, Session, TheUser}
-use Rattle.wb_model.specs.Host.{Tables}
-use Rattle.wb_model.specs.Tenants.{Tenancy, Hosts}
+use Rattle.wb_model.specs.Tables.{Registry, Session, TheUser}
+use Rattle.wb_model.specs.Tenants.{Hosts}
 
 -- ---- the form
 

@@ -1,12 +1,11 @@
 -- One tenant's tables but for identity answers, and their look-ups.
-use Rattle.std.specs.Prelude.{ℕ, ◌+◌, ◌==◌, ◌&&◌, nat_lt, not, Bool, true, false, if◌then◌else◌, List, [], ◌∷◌, length, map, filter, find, fold, Option, Some, None, ℤ}
+use Rattle.std.specs.Prelude.{ℕ, ◌+◌, ◌==◌, ◌&&◌, nat_lt, not, Bool, true, if◌then◌else◌, List, length, find, fold, Option, Some, None, ℤ}
 use Rattle.std.specs.Ordering.{int_eq}
 use Rattle.std.specs.List.{list_any}
 use Rattle.std.specs.Option.{option_map_or}
 use Rattle.wb_base.specs.declared.callers.Role.{Role}
 use Rattle.wb_base.specs.declared.callers.Presented.{Presented}
 use Rattle.wb_base.specs.declared.callers.Presented.TheVariants as presented
-use Rattle.wb_base.specs.declared.form.Form.{Form}
 use Rattle.wb_base.specs.declared.words.Digest.{Digest}
 use Rattle.wb_base.specs.declared.words.Salt.{Salt}
 use Rattle.wb_base.specs.AnswerList.{is_text}
@@ -27,19 +26,19 @@ pub record Registry : Type 0 where
   pub forms : List FormItem
   pub contexts : List ContextItem
 
-abbrev pub user : ℕ → Registry → Option UserItem
-user u g = find (λ x. x.id == u) g.users
+abbrev pub user : ℕ → List UserItem → Option UserItem
+user u users = find (λ x. x.id == u) users
 
-abbrev pub context : ℕ → Registry → Option ContextItem
-context c g = find (λ x. x.id == c) g.contexts
+abbrev pub context : ℕ → List ContextItem → Option ContextItem
+context c contexts = find (λ x. x.id == c) contexts
 
--- the newest version of a form
-abbrev pub newest_form : ℕ → Registry → Option FormItem
-newest_form f g = fold (λ before x. if x.id == f then Some x else before) None g.forms
+-- the newest version of a form: the last, since they stand in the order of their versions
+abbrev pub newest_form : ℕ → List FormItem → Option FormItem
+newest_form f forms = fold (λ before x. if x.id == f then Some x else before) None forms
 
 -- how often a user was disabled
-abbrev pub disablings : ℕ → Registry → ℕ
-disablings u g = option_map_or (λ x. x.disabled) (user u g) 0
+abbrev pub disablings : ℕ → List UserItem → ℕ
+disablings u users = option_map_or (λ x. x.disabled) (user u users) 0
 
 -- ---- reports
 

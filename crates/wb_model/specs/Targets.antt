@@ -1,5 +1,5 @@
 -- Whom and what a request is about: session, role, right and thing, in this order.
-use Rattle.std.specs.Prelude.{ℕ, ◌==◌, ◌&&◌, Bool, true, false, if◌then◌else◌, List, [], Option, Some, None}
+use Rattle.std.specs.Prelude.{ℕ, Bool, true, false, if◌then◌else◌, List, [], Option, Some, None}
 use Rattle.wb_base.specs.declared.callers.Role.{Role}
 use Rattle.wb_base.specs.declared.callers.Role.TheVariants.{Reporter, Recipient, Custodian, Admin}
 use Rattle.wb_base.specs.declared.callers.Presented.{Presented}
@@ -10,7 +10,7 @@ use Rattle.wb_model.specs.declared.command.Command.TheVariants as commands
 use Rattle.wb_model.specs.declared.registry.Rights.{Rights}
 use Rattle.wb_model.specs.declared.registry.UserItem.{UserItem}
 use Rattle.wb_model.specs.Trails.{reads}
-use Rattle.wb_model.specs.Tables.{Registry, Plain, Case, Session, Who, TheUser, TheReporter, user, report, session}
+use Rattle.wb_model.specs.Tables.{Plain, Case, Session, Who, TheUser, TheReporter, user, report, session}
 use Rattle.wb_model.specs.Refusals.{not_found, no_session, wrong_role, wrong_right}
 
 -- ---- who may call a route, and what it names
@@ -125,7 +125,7 @@ some_user_target p has k None = Nobody no_session
 some_user_target p has k (Some x) = user_target p has x k
 
 abbrev pub who_target : Plain → Role → Need → Who → Target
-who_target p has k (TheUser u) = some_user_target p has k (user u p.registry)
+who_target p has k (TheUser u) = some_user_target p has k (user u p.registry.users)
 who_target p has k (TheReporter n) = reporter_target p n k
 
 abbrev pub session_target : Plain → Need → Option Session → Target

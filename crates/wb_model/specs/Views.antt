@@ -1,6 +1,6 @@
 -- The bodies of replies.
-use Rattle.std.specs.Prelude.{ℕ, ◌==◌, ◌+◌, not, nat_lt, Bool, true, false, if◌then◌else◌, List, [], ◌∷◌, map, filter, Option, Some, None, is_some, codes}
-use Rattle.serde_json.specs.Data.{Data, null, boolean, string}
+use Rattle.std.specs.Prelude.{ℕ, ◌+◌, not, if◌then◌else◌, List, [], ◌∷◌, filter, Option, codes}
+use Rattle.serde_json.specs.Data.{Data, boolean, string}
 use Rattle.wb_base.specs.AnswerList.{Answered}
 use Rattle.wb_model.specs.declared.access.State.{State}
 use Rattle.wb_model.specs.declared.access.State.TheVariants as states
@@ -8,10 +8,11 @@ use Rattle.wb_model.specs.declared.access.AccessRequest.{AccessRequest}
 use Rattle.wb_model.specs.declared.entry.Status.{Status}
 use Rattle.wb_model.specs.declared.entry.Status.TheVariants as statuses
 use Rattle.wb_model.specs.declared.entry.Entry.{Entry}
+use Rattle.wb_model.specs.declared.registry.UserItem.{UserItem}
 use Rattle.wb_model.specs.Access.{requests, state_now, in_force}
 use Rattle.wb_model.specs.Trails.{Remark, received, ack_due, form, version, answers, context, status, label, acknowledged, feedback_due, feedback_given, expires, readers, has_identity, dialogue}
-use Rattle.wb_model.specs.Tables.{Registry, Case, disablings}
-use Rattle.wb_model.specs.Json.{Member, object_of, list_of, whole, date, or_null, answers_data}
+use Rattle.wb_model.specs.Tables.{Case, disablings}
+use Rattle.wb_model.specs.Json.{object_of, list_of, whole, date, or_null, answers_data}
 
 abbrev pub status_name : Status → List ℕ
 status_name statuses.New = codes "new"
@@ -42,24 +43,24 @@ remark_data r = object_of (
     (codes "user", or_null whole r.user) ∷ [])
 
 -- requests, numbered from the number on, with the states that they have by now
-abbrev pub requests_from : Registry → ℕ → List AccessRequest → List Data
-requests_from g id [] = []
-requests_from g id (r ∷ rs) = object_of (
+abbrev pub requests_from : List UserItem → ℕ → List AccessRequest → List Data
+requests_from users id [] = []
+requests_from users id (r ∷ rs) = object_of (
     (codes "by", whole r.by) ∷
     (codes "effective", or_null whole r.effective) ∷
     (codes "id", whole id) ∷
     (codes "reason", string r.reason) ∷
-    (codes "state", string (state_name (state_now (disablings r.by g) r))) ∷ []) ∷ requests_from g (id + 1) rs
+    (codes "state", string (state_name (state_now (disablings r.by users) r))) ∷ []) ∷ requests_from users (id + 1) rs
 
 -- `none` where no identity answer was given, `open` under a grant of this user in force, else `sealed`
-abbrev pub identity_word : Registry → ℕ → ℕ → List Entry → List ℕ
-identity_word g user now trail =
+abbrev pub identity_word : List UserItem → ℕ → ℕ → List Entry → List ℕ
+identity_word users user now trail =
     if not (has_identity trail) then codes "none"
-    else if in_force user (disablings user g) now trail then codes "open"
+    else if in_force user (disablings user users) now trail then codes "open"
     else codes "sealed"
 
-unfoldable pub recipient_view : Registry → ℕ → ℕ → Case → Data
-recipient_view g user now case = let trail = case.trail in object_of (
+unfoldable pub recipient_view : List UserItem → ℕ → ℕ → Case → Data
+recipient_view users user now case = let trail = case.trail in object_of (
     (codes "ack_due", date (ack_due trail)) ∷
     (codes "acknowledged", or_null date (acknowledged trail)) ∷
     (codes "answers", answers_data (answers trail)) ∷
@@ -69,12 +70,12 @@ recipient_view g user now case = let trail = case.trail in object_of (
     (codes "feedback_due", date (feedback_due trail)) ∷
     (codes "feedback_given", boolean (feedback_given trail)) ∷
     (codes "form", whole (form trail)) ∷
-    (codes "identity", string (identity_word g user now trail)) ∷
+    (codes "identity", string (identity_word users user now trail)) ∷
     (codes "label", string (label trail)) ∷
     (codes "number", whole case.number) ∷
     (codes "readers", list_of whole (readers trail)) ∷
     (codes "received", date (received trail)) ∷
-    (codes "requests", list_of (λ d. d) (requests_from g 1 (requests trail))) ∷
+    (codes "requests", list_of (λ d. d) (requests_from users 1 (requests trail))) ∷
     (codes "status", string (status_name (status trail))) ∷
     (codes "version", whole (version trail)) ∷ [])
 
