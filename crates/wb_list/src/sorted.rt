@@ -196,6 +196,7 @@ impl<T: Keyed + Drop> Sorted<T> {
     pub fn take(&mut self, key: &T::Key) -> Option<T>
         ensures item { result ≡ find (has_key T.Key.cmp T.key_of key.now) self.old.items }
         ensures items { self.new.items ≡ without_first (has_key T.Key.cmp T.key_of key.now) self.old.items }
+        ensures gone { find (has_key T.Key.cmp T.key_of key.now) self.new.items ≡ None }
         ensures kept { self.old.spare ≤ self.new.spare }
         ensures room { OnSome result (self.old.spare + 1 ≤ self.new.spare) }
     {

@@ -1,6 +1,7 @@
 use Rattle.std.proofs.Common.{ap, sym, ◌∙◌, Some}
 use Rattle.wb_list.specs.Room.{Room}
 use Rattle.wb_list.proofs.KeyedLemmas.{find_at_place, find_in_gap, remove_at_place, without_absent, ascending-without_first}
+use Rattle.wb_list.proofs.KeyedLookups.{find-taken}
 use Rattle.wb_list.proofs.sorted.Sorted.take.Goals as goal
 
 pub returns-in-Ok-clause-item : goal.returns-in-Ok-clause-item
@@ -25,3 +26,10 @@ returns-in-Err-clause-item g c = sym (find_in_gap g.met.T.Key.Ord.total g.T.Keye
 
 pub returns-in-Err-clause-items : goal.returns-in-Err-clause-items
 returns-in-Err-clause-items g c = sym (without_absent g.T.Key.Ord.cmp g.T.Keyed.key_of _ _ (find_in_gap g.met.T.Key.Ord.total g.T.Keyed.key_of _ _ _ c.in-Err.ensures.absent))
+
+pub returns-in-Ok-clause-gone : goal.returns-in-Ok-clause-gone
+returns-in-Ok-clause-gone g c =
+    rw (returns-in-Ok-clause-items g c) (rw (← ap (λ (r : Room _). r.items) c.self.view_is) (find-taken g.met.T.Key.Ord.total g.T.Keyed.key_of _ c.args.key.now c.self.invariant))
+
+pub returns-in-Err-clause-gone : goal.returns-in-Err-clause-gone
+returns-in-Err-clause-gone g c = find_in_gap g.met.T.Key.Ord.total g.T.Keyed.key_of _ _ _ c.in-Err.ensures.absent
