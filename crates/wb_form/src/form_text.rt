@@ -1,0 +1,56 @@
+//! Forms as JSON values.
+ghost use Rattle.std.specs.Prelude.{◌≡◌, ◌≢◌, [], true, IfOk, IfErr, Some, None};
+ghost use Rattle.serde_json.specs.View.{view};
+ghost use Rattle.wb_base.specs.declared.form.Form.{Form as FormOf};
+ghost use Rattle.wb_base.specs.FormShape.{form_of};
+ghost use Rattle.wb_base.specs.FormJson.{form_data};
+ghost use Rattle.wb_base.specs.FormFaults.{fault_of, fault_in, is_good};
+ghost use Rattle.wb_base.specs.Sealing.{HangsOnPublicAnswers};
+
+use crate::faults::{fault, whole_fault};
+use crate::shaped::{ShapeFault, Shaped};
+use crate::show::Showing;
+use serde_json::Value;
+use std::alloc::Global;
+use wb_base::{Form, FormFault, Memory};
+
+/// Reading a questionnaire from a JSON value (RFC 8259), and writing it as one.
+/// A tenant's administrator sends one, the rows keep it, and the reporter's page asks for it.
+pub trait FormText: Drop {
+    /// The form that is written or read.
+    ghost form: { Self → FormOf };
+
+    /// The form that a value is, or the fault of least code at the first field that has it.
+    fn read(alloc: Global, value: &Value) -> Result<Form, FormFault>
+        ensures ok { IfOk result (λ form. form_of (view value.now) ≡ Some form) }
+        ensures faultless { IfOk result (λ form. fault_of form ≡ None) }
+        ensures good { IfOk result (λ form. is_good form ≡ true) }
+        ensures sealed { IfOk result (λ form. HangsOnPublicAnswers form) }
+        ensures fault { IfErr result (λ e. e.code ≢ FormFault.MEMORY → fault_in (view value.now) ≡ Some e) }
+        ensures memory { IfErr result (λ e. e.code ≡ FormFault.MEMORY → e.field ≡ []) };
+
+    /// The value of the full form, with each default written.
+    fn show(&self, alloc: Global) -> Result<Value, Memory>
+        ensures { IfOk result (λ v. view v ≡ form_data (form self.now)) };
+}
+
+impl FormText for Form {
+    ghost form = { λ f. f };
+
+    fn read(alloc: Global, value: &Value) -> Result<Form, FormFault> {
+        let form = match Form::from_value(alloc, value) {
+            Ok(form) => form,
+            Err(ShapeFault::Shape) => return Err(whole_fault(alloc, FormFault::SHAPE)),
+            Err(ShapeFault::Memory) => return Err(whole_fault(alloc, FormFault::MEMORY)),
+        };
+        match fault(alloc, &form) {
+            Ok(None) => Ok(form),
+            Ok(Some(fault)) => Err(fault),
+            Err(Memory) => Err(whole_fault(alloc, FormFault::MEMORY)),
+        }
+    }
+
+    fn show(&self, alloc: Global) -> Result<Value, Memory> {
+        self.to_value(alloc)
+    }
+}
