@@ -15,7 +15,7 @@ use std::alloc::Global;
 use wb_base::{Form, FormFault, Memory};
 
 /// Reading a questionnaire from a JSON value (RFC 8259), and writing it as one.
-/// A tenant's administrator sends one, the rows keep it, and the reporter's page asks for it.
+/// The setup and an administrator give one, the rows keep its text, and a reporter asks for it.
 pub trait FormText: Drop {
     /// The form that is written or read.
     ghost form: { Self → FormOf };
