@@ -41,9 +41,6 @@ module _ (test : Field → Bool) (look : Look) (marked : Bool) where
   fault-known marks fs at f fault known here lt is told =
       fault-next marks fs at f here lt ∙ ap (λ v. or_next v f.id (first_fault test look marked (drop (at + 1) marks) (drop (at + 1) fs))) (sym is ∙ told)
 
-  pub fault-past_marks : (marks : List Bool) (fs : List Field) (at : ℕ) → length marks ≤ at → first_fault test look marked (drop at marks) fs ≡ None
-  fault-past_marks marks fs at h = ap (λ ms. first_fault test look marked ms fs) (drop_all at marks h)
-
   fault-no_fields : (marks : List Bool) → first_fault test look marked marks [] ≡ None
   fault-no_fields [] = refl
   fault-no_fields (mark ∷ marks) = refl
