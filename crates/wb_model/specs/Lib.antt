@@ -1,5 +1,4 @@
 pub mod BodyBytes
-pub mod Built
 pub mod Access
 pub mod Trails
 pub mod Secrets

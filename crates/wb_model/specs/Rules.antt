@@ -13,7 +13,6 @@ use Rattle.wb_model.specs.declared.entry.Entry.{Entry}
 use Rattle.wb_model.specs.declared.entry.Deed.TheVariants as deeds
 use Rattle.wb_model.specs.declared.registry.ContextItem.{ContextItem}
 use Rattle.wb_model.specs.declared.registry.FormItem.{FormItem}
-use Rattle.wb_model.specs.Built.{is_built}
 use Rattle.wb_model.specs.Secrets.{receipt_text, digest}
 use Rattle.wb_model.specs.Tables.{Registry, Plain, Case, Who, TheUser, TheReporter, context}
 use Rattle.wb_model.specs.Targets.{Target, Nobody, Alone, On, target}
@@ -95,7 +94,7 @@ is_open item = option_map_or (λ c. c.is_open) item false
 -- the refusals in their order
 abbrev pub refusal_alone : Registry → ℕ → Outcome → Command → Option Told
 refusal_alone g last o (commands.Submit t c answers) = unless (is_open (context c g.contexts)) not_found (if_faulty o (unless (nat_lt last 4_294_967_295) numbers_spent None))
-refusal_alone g last o command = unless (is_built command) not_built None
+refusal_alone g last o _ = Some not_built
 
 abbrev pub answers_in : Outcome → Answered
 answers_in Unchecked = []
@@ -129,17 +128,19 @@ answer_alone at p _ = Says not_built
 -- ---- requests on a report
 
 abbrev pub refusal_on : Outcome → Command → Option Told
-refusal_on o command = unless (is_built command) not_built (if_faulty o None)
+refusal_on o (commands.ReadReport t n) = None
+refusal_on o _ = Some not_built
 
 abbrev pub act_of : At → Registry → Who → List Entry → Command → Act
 act_of at g who trail _ = Looks
 
-abbrev pub user_of : Who → ℕ
-user_of (TheUser u) = u
-user_of (TheReporter n) = 0
+-- a user's read; a reporter's session does not come this far
+abbrev pub read_by : At → Registry → Case → Who → Told
+read_by at g case (TheUser u) = told 200 (recipient_view g.users u at.time case)
+read_by at g case (TheReporter n) = not_built
 
 abbrev pub answer_on : At → Registry → Who → Case → Command → Answer
-answer_on at g who case (commands.ReadReport t n) = Says (told 200 (recipient_view g.users (user_of who) at.time case))
+answer_on at g who case (commands.ReadReport t n) = Says (read_by at g case who)
 answer_on at g who case _ = Says not_built
 
 -- ---- the verdict

@@ -1,0 +1,10 @@
+pub mod AlikeTurns
+pub mod CaseLists
+pub mod EarlyDays
+pub mod Purges
+pub mod ReaderLists
+pub mod Requests
+pub mod StarterPlace
+pub mod Submissions
+pub mod Tenants
+pub mod Turns

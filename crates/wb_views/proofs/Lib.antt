@@ -1,0 +1,5 @@
+pub mod AsciiBytes
+pub mod Lists
+pub mod Members
+pub mod NoFloats
+pub mod RequestLists

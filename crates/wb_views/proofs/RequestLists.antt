@@ -1,0 +1,36 @@
+-- A change of the request of a number, in the list of borrowed requests.
+use Rattle.std.proofs.Common.{◌≡◌, ℕ, zero, suc, ◌-◌, ◌<◌, ◌≤◌, List, [], ◌∷◌, length, map, get_or, set, ◌⊎◌, inl, inr, refl, ap, arith}
+use Rattle.wb_model.specs.declared.access.AccessRequest.{AccessRequest}
+use Rattle.wb_model.specs.Access.{with_request}
+use Rattle.wb_views.specs.declared.requests.Request.{Request}
+use Rattle.wb_views.specs.Seen.{request_seen}
+
+at_place : (change : AccessRequest → AccessRequest) (new : Request) (i : ℕ) (xs : List Request) (d : Request) → i < length xs
+    → request_seen new ≡ change (request_seen (get_or xs i d)) → map request_seen (set xs i new) ≡ with_request (suc i) change (map request_seen xs)
+at_place change new i [] d h e = absurd (omega arith)
+at_place change new zero (x ∷ xs) d h e = ap (λ r. r ∷ map request_seen xs) e
+at_place change new (suc i) (x ∷ xs) d h e = ap (λ rs. request_seen x ∷ rs) (at_place change new i xs d (omega arith) e)
+
+-- where there is one of that number
+pub changed : (change : AccessRequest → AccessRequest) (new : Request) (n : ℕ) (xs : List Request) (d : Request) → 0 < n → n ≤ length xs
+    → request_seen new ≡ change (request_seen (get_or xs (n - 1) d)) → map request_seen (set xs (n - 1) new) ≡ with_request n change (map request_seen xs)
+changed change new zero xs d some h e = absurd (omega arith)
+changed change new (suc i) xs d some h e =
+    let same : suc i - 1 ≡ i = omega arith in
+    rw same (at_place change new i xs d (omega arith) (rw same at e))
+
+above : (change : AccessRequest → AccessRequest) (n : ℕ) (xs : List Request) → length xs < n → map request_seen xs ≡ with_request n change (map request_seen xs)
+above change n [] h = refl
+above change zero (x ∷ xs) h = refl
+above change (suc zero) (x ∷ xs) h = absurd (omega arith)
+above change (suc (suc k)) (x ∷ xs) h = ap (λ rs. request_seen x ∷ rs) (above change (suc k) xs (omega arith))
+
+none : (change : AccessRequest → AccessRequest) (n : ℕ) (xs : List Request) → n ≤ 0 → map request_seen xs ≡ with_request n change (map request_seen xs)
+none change n [] h = refl
+none change zero (x ∷ xs) h = refl
+none change (suc n) (x ∷ xs) h = absurd (omega arith)
+
+-- where there is none
+pub unchanged : (change : AccessRequest → AccessRequest) (n : ℕ) (xs : List Request) → (0 < n × length xs < n) ⊎ (n ≤ 0) → map request_seen xs ≡ with_request n change (map request_seen xs)
+unchanged change n xs (inl h) = above change n xs h.1
+unchanged change n xs (inr h) = none change n xs h

@@ -1,0 +1,2 @@
+pub mod RefusalBodies
+pub mod Seen

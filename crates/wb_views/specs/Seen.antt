@@ -1,0 +1,17 @@
+-- What the borrowed parts of a trail stand for.
+use Rattle.std.specs.Prelude.{ℕ, ◌==◌, ◌&&◌, Bool}
+use Rattle.wb_model.specs.declared.access.AccessRequest.{AccessRequest}
+use Rattle.wb_model.specs.Access.{user_by, state_now, is_granted, is_reached}
+use Rattle.wb_model.specs.Trails.{Remark}
+use Rattle.wb_views.specs.declared.remarks.Remark.{Remark as BorrowedRemark}
+use Rattle.wb_views.specs.declared.requests.Request.{Request as BorrowedRequest}
+
+abbrev pub remark_seen : BorrowedRemark → Remark
+remark_seen r = record { at = r.at; from = r.from.now; kind = r.kind.now; text = r.text.now; internal = r.internal; user = r.user }
+
+abbrev pub request_seen : BorrowedRequest → AccessRequest
+request_seen r = record { by = user_by r.by; reason = r.reason.now; stamp = r.stamp; state = r.state; effective = r.effective }
+
+-- the request is a grant of this user, disabled so often by now, that is in force
+abbrev pub is_grant : ℕ → ℕ → ℕ → AccessRequest → Bool
+is_grant user stamp now r = (r.by == user) && is_granted (state_now stamp r) && is_reached now r.effective

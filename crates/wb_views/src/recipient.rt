@@ -1,0 +1,171 @@
+//! The body that shows a report to a recipient.
+ghost use Rattle.std.specs.Prelude.{◌≡◌, [], ◌∷◌, map, IfOk};
+ghost use Rattle.serde_json.specs.View.{view};
+ghost use Rattle.serde_json.specs.Written.{compact_text};
+ghost use Rattle.wb_model.specs.Access as access;
+ghost use Rattle.wb_model.specs.Json.{list_of, whole};
+ghost use Rattle.wb_model.specs.Trails as trails;
+ghost use Rattle.wb_model.specs.Views as views;
+ghost use Rattle.wb_views.specs.Seen.{request_seen};
+
+use crate::readers::readers;
+use crate::remarks::dialogue;
+use crate::requests::{Request, disablings, id_of, in_force, requests, state_now};
+use crate::{facts, json, parts};
+use serde_json::{Map, Value};
+use std::alloc::Global;
+use wb_base::{Memory, Moment, Number, Text, UserId};
+use wb_model::{Entry, State, Status, UserItem};
+
+fn status_name(status: Status) -> &'static str
+    ensures { result.now ≡ views.status_name status }
+{
+    match status {
+        Status::New => "new",
+        Status::Opened => "opened",
+        Status::Closed => "closed",
+    }
+}
+
+fn state_name(state: State) -> &'static str
+    ensures { result.now ≡ views.state_name state }
+{
+    match state {
+        State::Waiting => "waiting",
+        State::Granted => "granted",
+        State::Denied => "denied",
+        State::Revoked => "revoked",
+        State::Ended => "ended",
+    }
+}
+
+// Whether the identity is shown to the user, by the requests of the trail.
+fn identity_word(
+    users: &[UserItem],
+    user: UserId,
+    now: Moment,
+    trail: &[Entry],
+    found: &[Request<'_>],
+) -> &'static str
+    requires { map request_seen found.now ≡ access.requests trail.now }
+    ensures { result.now ≡ views.identity_word users.now user now trail.now }
+{
+    if !facts::has_identity(trail) {
+        "none"
+    } else if in_force(found, user, disablings(users, user.id()), now) {
+        "open"
+    } else {
+        "sealed"
+    }
+}
+
+// The object of a request, with its number and the state that it has by now.
+fn request_value(
+    alloc: Global,
+    users: &[UserItem],
+    id: u64,
+    request: &Request<'_>,
+) -> Result<Value, Memory>
+    ensures { IfOk result (λ value.
+        view value ∷ [] ≡ views.requests_from users.now id (request_seen request.now ∷ [])) }
+{
+    let by = id_of(request.by);
+    let state = state_now(disablings(users, by), request);
+    let mut map = Map::new(alloc);
+    json::put_text(&mut map, alloc, "state", state_name(state))?;
+    json::put_text(&mut map, alloc, "reason", request.reason)?;
+    json::put_whole(&mut map, alloc, "id", id)?;
+    json::put_whole_or_null(&mut map, alloc, "effective", request.effective)?;
+    json::put_whole(&mut map, alloc, "by", by as u64)?;
+    Ok(Value::Object(map))
+}
+
+// The array of requests, numbered from 1.
+fn requests_value(alloc: Global, users: &[UserItem], found: &[Request<'_>]) -> Result<Value, Memory>
+    ensures { IfOk result (λ value.
+        view value ≡ list_of (λ d. d) (views.requests_from users.now 1 (map request_seen found.now))) }
+{
+    let mut values = Vec::new(alloc);
+    for (at, request) in found.iter().enumerate() {
+        values.push(request_value(alloc, users, at as u64 + 1, request)?)?;
+    }
+    Ok(Value::Array(values))
+}
+
+// The array of the remarks of a trail.
+fn dialogue_value(alloc: Global, trail: &[Entry]) -> Result<Value, Memory>
+    ensures { IfOk result (λ value. view value ≡ list_of views.remark_data (trails.dialogue trail.now)) }
+{
+    let remarks = dialogue(alloc, trail)?;
+    parts::list_value(alloc, remarks.as_slice())
+}
+
+// The array of the readers of a trail.
+fn readers_value(alloc: Global, trail: &[Entry]) -> Result<Value, Memory>
+    ensures { IfOk result (λ value. view value ≡ list_of whole (trails.readers trail.now)) }
+{
+    let readers = readers(alloc, trail)?;
+    parts::list_value(alloc, readers.as_slice())
+}
+
+// The JSON value of the body.
+fn recipient_value(
+    alloc: Global,
+    users: &[UserItem],
+    user: UserId,
+    now: Moment,
+    number: Number,
+    trail: &[Entry],
+) -> Result<Value, Memory>
+    ensures { IfOk result (λ value.
+        view value
+        ≡ views.recipient_view users.now user now (record { number = number; trail = trail.now })) }
+{
+    let found = requests(alloc, trail)?;
+    let identity = identity_word(users, user, now, trail, found.as_slice());
+    let requests = requests_value(alloc, users, found.as_slice())?;
+    let readers = readers_value(alloc, trail)?;
+    let dialogue = dialogue_value(alloc, trail)?;
+    let answers = parts::answers_value(alloc, facts::answers(trail))?;
+    let mut map = Map::new(alloc);
+    json::put_whole(&mut map, alloc, "version", facts::version(trail) as u64)?;
+    json::put_text(&mut map, alloc, "status", status_name(facts::status(trail)))?;
+    json::put_value(&mut map, alloc, "requests", requests)?;
+    json::put_date(&mut map, alloc, "received", facts::received(trail))?;
+    json::put_value(&mut map, alloc, "readers", readers)?;
+    json::put_whole(&mut map, alloc, "number", number.get() as u64)?;
+    json::put_text(&mut map, alloc, "label", facts::label(trail))?;
+    json::put_text(&mut map, alloc, "identity", identity)?;
+    json::put_whole(&mut map, alloc, "form", facts::form(trail) as u64)?;
+    json::put_flag(
+        &mut map,
+        alloc,
+        "feedback_given",
+        facts::feedback_given(trail),
+    )?;
+    json::put_date(&mut map, alloc, "feedback_due", facts::feedback_due(trail))?;
+    json::put_date(&mut map, alloc, "expires", facts::expires(trail))?;
+    json::put_value(&mut map, alloc, "dialogue", dialogue)?;
+    json::put_whole(&mut map, alloc, "context", facts::context(trail) as u64)?;
+    json::put_value(&mut map, alloc, "answers", answers)?;
+    json::put_date_or_null(&mut map, alloc, "acknowledged", facts::acknowledged(trail))?;
+    json::put_date(&mut map, alloc, "ack_due", facts::ack_due(trail))?;
+    Ok(Value::Object(map))
+}
+
+/// The body that shows a report to a recipient, who is a user of its tenant, at a moment.
+pub fn recipient_view(
+    alloc: Global,
+    users: &[UserItem],
+    user: UserId,
+    now: Moment,
+    number: Number,
+    trail: &[Entry],
+) -> Result<Text, Memory>
+    ensures { IfOk result (λ text.
+        text
+        ≡ compact_text (views.recipient_view users.now user now (record { number = number; trail = trail.now }))) }
+{
+    let value = recipient_value(alloc, users, user, now, number, trail)?;
+    json::text_of(alloc, &value)
+}

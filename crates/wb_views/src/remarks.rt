@@ -1,0 +1,84 @@
+//! The dialogue of a report: its comments, acknowledgements, feedback and notices.
+ghost use Rattle.std.specs.Prelude.{◌≡◌, map, option_map, IfOk};
+ghost use Rattle.wb_model.specs.Trails as trails;
+ghost use Rattle.wb_views.specs.Seen.{remark_seen};
+
+use std::alloc::Global;
+use wb_base::{Memory, Moment, UserId};
+use wb_model::{Actor, Deed, Entry};
+
+/// A remark, by whom and of what kind; the user is none for the reporter.
+#[derive(Clone, Copy)]
+pub(crate) struct Remark<'a> {
+    pub(crate) at: Moment,
+    pub(crate) from: &'a str,
+    pub(crate) kind: &'a str,
+    pub(crate) text: &'a str,
+    pub(crate) internal: bool,
+    pub(crate) user: Option<UserId>,
+}
+
+// Whose side the author of a comment is on.
+fn commenter(actor: Actor) -> &'static str
+    ensures { result.now ≡ trails.commenter actor }
+{
+    match actor {
+        Actor::Reporter => "reporter",
+        Actor::User(_) => "recipient",
+    }
+}
+
+// The user who acted, if it was one.
+fn some_user(actor: Actor) -> Option<UserId>
+    ensures { result ≡ trails.some_user actor }
+{
+    match actor {
+        Actor::Reporter => None,
+        Actor::User(user) => Some(user),
+    }
+}
+
+// The remark that an entry is. The notice of a grant is one only where it was not withheld.
+fn remark_of(entry: &Entry) -> Option<Remark<'_>>
+    ensures { option_map remark_seen result ≡ trails.remark_of entry.now }
+{
+    let (from, kind, text, internal) = match &entry.deed {
+        Deed::Comment { internal, text } => (
+            commenter(entry.by),
+            "comment",
+            text.as_str(),
+            *internal,
+        ),
+        Deed::Acknowledged { .. } => ("recipient", "acknowledgement", "", false),
+        Deed::Feedback { text } => ("recipient", "feedback", text.as_str(), false),
+        Deed::Granted {
+            reason,
+            withheld: None,
+            ..
+        } => ("custodian", "notice", reason.as_str(), false),
+        _ => return None,
+    };
+    Some(Remark {
+        at: entry.at,
+        from,
+        kind,
+        text,
+        internal,
+        user: some_user(entry.by),
+    })
+}
+
+/// The remarks of a trail, the oldest first.
+pub(crate) fn dialogue<'a>(alloc: Global, trail: &'a [Entry]) -> Result<Vec<Remark<'a>>, Memory>
+    ensures { IfOk result (λ found. map remark_seen found.items ≡ trails.dialogue trail.now) }
+{
+    let mut found = Vec::new(alloc);
+    for entry in trail {
+        if let Some(remark) = remark_of(entry) {
+            if found.push(remark).is_err() {
+                return Err(Memory);
+            }
+        }
+    }
+    Ok(found)
+}
