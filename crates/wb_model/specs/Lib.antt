@@ -1,4 +1,5 @@
 pub mod BodyBytes
+pub mod Built
 pub mod Access
 pub mod Trails
 pub mod Secrets
