@@ -1,3 +1,10 @@
+pub mod Found
 pub mod Unwinding
 pub mod TenantScripts
 pub mod StarterForm
+pub mod Drawn
+pub mod Fitting
+pub mod Placed
+pub mod PastLaw
+pub mod TurnLaw
+pub mod PartLaw

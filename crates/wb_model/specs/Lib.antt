@@ -13,5 +13,7 @@ pub mod Rules
 pub mod Host
 pub mod Alike
 pub mod Tenants
+pub mod Past
+pub mod Pasts
 pub mod Fits
 pub mod Starter

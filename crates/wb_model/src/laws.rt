@@ -3,10 +3,12 @@ ghost use Rattle.std.specs.Prelude.{◌≡◌, ◌+◌, ℕ, List, false, true, 
 ghost use Rattle.serde_json.specs.Read.{read};
 ghost use Rattle.wb_base.specs.FormFaults.{is_good};
 ghost use Rattle.wb_base.specs.FormShape.{form_of};
-ghost use Rattle.wb_model.specs.Starter.{starter_form, starter_form_text};
+ghost use Rattle.wb_model.specs.Starter.{starter, starter_form, starter_form_text, starter_opening};
 ghost use Rattle.wb_model.specs.Requests.{Frame};
-ghost use Rattle.wb_model.specs.Host.{Host, purge_at, reply_to, host_after, replies_from};
-ghost use Rattle.wb_model.specs.Tenants.{Hosts, AllHostsAlike, OneLaterAlike, AllScriptsAlike, is_report_reader, hidden_replies, hosts_reply, hosts_after, hosts_replies};
+ghost use Rattle.wb_model.specs.Host.{Host, purge_at, reply_to, host_after, replies_from, tables_after};
+ghost use Rattle.wb_model.specs.Tenants.{Hosts, AllHostsAlike, OneLaterAlike, AllScriptsAlike, is_report_reader, hidden_replies, hosts_reply, hosts_after, hosts_lost, hosts_replies};
+ghost use Rattle.wb_model.specs.Past.{Past, Opening, Turn, Opened, tables, at_frame, what_at};
+ghost use Rattle.wb_model.specs.Pasts.{AllOpened, standing_hosts, reply_in, with_turn, with_loss};
 ghost use Rattle.wb_model.specs.Alike.{HostsAlike, LaterAlike, SubmissionsAlike, ScriptsAlike, is_reader, hidden};
 
 /// A turn does not tell two hosts apart that differ in the identity answers of report r alone.
@@ -36,6 +38,21 @@ pub fn a_submission_makes_hosts_alike()
 pub fn alike_scripts_get_the_same_replies()
     ensures one { (i r : ℕ) (h : Host) (xs ys : List Frame) → ScriptsAlike i r h xs ys → hidden r h xs (replies_from h xs) ≡ hidden r h xs (replies_from h ys) }
     ensures all { (i t r : ℕ) (h : Hosts) (xs ys : List Frame) → AllScriptsAlike i t r h xs ys → hidden_replies t r h xs (hosts_replies h xs) ≡ hidden_replies t r h xs (hosts_replies h ys) }
+{}
+
+/// The hosts that stand for a past answer as the past says, and then stand for the past with that turn, made or lost.
+///
+/// This holds of every opening and of every list of turns. The starter host stands for its opening.
+pub fn hosts_stand_for_their_past()
+    ensures reply { (past : Past AllOpened) (f : Frame) → hosts_reply (standing_hosts past) f ≡ reply_in past f }
+    ensures turn { (past : Past AllOpened) (f : Frame) → hosts_after (standing_hosts past) f ≡ standing_hosts (with_turn past f) }
+    ensures loss { (past : Past AllOpened) (f : Frame) → hosts_lost (standing_hosts past) f ≡ standing_hosts (with_loss past f) }
+    ensures start { starter ≡ standing_hosts (Opening starter_opening) }
+{}
+
+/// The tables of one tenant's past with one more turn are one step on its tables.
+pub fn a_turn_is_a_step_on_the_tables()
+    ensures { (t : ℕ) (past : Past Opened) (f : Frame) → tables (Turn (record { moment = f.moment; words = f.words; what = what_at t past f }) past) (at_frame past f).time ≡ tables_after (tables past (at_frame past f).time) (at_frame past f) f.asked }
 {}
 
 /// The starter host's form is the one that its JSON text says, and it is good.
