@@ -1,6 +1,6 @@
 pub mod Found
 pub mod Unwinding
-pub mod TenantScripts
+pub mod AllTenants
 pub mod StarterForm
 pub mod Drawn
 pub mod Fitting
@@ -8,3 +8,4 @@ pub mod Placed
 pub mod PastLaw
 pub mod TurnLaw
 pub mod PartLaw
+pub mod ScriptLaw

@@ -17,3 +17,10 @@ pub mod Past
 pub mod Pasts
 pub mod Fits
 pub mod Starter
+pub mod FrameTexts
+pub mod Heads
+pub mod Bodies
+pub mod Readings
+pub mod Replies
+pub mod Scripts
+pub mod ScriptsAlike
