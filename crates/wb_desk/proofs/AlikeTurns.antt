@@ -1,5 +1,5 @@
 -- A turn of the desk on hosts that differ in one report's identity answers alone.
-use Rattle.std.proofs.Common.{◌≡◌, ◌≢◌, ◌⊎◌, inl, inr, ℕ, false, sym, ◌∙◌, subst}
+use Rattle.std.proofs.Common.{◌≡◌, ◌≢◌, inl, inr, ℕ, false, sym, ◌∙◌, subst}
 use Rattle.wb_model.specs.declared.body.Told.{Told}
 use Rattle.wb_model.specs.Refusals.{no_memory}
 use Rattle.wb_model.specs.Requests.{Frame}

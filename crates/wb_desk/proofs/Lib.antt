@@ -1,9 +1,11 @@
 pub mod AlikeTurns
 pub mod CaseLists
+pub mod Counting
 pub mod EarlyDays
 pub mod Purges
 pub mod ReaderLists
 pub mod Requests
+pub mod Results
 pub mod StarterPlace
 pub mod Submissions
 pub mod Tenants

@@ -87,7 +87,7 @@ at_after turns now k (suc i) f items new (x ∷ ks) y d m all lt is id made othe
 -- ---- what holds of the tenants after it
 
 same_place : (items new : List SealedItem) (x : Place) → IsPlace items x → AreSame items new x.id → IsPlace new x
-same_place items new x h same = record { registry = h.registry; drawn = h.drawn; cases = h.cases; sessions = h.sessions; unsealed = λ n e. same n ∙ h.unsealed n e }
+same_place items new x h same = record { id = h.id; registry = h.registry; drawn = h.drawn; cases = h.cases; sessions = h.sessions; unsealed = λ n e. same n ∙ h.unsealed n e }
 
 places_above : (k t : ℕ) (items new : List SealedItem) (xs : List Place) → t ≤ k → ArePlaces k items xs → AreOthers items new t → ArePlaces k new xs
 places_above k t items new [] le all others = tt

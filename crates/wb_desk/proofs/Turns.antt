@@ -59,6 +59,7 @@ drawn_most false drawn last h = omega arith
 
 pub opened_place : (items new : List SealedItem) (x y : Place) (time : ℕ) (o : Opening) → IsPlace items x → IsOpened items new x y time o → IsPlace new y
 opened_place items new x y time o h opened = subst (IsPlace new) (sym same) (record {
+  id = h.id;
   registry = h.registry;
   drawn = drawn_most (int_eq (day_of x.plain.numbering.at x.plain.registry.settings.offset) (day_of time x.plain.registry.settings.offset)) x.plain.numbering.drawn x.plain.numbering.last h.drawn;
   cases = cases_push x.plain.numbering.last x.plain.cases o.entry h.cases;

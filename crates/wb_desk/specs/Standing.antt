@@ -1,10 +1,12 @@
 -- What the desk keeps stands for.
-use Rattle.std.specs.Prelude.{ℕ, List, map}
+use Rattle.std.specs.Prelude.{ℕ, List, map, length}
+use Rattle.std.specs.List.{sum_by}
 use Rattle.wb_custody.specs.declared.sealed.SealedItem.{SealedItem}
 use Rattle.wb_custody.specs.SealedAnswers.{answers_of}
 use Rattle.wb_model.specs.Tables.{Registry, Plain, Case, Session, Who, TheUser, TheReporter}
 use Rattle.wb_model.specs.Host.{Sealed, Tables}
 use Rattle.wb_model.specs.Tenants.{Tenancy, Hosts}
+use Rattle.wb_desk.specs.declared.counts.Counts.{Counts}
 use Rattle.wb_desk.specs.declared.tenancy.Case.{Case as KeptCase}
 use Rattle.wb_desk.specs.declared.tenancy.Session.{Session as KeptSession}
 use Rattle.wb_desk.specs.declared.tenancy.Who.{Who as KeptWho}
@@ -55,3 +57,24 @@ tenancy_of items x = record { id = x.id; tables = tables_of items x }
 -- the hosts that a desk stands for
 abbrev pub hosts_of : Standing → Hosts
 hosts_of d = record { turns = d.turns; now = d.time; list = map (tenancy_of d.sealed) d.tenants }
+
+-- ---- counts
+
+-- the reports that have a trail, of all tenants
+abbrev pub live_at : List Place → ℕ
+live_at xs = sum_by (λ x. length x.plain.cases) xs
+
+-- the sum of their last numbers
+abbrev pub numbers_at : List Place → ℕ
+numbers_at xs = sum_by (λ x. x.plain.numbering.last) xs
+
+-- their standing sessions
+abbrev pub sessions_at : List Place → ℕ
+sessions_at xs = sum_by (λ x. length x.plain.sessions) xs
+
+abbrev pub counts_at : ℕ → List Place → Counts
+counts_at turns xs = record { turns = turns; live = live_at xs; numbers = numbers_at xs; sessions = sessions_at xs }
+
+-- the counts of a desk
+abbrev pub counts_of : Standing → Counts
+counts_of d = counts_at d.turns d.tenants

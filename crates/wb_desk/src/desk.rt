@@ -4,9 +4,10 @@ ghost use Rattle.wb_model.specs.Refusals.{turns_spent as turns_spent_told, no_me
 ghost use Rattle.wb_model.specs.Requests.{Frame};
 ghost use Rattle.wb_model.specs.Starter.{starter};
 ghost use Rattle.wb_model.specs.Tenants.{Hosts, AllHostsAlike, OneLaterAlike, is_report_reader, hosts_reply, hosts_after};
-ghost use Rattle.wb_desk.specs.Standing.{hosts_of};
+ghost use Rattle.wb_desk.specs.Standing.{hosts_of, counts_of};
 ghost use Rattle.wb_desk.specs.Turns.{IsTurn};
 
+use crate::counts::{Counts, count};
 use crate::plan::At;
 use crate::starter::tenancy as starter_tenancy;
 use crate::tenancy::Tenancy;
@@ -30,15 +31,15 @@ pub struct Desk {
 }
 
 impl Model for Desk {
-    ghost use Rattle.std.specs.Prelude.{map, ◌≤◌};
+    ghost use Rattle.std.specs.Prelude.{map, ◌+◌, ◌≤◌};
     ghost use Rattle.wb_desk.specs.Places.{ArePlaces};
-    ghost use Rattle.wb_desk.specs.Standing.{Standing, place_of};
+    ghost use Rattle.wb_desk.specs.Standing.{Standing, place_of, sessions_at};
 
     ghost Value = { Standing };
 
     ghost view = { λ d. record { turns = d.turns; time = d.time; tenants = map place_of d.tenancies.items; sealed = d.sealed.items } };
 
-    ghost invariant = { λ d. (d.turns ≤ 1_000_000_000_000_000) × ArePlaces 0 d.sealed.items (map place_of d.tenancies.items) };
+    ghost invariant = { λ d. (d.turns ≤ 1_000_000_000_000_000) × ArePlaces 0 d.sealed.items (map place_of d.tenancies.items) × (sessions_at (map place_of d.tenancies.items) ≤ d.turns + 1) };
 }
 
 // The reply of a turn for which there was no memory. It takes none.
@@ -84,6 +85,13 @@ impl Desk {
         ensures { result ≡ self.now.time }
     {
         self.time
+    }
+
+    /// How many turns there were, and what the tables hold. It takes no memory.
+    pub fn counts(&self) -> Counts
+        ensures { result ≡ counts_of self.now }
+    {
+        count(self.turns, self.tenancies.as_slice())
     }
 
     // Makes one turn that is not beyond the last.

@@ -1,6 +1,7 @@
 //! The host: one turn after another over its tables.
 #![tactic(auto)]
 
+mod counts;
 mod desk;
 mod plan;
 mod readers;
@@ -12,6 +13,7 @@ mod target;
 mod tenancy;
 mod turn;
 
+pub use counts::Counts;
 pub use desk::Desk;
 
 #[cfg(test)]

@@ -1,13 +1,12 @@
 //! What a turn is going to answer and to change. Here is all memory taken but for the tables' own.
-ghost use Rattle.std.specs.Prelude.{List, Option, ◌≡◌, ◌≢◌, ◌<◌, ◌+◌, true, Some, None, if◌then◌else◌, IfOk, OnOk, IfSome, option_map};
+ghost use Rattle.std.specs.Prelude.{List, Option, ◌≡◌, ◌≢◌, ◌<◌, ◌+◌, true, false, Some, None, if◌then◌else◌, MatchOption, IfOk, OnOk, IfSome, option_map};
 ghost use Rattle.std.specs.Option.{option_copied};
 ghost use Rattle.wb_base.specs.Days.{day_of as day_at, IsEarlyDay, IsOffset};
-ghost use Rattle.wb_model.specs.Tables.{context as context_by, newest_form as newest_form_by};
+ghost use Rattle.wb_model.specs.Tables.{Who as WhoValue, context as context_by, newest_form as newest_form_by};
 ghost use Rattle.wb_model.specs.Json.{told};
 ghost use Rattle.wb_model.specs.Refusals.{faulty as faulty_told};
 ghost use Rattle.wb_model.specs.Requests.{Checked};
-ghost use Rattle.wb_model.specs.Rules.{submission_entry, read_by as read_reply};
-ghost use Rattle.wb_model.specs.Tables.{Who as WhoValue};
+ghost use Rattle.wb_model.specs.Rules.{is_open, submission_entry, read_by as read_reply};
 ghost use Rattle.wb_model.specs.Targets as targets;
 ghost use Rattle.wb_model.specs.declared.entry.Entry.{Entry as EntryValue};
 ghost use Rattle.wb_model.specs.Secrets.{receipt_text};
@@ -60,6 +59,16 @@ fn context(contexts: &[ContextItem], id: u32) -> Option<&ContextItem>
         }
     }
     None
+}
+
+// The context of an id, where it is open.
+fn open_context(contexts: &[ContextItem], id: u32) -> Option<&ContextItem>
+    ensures { MatchOption result (is_open (context_by id contexts.now) ≡ false) (λ c. (context_by id contexts.now ≡ Some c.now) × (c.now.is_open ≡ true)) }
+{
+    match context(contexts, id) {
+        Some(context) if context.is_open => Some(context),
+        _ => None,
+    }
 }
 
 // The newest version of a form.
@@ -222,12 +231,9 @@ fn submit(
     ensures plan { IfOk result (PlansSubmission (plain_of tenancy.now) (at_of at.now) id answers.now) }
     ensures number { IfOk result (λ plan. IfSome plan.opening (λ o. tenancy.now.numbering.last < 4_294_967_295)) }
 {
-    let Some(context) = context(tenancy.contexts.as_slice(), id) else {
+    let Some(context) = open_context(tenancy.contexts.as_slice(), id) else {
         return refusing(alloc, Refusal::NotFound);
     };
-    if !context.is_open {
-        return refusing(alloc, Refusal::NotFound);
-    }
     let Some(item) = newest_form(tenancy.forms.as_slice(), context.form) else {
         unreachable!();
     };

@@ -1,12 +1,12 @@
 //! One turn over the tables of all tenants.
-ghost use Rattle.std.specs.Prelude.{◌≡◌, ◌≢◌, ◌<◌, ℕ, [], None, find, map, MatchOption, IfOk, OnOk, OnErr};
+ghost use Rattle.std.specs.Prelude.{◌≡◌, ◌≢◌, ◌<◌, ◌≤◌, ◌+◌, ℕ, [], None, find, map, length, MatchOption, IfOk, OnOk, OnErr};
 ghost use Rattle.wb_custody.specs.SealedAnswers.{answers_of};
 ghost use Rattle.wb_model.specs.Host.{reply_by, ruling, tables_after};
 ghost use Rattle.wb_desk.specs.Plans.{at_of};
 ghost use Rattle.wb_model.specs.Requests.{Frame};
 ghost use Rattle.wb_model.specs.Tenants.{hosts_reply, hosts_after, without_tenant as told_without};
 ghost use Rattle.wb_desk.specs.Places.{IsPlace, ArePlaces, is_tenant, IsAt};
-ghost use Rattle.wb_desk.specs.Standing.{place_of, tables_of, tenancy_of, hosts_of};
+ghost use Rattle.wb_desk.specs.Standing.{place_of, tables_of, tenancy_of, hosts_of, sessions_at};
 ghost use Rattle.wb_desk.specs.Turns.{standing, IsFrameAt};
 
 use crate::plan::{At, Plan, plan_turn};
@@ -54,6 +54,8 @@ pub fn turn_of(
     ensures id { (place_of tenancy.new).id ≡ (place_of tenancy.old).id }
     ensures others { (t n : ℕ) → t ≢ (place_of tenancy.old).id → answers_of sealed.new.items t n ≡ answers_of sealed.old.items t n }
     ensures place { IsPlace sealed.new.items (place_of tenancy.new) }
+    // A turn makes one session at most.
+    ensures sessions { length (place_of tenancy.new).plain.sessions ≤ length (place_of tenancy.old).plain.sessions + 1 }
     ensures tenancy_left { OnErr result (place_of tenancy.new ≡ place_of tenancy.old) }
     ensures sealed_left { OnErr result (sealed.new.items ≡ sealed.old.items) }
 {
@@ -103,6 +105,7 @@ pub fn turn(
     ensures reply { IfOk result (λ told. (turns now : ℕ) (f : Frame) → IsFrameAt turns now f at.now asked.now → told ≡ hosts_reply (hosts_of (standing turns now (map place_of tenancies.old) sealed.old.items)) f) }
     ensures hosts { OnOk result ((turns now : ℕ) (f : Frame) → IsFrameAt turns now f at.now asked.now → map (tenancy_of sealed.new.items) (map place_of tenancies.new) ≡ (hosts_after (hosts_of (standing turns now (map place_of tenancies.old) sealed.old.items)) f).list) }
     ensures places { ArePlaces 0 sealed.new.items (map place_of tenancies.new) }
+    ensures sessions { sessions_at (map place_of tenancies.new) ≤ sessions_at (map place_of tenancies.old) + 1 }
     ensures tenants_left { OnErr result (map place_of tenancies.new ≡ map place_of tenancies.old) }
     ensures sealed_left { OnErr result (sealed.new.items ≡ sealed.old.items) }
 {

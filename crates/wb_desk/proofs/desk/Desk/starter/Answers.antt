@@ -1,8 +1,8 @@
-use Rattle.std.proofs.Common.{◌≡◌, ◌++◌, List, [], ◌∷◌, map, sym, ap, ◌∙◌, subst, arith}
+use Rattle.std.proofs.Common.{◌≡◌, ◌≤◌, ◌++◌, List, [], ◌∷◌, map, sym, ap, ◌∙◌, subst, arith}
 use Rattle.wb_custody.specs.declared.sealed.SealedItem.{SealedItem}
 use Rattle.wb_model.specs.Starter.{starter}
 use Rattle.wb_desk.specs.Places.{ArePlaces, starter_place}
-use Rattle.wb_desk.specs.Standing.{Place, place_of, hosts_of}
+use Rattle.wb_desk.specs.Standing.{Place, place_of, hosts_of, sessions_at}
 use Rattle.wb_desk.proofs.StarterPlace.{starter_stands}
 use Rattle.wb_desk.proofs.desk.Desk.starter.Goals as goal
 
@@ -10,7 +10,7 @@ places : (c : goal.After-new) → map place_of c.push.new.self.items ≡ starter
 places c = ap (map place_of) c.in_ok-push.ensures.items ∙ (ap (λ xs. map place_of (xs ++ c.in_ok-tenancy.field-0 ∷ [])) c.new-tenancies.ensures.items ∙ ap (λ x. x ∷ []) c.in_ok-tenancy.ensures)
 
 pub invariant_of-result : goal.invariant_of-result
-invariant_of-result c = (omega arith, subst (λ (xs : List Place). ArePlaces 0 c.new.result.items xs) (sym (places c)) (subst (λ (items : List SealedItem). ArePlaces 0 items (starter_place ∷ [])) (sym c.new.ensures) starter_stands))
+invariant_of-result c = (omega arith, subst (λ (xs : List Place). ArePlaces 0 c.new.result.items xs) (sym (places c)) (subst (λ (items : List SealedItem). ArePlaces 0 items (starter_place ∷ [])) (sym c.new.ensures) starter_stands), subst (λ (xs : List Place). sessions_at xs ≤ 1) (sym (places c)) (omega arith))
 
 pub returns : goal.returns
 unfolding starter
