@@ -24,3 +24,4 @@ pub mod Readings
 pub mod Replies
 pub mod Scripts
 pub mod ScriptsAlike
+pub mod Playing
