@@ -10,3 +10,4 @@ pub mod StarterPlace
 pub mod Submissions
 pub mod Tenants
 pub mod Turns
+pub mod PastTurns

@@ -2,10 +2,12 @@
 ghost use Rattle.std.specs.Prelude.{◌≡◌, ◌≢◌, ◌<◌, ◌≤◌, ℕ, false, IfOk};
 ghost use Rattle.wb_model.specs.Refusals.{turns_spent as turns_spent_told, no_memory as no_memory_told};
 ghost use Rattle.wb_model.specs.Requests.{Frame};
-ghost use Rattle.wb_model.specs.Starter.{starter};
+ghost use Rattle.wb_model.specs.Starter.{starter, starter_opening};
 ghost use Rattle.wb_model.specs.Tenants.{Hosts, AllHostsAlike, OneLaterAlike, is_report_reader, hosts_reply, hosts_after};
 ghost use Rattle.wb_desk.specs.Standing.{hosts_of, counts_of};
-ghost use Rattle.wb_desk.specs.Turns.{IsTurn};
+ghost use Rattle.wb_model.specs.Past.{Past, Opening};
+ghost use Rattle.wb_model.specs.Pasts.{AllOpened};
+ghost use Rattle.wb_desk.specs.Turns.{IsTurn, IsTurnOf, StandsFor};
 
 use crate::counts::{Counts, count};
 use crate::plan::At;
@@ -16,7 +18,9 @@ use std::alloc::Global;
 use std::marker::Model;
 use wb_base::{Keeper, Memory, Moment, Words};
 use wb_custody::SealedTable;
-use wb_model::{Asked, Body, Told};
+use wb_model::{
+    Asked, Body, Told, a_turn_keeps_all_hosts_alike, hosts_stand_for_their_past,
+};
 
 /// How many turns a host makes.
 const TURNS: u64 = 1_000_000_000_000_000;
@@ -65,8 +69,10 @@ fn turns_spent() -> Told
 impl Desk {
     /// The starter host: one tenant with four users, one form and two contexts, and a standing session of the first user.
     pub fn starter(alloc: Global) -> Result<Desk, Memory>
-        ensures { IfOk result (λ desk. hosts_of desk ≡ starter) }
+        ensures hosts { IfOk result (λ desk. hosts_of desk ≡ starter) }
+        ensures past { IfOk result (λ desk. StandsFor (hosts_of desk) (Opening starter_opening)) }
     {
+        hosts_stand_for_their_past();
         let Some(time) = Moment::try_new(0) else {
             unreachable!();
         };
@@ -126,6 +132,8 @@ impl Desk {
     ) -> Told
         ensures spent { 1_000_000_000_000_000 ≤ self.old.turns → (result ≡ turns_spent_told) × (self.new ≡ self.old) }
         ensures turn { self.old.turns < 1_000_000_000_000_000 → IsTurn (hosts_of self.old) (record { moment = moment; words = words.now; asked = asked.now }) result (hosts_of self.new) }
+        // The same said of each past that the desk stands for.
+        ensures past { self.old.turns < 1_000_000_000_000_000 → (past : Past AllOpened) → StandsFor (hosts_of self.old) past → IsTurnOf past (record { moment = moment; words = words.now; asked = asked.now }) result (hosts_of self.new) }
         // But to r's readers the reply is the same whatever identity answers report r of tenant t has.
         ensures alike_reply { self.old.turns < 1_000_000_000_000_000 → result ≢ no_memory_told → (t r : ℕ) (k : Hosts) (b : Frame) → AllHostsAlike t r (hosts_of self.old) k → OneLaterAlike t r (hosts_of self.old) (record { moment = moment; words = words.now; asked = asked.now }) b → is_report_reader t r (hosts_of self.old) (record { moment = moment; words = words.now; asked = asked.now }) ≡ false → result ≡ hosts_reply k b }
         // And the tables after it are the same but for them.
@@ -135,6 +143,8 @@ impl Desk {
         if self.turns >= TURNS {
             return turns_spent();
         }
+        hosts_stand_for_their_past();
+        a_turn_keeps_all_hosts_alike();
         self.turned(asked, moment, words)
     }
 }

@@ -1,3 +1,11 @@
+pub mod Found
 pub mod Unwinding
-pub mod TenantScripts
+pub mod AllTenants
 pub mod StarterForm
+pub mod Drawn
+pub mod Fitting
+pub mod Placed
+pub mod PastLaw
+pub mod TurnLaw
+pub mod PartLaw
+pub mod ScriptLaw

@@ -1,5 +1,5 @@
 -- One turn keeps hosts alike, and its reply is the same but to a reader.
-use Rattle.std.proofs.Common.{zero, suc, ◌≡◌, ◌≢◌, ◌⊎◌, inl, inr, ℕ, ◌+◌, Bool, true, false, cond, eqb, List, [], ◌∷◌, Option, Some, None, refl, sym, ap, ◌∙◌, subst, arith}
+use Rattle.std.proofs.Common.{◌≡◌, ◌≢◌, ◌⊎◌, inl, inr, ℕ, ◌+◌, Bool, true, false, cond, eqb, [], Option, Some, None, refl, sym, ap, ◌∙◌, subst, arith}
 use Rattle.std.specs.Prelude.{filter, max}
 use Rattle.std.proofs.lemmas.Bool.Decides.{nat_tests}
 use Rattle.wb_base.specs.declared.faults.AnswerFault.{AnswerFault}
@@ -14,8 +14,8 @@ use Rattle.wb_model.specs.Tables.{Registry, Plain, Case, Who, TheReporter, is_th
 use Rattle.wb_model.specs.Targets.{Target, Nobody, Alone, On, target, trail_at}
 use Rattle.wb_model.specs.Requests.{Frame, Outcome, Checked, Request, outline, outcome, asking_form, form_of_trail, submission_outcome, identity_outcome, submission_fault, late_fault, public, mark, plain_part, sealed_part}
 use Rattle.wb_model.specs.Rules.{At, Change, Opens, Notes, Act, Looks, Writes, acted, Deal, Passes, Submits, dealt, deal_of, act_of, Answer, Says, Shows_own, Shows_identity, Verdict, Refused, Accepted, judged, refusal_on, answer_on, answer_alone, verdict, verdict_on}
-use Rattle.wb_model.specs.Host.{Sealed, Tables, Host, live_cases, purged, plain_after, sealed_under, sealed_after, changed, change_by, reply_by, at_frame, time_at, purge_at, ruling_at, reply_to, tables_after, host_after, replies_from}
-use Rattle.wb_model.specs.Alike.{TablesAlike, HostsAlike, may_see, is_reader, FramesAlike, SubmissionsAlike, IdentitiesAlike, LaterAlike, AllLaterAlike, hidden, is_refused, After, ScriptsAlike}
+use Rattle.wb_model.specs.Host.{Sealed, Tables, Host, live_cases, purged, plain_after, sealed_under, sealed_after, changed, change_by, reply_by, at_frame, time_at, purge_at, ruling_at, reply_to, tables_after, host_after}
+use Rattle.wb_model.specs.Alike.{TablesAlike, HostsAlike, may_see, is_reader, FramesAlike, SubmissionsAlike, IdentitiesAlike, LaterAlike}
 
 -- ---- the purge
 
@@ -246,41 +246,5 @@ submission_unread r h a b s =
     ap (may_see r (time_at h a) (purge_at h a).plain.registry (target (purge_at h a).plain a.asked.session (outline a.asked.command))) s.left
     ∙ ap (λ t. may_see r (time_at h a) (purge_at h a).plain.registry t (commands.Submit s.tenant s.context s.given)) (ap (λ c. target (purge_at h a).plain a.asked.session (outline c)) s.left)
 
--- ---- scripts
-
-pub hide_same : (b : Bool) (x y : Told) → (b ≡ false → x ≡ y) → cond b None (Some x) ≡ cond b None (Some y)
-hide_same true x y h = refl
-hide_same false x y h = ap Some (h refl)
-
-pub later_replies : (r : ℕ) (h k : Host) (xs ys : List Frame) → HostsAlike r h k → AllLaterAlike r h xs ys → hidden r h xs (replies_from h xs) ≡ hidden r h xs (replies_from k ys)
-later_replies r h k [] [] al l = refl
-later_replies r h k [] (b ∷ ys) al l = absurd l
-later_replies r h k (a ∷ xs) [] al l = absurd l
-later_replies r h k (a ∷ xs) (b ∷ ys) al l =
-    ap (λ o. o ∷ hidden r (host_after h a) xs (replies_from (host_after h a) xs)) (hide_same (is_reader r h a) _ _ (turn_reply r h k a b al (later_frames r h a b l.0)))
-    ∙ ap (λ os. cond (is_reader r h a) None (Some (reply_to k b)) ∷ os) (later_replies r (host_after h a) (host_after k b) xs ys (turn_host r h k a b al (later_frames r h a b l.0) (later_secrets r h a b l.0)) l.1)
-
-all_later_same : (r : ℕ) (h : Host) (xs : List Frame) → AllLaterAlike r h xs xs
-all_later_same r h [] = tt
-all_later_same r h (a ∷ xs) = (inl refl, all_later_same r (host_after h a) xs)
-
-after_later : (refused : Bool) (r : ℕ) (h : Host) (xs ys : List Frame) → After refused r h xs ys → AllLaterAlike r h xs ys
-after_later true r h xs ys e = subst (AllLaterAlike r h xs) e (all_later_same r h xs)
-after_later false r h xs ys l = l
-
 pub same_host : (r : ℕ) (h : Host) → HostsAlike r h h
 same_host r h = record { turns = refl; now = refl; tables = record { plain = refl; others = λ q ne. refl } }
-
--- the replies to alike scripts are the same but to r's readers
-pub alike_replies : (i r : ℕ) (h : Host) (xs ys : List Frame) → ScriptsAlike i r h xs ys → hidden r h xs (replies_from h xs) ≡ hidden r h xs (replies_from h ys)
-alike_replies i r h [] ys l = absurd l
-alike_replies i r h (a ∷ xs) [] l = absurd l
-alike_replies zero r h (a ∷ xs) (b ∷ ys) l =
-    ap (λ o. o ∷ hidden r (host_after h a) xs (replies_from (host_after h a) xs)) (hide_same (is_reader r h a) _ _ (turn_reply r h h a b (same_host r h) (submissions_frames _ a b l.1)))
-    ∙ ap (λ os. cond (is_reader r h a) None (Some (reply_to h b)) ∷ os)
-    (later_replies r (host_after h a) (host_after h b) xs ys
-    (turn_host r h h a b (same_host r h) (submissions_frames _ a b l.1) (submission_secrets r h a b l.0 l.1))
-    (after_later (is_refused (ruling_at h a)) r (host_after h a) xs ys l.2))
-alike_replies (suc i) r h (a ∷ xs) (b ∷ ys) l =
-    subst (λ f. hidden r h (a ∷ xs) (replies_from h (a ∷ xs)) ≡ hidden r h (a ∷ xs) (replies_from h (f ∷ ys))) l.0
-    (ap (λ os. cond (is_reader r h a) None (Some (reply_to h a)) ∷ os) (alike_replies i r (host_after h a) xs ys l.1))

@@ -1,7 +1,6 @@
--- Hosts and scripts that differ in one report's valid identity answers alone, and who may read them.
-use Rattle.std.specs.Prelude.{◌≡◌, ◌≢◌, ◌⊎◌, ℕ, zero, suc, ◌+◌, ◌==◌, ◌&&◌, Bool, true, false, if◌then◌else◌, List, [], ◌∷◌, Option, Some, None}
+-- Hosts and requests that differ in one report's valid identity answers alone, and who may read them.
+use Rattle.std.specs.Prelude.{◌≡◌, ◌≢◌, ◌⊎◌, ℕ, ◌==◌, ◌&&◌, Bool, true, false, [], Some, None}
 use Rattle.wb_base.specs.AnswerList.{Answered}
-use Rattle.wb_model.specs.declared.body.Told.{Told}
 use Rattle.wb_model.specs.declared.command.Command.{Command}
 use Rattle.wb_model.specs.declared.command.Command.TheVariants as commands
 use Rattle.wb_model.specs.declared.registry.FormItem.{FormItem}
@@ -11,7 +10,7 @@ use Rattle.wb_model.specs.Tables.{Registry, Plain, Case, Who, TheUser, TheReport
 use Rattle.wb_model.specs.Targets.{Target, On, target}
 use Rattle.wb_model.specs.Requests.{Frame, outline, asking_form, form_of_trail, submission_fault, late_fault, public, mark, plain_part}
 use Rattle.wb_model.specs.Rules.{Verdict, Refused, Accepted}
-use Rattle.wb_model.specs.Host.{Tables, Host, time_at, purge_at, ruling_at, host_after}
+use Rattle.wb_model.specs.Host.{Tables, Host, time_at, purge_at}
 
 -- ---- hosts
 
@@ -88,36 +87,12 @@ pub record IdentitiesAlike (r : ℕ) (p : Plain) (a b : Frame) : Type 0 where
   pub valid : late_fault item.form (trails.answers case.trail) given ≡ None
   pub other_valid : late_fault item.form (trails.answers case.trail) other ≡ None
 
--- ---- scripts
+-- ---- later requests
 
 -- a later place: equal, or two identities of r
 abbrev pub LaterAlike : ℕ → Host → Frame → Frame → Type 0
 LaterAlike r h a b = (a ≡ b) ⊎ IdentitiesAlike r (purge_at h a).plain a b
 
-abbrev pub AllLaterAlike : ℕ → Host → List Frame → List Frame → Type 0
-AllLaterAlike r h [] [] = Unit {0}
-AllLaterAlike r h (a ∷ xs) [] = ⊥
-AllLaterAlike r h [] (b ∷ ys) = ⊥
-AllLaterAlike r h (a ∷ xs) (b ∷ ys) = LaterAlike r h a b × AllLaterAlike r (host_after h a) xs ys
-
 abbrev pub is_refused : Verdict → Bool
 is_refused (Refused refusal) = true
 is_refused (Accepted change answer) = false
-
--- what may follow the submission of r: where it was refused, the same
-abbrev pub After : Bool → ℕ → Host → List Frame → List Frame → Type 0
-After true r h xs ys = xs ≡ ys
-After false r h xs ys = AllLaterAlike r h xs ys
-
--- the scripts differ in the submission at place i, which draws the number r, and in the identities that r's reporter gives later
-abbrev pub ScriptsAlike : ℕ → ℕ → Host → List Frame → List Frame → Type 0
-ScriptsAlike i r h [] ys = ⊥
-ScriptsAlike i r h (a ∷ xs) [] = ⊥
-ScriptsAlike zero r h (a ∷ xs) (b ∷ ys) = (r ≡ h.tables.plain.numbering.last + 1) × SubmissionsAlike (purge_at h a).plain a b × After (is_refused (ruling_at h a)) r (host_after h a) xs ys
-ScriptsAlike (suc i) r h (a ∷ xs) (b ∷ ys) = (a ≡ b) × ScriptsAlike i r (host_after h a) xs ys
-
--- the replies, but at the places where one of r's readers asks
-abbrev pub hidden : ℕ → Host → List Frame → List Told → List (Option Told)
-hidden r h [] replies = []
-hidden r h (f ∷ fs) [] = []
-hidden r h (f ∷ fs) (reply ∷ replies) = (if is_reader r h f then None else Some reply) ∷ hidden r (host_after h f) fs replies

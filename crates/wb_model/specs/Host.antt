@@ -130,15 +130,3 @@ host_after h f = record { turns = h.turns + 1; now = time_at h f; tables = table
 -- the host after a turn that was answered with want of memory or a keeper's fault: its purges are made at the next turn
 abbrev pub host_lost : Host → Frame → Host
 host_lost h f = record { turns = h.turns + 1; now = time_at h f; tables = h.tables }
-
--- the host after a turn that only drew a number
-abbrev pub host_gap : Host → Frame → Host
-host_gap h f = record { turns = h.turns + 1; now = time_at h f; tables = changed (time_at h f) Draws None (purge_at h f) }
-
-abbrev pub replies_from : Host → List Frame → List Told
-replies_from h [] = []
-replies_from h (f ∷ fs) = reply_to h f ∷ replies_from (host_after h f) fs
-
-abbrev pub host_after_all : Host → List Frame → Host
-host_after_all h [] = h
-host_after_all h (f ∷ fs) = host_after_all (host_after h f) fs

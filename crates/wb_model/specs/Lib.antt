@@ -13,5 +13,15 @@ pub mod Rules
 pub mod Host
 pub mod Alike
 pub mod Tenants
+pub mod Past
+pub mod Pasts
 pub mod Fits
 pub mod Starter
+pub mod FrameTexts
+pub mod Heads
+pub mod Bodies
+pub mod Readings
+pub mod Replies
+pub mod Scripts
+pub mod ScriptsAlike
+pub mod Playing

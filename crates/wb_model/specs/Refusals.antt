@@ -31,6 +31,10 @@ wrong_role = refused 403 (codes "role")
 unfoldable pub wrong_right : Told
 wrong_right = refused 403 (codes "right")
 
+-- the keeper failed
+unfoldable pub keeper_failed : Told
+keeper_failed = refused 503 (codes "keeper")
+
 unfoldable pub no_memory : Told
 no_memory = refused 507 (codes "no_memory")
 

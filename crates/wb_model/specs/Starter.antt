@@ -1,5 +1,6 @@
 -- The starter host: one tenant with four users, one form and two contexts, and a standing session of the first user.
 use Rattle.std.specs.Prelude.{ℕ, List, [], ◌∷◌, Bool, true, false, None, pos, codes, replicate}
+use Rattle.std.proofs.Common.{arith}
 use Rattle.wb_base.specs.declared.callers.Role.{Role}
 use Rattle.wb_base.specs.declared.callers.Role.TheVariants as roles
 use Rattle.wb_base.specs.declared.form.Form.{Form}
@@ -11,7 +12,9 @@ use Rattle.wb_model.specs.declared.registry.ContextItem.{ContextItem}
 use Rattle.wb_model.specs.declared.registry.UserItem.{UserItem}
 use Rattle.wb_model.specs.Secrets.{digest}
 use Rattle.wb_model.specs.Tables.{Registry, Session, TheUser}
+use Rattle.wb_model.specs.Host.{Tables}
 use Rattle.wb_model.specs.Tenants.{Hosts}
+use Rattle.wb_model.specs.Pasts.{AllOpened}
 
 -- ---- the form
 
@@ -77,16 +80,16 @@ starter_registry = record {
 unfoldable pub starter_session : Session
 starter_session = record { turn = 0; digest = digest starter_salt (replicate 32 48); role = roles.Recipient; who = TheUser 1; at = 99_999_999_999 }
 
+abbrev pub starter_tables : Tables
+starter_tables = record {
+  plain = record { registry = starter_registry; numbering = record { at = 0; drawn = 0; last = 0 }; cases = []; sessions = starter_session ∷ [] };
+  sealed = λ n. None;
+}
+
 -- the host before its first turn
 unfoldable pub starter : Hosts
-starter = record {
-  turns = 0;
-  now = 0;
-  list = record {
-    id = 1;
-    tables = record {
-      plain = record { registry = starter_registry; numbering = record { at = 0; drawn = 0; last = 0 }; cases = []; sessions = starter_session ∷ [] };
-      sealed = λ n. None;
-    };
-  } ∷ [];
-}
+starter = record { turns = 0; now = 0; list = record { id = 1; tables = starter_tables } ∷ [] }
+
+-- it as an opening: at moment 0, with one tenant
+unfoldable pub starter_opening : AllOpened
+starter_opening = record { at = 0; tenants = 1 ∷ []; tables = λ t. starter_tables; sound = λ t. record { ascend = tt; most = tt; drawn = omega arith } }

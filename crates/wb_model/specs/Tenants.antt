@@ -1,5 +1,5 @@
 -- The host of several tenants: each is a host of its own, and time and turns are one.
-use Rattle.std.specs.Prelude.{◌≡◌, ◌⊎◌, ℕ, zero, suc, ◌+◌, ◌==◌, ◌&&◌, max, Bool, true, false, if◌then◌else◌, List, [], ◌∷◌, map, find, Option, Some, None}
+use Rattle.std.specs.Prelude.{◌≡◌, ◌⊎◌, ℕ, ◌+◌, ◌==◌, ◌&&◌, max, Bool, true, false, if◌then◌else◌, List, [], ◌∷◌, map, find, Option, Some, None}
 use Rattle.wb_model.specs.declared.body.Told.{Told}
 use Rattle.wb_model.specs.declared.command.Command.{Command}
 use Rattle.wb_model.specs.declared.command.Command.TheVariants as commands
@@ -87,14 +87,6 @@ hosts_after h f = record { turns = h.turns + 1; now = max h.now f.moment; list =
 abbrev pub hosts_lost : Hosts → Frame → Hosts
 hosts_lost h f = record { turns = h.turns + 1; now = max h.now f.moment; list = h.list }
 
-abbrev pub hosts_replies : Hosts → List Frame → List Told
-hosts_replies h [] = []
-hosts_replies h (f ∷ fs) = hosts_reply h f ∷ hosts_replies (hosts_after h f) fs
-
-abbrev pub hosts_after_all : Hosts → List Frame → Hosts
-hosts_after_all h [] = h
-hosts_after_all h (f ∷ fs) = hosts_after_all (hosts_after h f) fs
-
 -- ---- alike but for the identity answers of report r of tenant t
 
 abbrev pub OneAlike : Bool → ℕ → Tables → Tables → Type 0
@@ -121,12 +113,6 @@ OnTenant t (x ∷ xs) P = (x.id ≡ t → P x.tables) × OnTenant t xs P
 abbrev pub OneLaterAlike : ℕ → ℕ → Hosts → Frame → Frame → Type 0
 OneLaterAlike t r h a b = (a ≡ b) ⊎ ((tenant_at a ≡ t) × (tenant_at b ≡ t) × OnTenant t h.list (λ x. LaterAlike r (one h.turns h.now x) a b) × (a.moment ≡ b.moment))
 
-abbrev pub EachLaterAlike : ℕ → ℕ → Hosts → List Frame → List Frame → Type 0
-EachLaterAlike t r h [] [] = Unit {0}
-EachLaterAlike t r h (a ∷ xs) [] = ⊥
-EachLaterAlike t r h [] (b ∷ ys) = ⊥
-EachLaterAlike t r h (a ∷ xs) (b ∷ ys) = OneLaterAlike t r h a b × EachLaterAlike t r (hosts_after h a) xs ys
-
 abbrev pub is_reader_in : ℕ → ℕ → Hosts → Frame → Option Tenancy → Bool
 is_reader_in t r h f None = false
 is_reader_in t r h f (Some x) = (x.id == t) && is_reader r (one h.turns h.now x.tables) f
@@ -135,26 +121,10 @@ is_reader_in t r h f (Some x) = (x.id == t) && is_reader r (one h.turns h.now x.
 abbrev pub is_report_reader : ℕ → ℕ → Hosts → Frame → Bool
 is_report_reader t r h f = is_reader_in t r h f (find (has_id (tenant_at f)) h.list)
 
--- the replies, but at the places where one of those readers asks
-abbrev pub hidden_replies : ℕ → ℕ → Hosts → List Frame → List Told → List (Option Told)
-hidden_replies t r h [] replies = []
-hidden_replies t r h (f ∷ fs) [] = []
-hidden_replies t r h (f ∷ fs) (reply ∷ replies) = (if is_report_reader t r h f then None else Some reply) ∷ hidden_replies t r (hosts_after h f) fs replies
-
 abbrev pub refused_in : Hosts → Frame → Option Tenancy → Bool
 refused_in h f None = true
 refused_in h f (Some x) = is_refused (ruling_at (one h.turns h.now x.tables) f)
 
--- what may follow the submission: where it was refused, the same
-abbrev pub AfterSubmission : Bool → ℕ → ℕ → Hosts → List Frame → List Frame → Type 0
-AfterSubmission true t r h xs ys = xs ≡ ys
-AfterSubmission false t r h xs ys = EachLaterAlike t r h xs ys
-
--- the scripts differ in the submission at place i, to tenant t, which draws the number r, and in the identities that r's reporter gives later
-abbrev pub AllScriptsAlike : ℕ → ℕ → ℕ → Hosts → List Frame → List Frame → Type 0
-AllScriptsAlike i t r h [] ys = ⊥
-AllScriptsAlike i t r h (a ∷ xs) [] = ⊥
-AllScriptsAlike zero t r h (a ∷ xs) (b ∷ ys) =
-    (tenant_at a ≡ t) × (tenant_at b ≡ t) × OnTenant t h.list (λ x. (r ≡ x.plain.numbering.last + 1) × SubmissionsAlike (purge_at (one h.turns h.now x) a).plain a b) × (a.moment ≡ b.moment)
-    × AfterSubmission (refused_in h a (find (has_id t) h.list)) t r (hosts_after h a) xs ys
-AllScriptsAlike (suc i) t r h (a ∷ xs) (b ∷ ys) = (a ≡ b) × AllScriptsAlike i t r (hosts_after h a) xs ys
+-- two submissions to tenant t that are alike, of which the first draws the number r
+abbrev pub FirstAlike : ℕ → ℕ → Hosts → Frame → Frame → Type 0
+FirstAlike t r h a b = (tenant_at a ≡ t) × (tenant_at b ≡ t) × OnTenant t h.list (λ x. (r ≡ x.plain.numbering.last + 1) × SubmissionsAlike (purge_at (one h.turns h.now x) a).plain a b) × (a.moment ≡ b.moment)

@@ -1,0 +1,293 @@
+-- One tenant's host as the list of its past turns, the newest outermost: every fact is a filter of it, or the last of its kind.
+use Rattle.std.specs.Prelude.{ℕ, ◌+◌, ◌==◌, ◌&&◌, ◌<◌, ◌≤◌, max, Bool, true, false, if◌then◌else◌, List, [], ◌∷◌, ◌++◌, map, filter, Option, Some, None, option_map, ℤ}
+use Rattle.std.specs.Ordering.{int_eq}
+use Rattle.wb_base.specs.declared.callers.Principal.{Principal}
+use Rattle.wb_base.specs.declared.callers.Principal.TheVariants as principals
+use Rattle.wb_base.specs.AnswerList.{Answered}
+use Rattle.wb_base.specs.Days.{day_of}
+use Rattle.wb_model.specs.declared.body.Told.{Told}
+use Rattle.wb_model.specs.declared.command.Asked.{Asked}
+use Rattle.wb_model.specs.declared.command.Command.{Command}
+use Rattle.wb_model.specs.declared.command.Command.TheVariants as commands
+use Rattle.wb_model.specs.declared.entry.Entry.{Entry}
+use Rattle.wb_model.specs.declared.event.Event.{Event}
+use Rattle.wb_model.specs.declared.event.What.{What}
+use Rattle.wb_model.specs.declared.event.What.TheVariants.{Did, Gap, Idle, Lost}
+use Rattle.wb_model.specs.declared.numbering.Numbering.{Numbering}
+use Rattle.wb_model.specs.Tables.{Registry, Plain, Case, Session, Who, TheUser, TheReporter, report, is_live, is_there, lasts, drawn_on}
+use Rattle.wb_model.specs.Targets.{Need, Names, need, Target, Nobody, Alone, On, target}
+use Rattle.wb_model.specs.Requests.{Frame, outline, outcome, secret_of}
+use Rattle.wb_model.specs.Rules.{At, Change, Nothing, Draws, Opens, Notes, acted, act_of, dealt, deal_of, Verdict, Refused, Accepted}
+use Rattle.wb_model.specs.Host.{Tables, Host, is_draw, reply_by, ruling}
+
+-- ---- the list
+
+-- the reports' numbers ascend from above this one
+abbrev pub Ascend : ℕ → List Case → Type 0
+Ascend k [] = Unit {0}
+Ascend k (c ∷ cs) = (k < c.number) × Ascend c.number cs
+
+-- no report has a number above this one
+abbrev pub AtMost : ℕ → List Case → Type 0
+AtMost k [] = Unit {0}
+AtMost k (c ∷ cs) = (c.number ≤ k) × AtMost k cs
+
+-- tables that a host may be opened with: the reports' numbers ascend and were drawn, and no draw is to come
+pub record AreOpened (at : ℕ) (t : Tables) : Type 0 where
+  pub ascend : Ascend 0 t.plain.cases
+  pub most : AtMost t.plain.numbering.last t.plain.cases
+  pub drawn : t.plain.numbering.at ≤ at
+
+-- one tenant's opening: a moment, and the tables
+pub record Opened : Type 0 where
+  pub at : ℕ
+  pub tables : Tables
+  pub sound : AreOpened at tables
+
+-- an opening, and the turns since
+pub data Past (O : Type 0) : Type 0 where
+  Opening : O → Past O
+  Turn : Event → Past O → Past O
+
+-- ---- time and turns
+
+abbrev pub turns : {O : Type 0} → Past O → ℕ
+turns (Opening o) = 0
+turns (Turn e past) = turns past + 1
+
+-- the greatest moment
+abbrev pub now : Past Opened → ℕ
+now (Opening o) = o.at
+now (Turn e past) = max (now past) e.moment
+
+-- the turn that an event was
+abbrev pub at_of : Past Opened → Event → At
+at_of past e = record { time = max (now past) e.moment; turn = turns past + 1; words = e.words }
+
+-- ---- what a turn changed
+
+abbrev pub who_of : Principal → Who
+who_of (principals.User t u) = TheUser u
+who_of (principals.Report t n) = TheReporter n
+
+abbrev pub named : Need → Option ℕ
+named (Names role right n) = Some n
+named _ = None
+
+-- the report that a command was on: a reporter's own, or the one that the command names
+abbrev pub place_of : Command → Option Principal → Option ℕ
+place_of command None = None
+place_of command (Some (principals.User t u)) = named (need command)
+place_of command (Some (principals.Report t n)) = Some n
+
+-- the report that an event was on
+abbrev pub about : What → Option ℕ
+about (Did asked by) = place_of asked.command by
+about _ = None
+
+-- what an accepted command changed that was on no report
+abbrev pub alone_by : At → Registry → Asked → Option Principal → Option ℕ → Change
+alone_by at g a by None = dealt (deal_of at g (option_map who_of by) (outcome g [] a.command) (outline a.command))
+alone_by at g a by (Some n) = Nothing
+
+-- what it changed, with the trail of the report that it was on
+abbrev pub change_by : At → Registry → List Entry → Asked → Option Principal → Option ℕ → Change
+change_by at g trail a by None = alone_by at g a by None
+change_by at g trail a None (Some n) = Nothing
+change_by at g trail a (Some by) (Some n) = acted n (act_of at g (who_of by) trail (outline a.command))
+
+abbrev pub alone_in : What → At → Registry → Change
+alone_in (Did asked by) at g = alone_by at g asked by (place_of asked.command by)
+alone_in (Gap t) at g = Draws
+alone_in Idle at g = Nothing
+alone_in Lost at g = Nothing
+
+abbrev pub change_in : What → At → Registry → List Entry → Change
+change_in (Did asked by) at g trail = change_by at g trail asked by (place_of asked.command by)
+change_in (Gap t) at g trail = Draws
+change_in Idle at g trail = Nothing
+change_in Lost at g trail = Nothing
+
+-- the identity answers that an event gave
+abbrev pub secret_in : What → Registry → Option Answered
+secret_in (Did asked by) g = secret_of g asked.command
+secret_in _ g = None
+
+-- ---- facts of the tenant
+
+-- no command changes it yet
+abbrev pub registry : Past Opened → Registry
+registry (Opening o) = o.tables.plain.registry
+registry (Turn e past) = registry past
+
+abbrev pub alone_at : Past Opened → Event → Change
+alone_at past e = alone_in e.what (at_of past e) (registry past)
+
+-- the turn drew a number: it was an accepted submission, or a draw for no report
+abbrev pub drew : Past Opened → Event → Bool
+drew past e = is_draw (alone_at past e)
+
+-- the last number drawn
+abbrev pub last : Past Opened → ℕ
+last (Opening o) = o.tables.plain.numbering.last
+last (Turn e past) = if drew past e then last past + 1 else last past
+
+-- the host's time at the last draw
+abbrev pub drawn_at : Past Opened → ℕ
+drawn_at (Opening o) = o.tables.plain.numbering.at
+drawn_at (Turn e past) = if drew past e then (at_of past e).time else drawn_at past
+
+-- the tenant's day of a moment
+abbrev pub day : Past Opened → ℕ → ℤ
+day past moment = day_of moment (registry past).settings.offset
+
+-- how many numbers were drawn on a day
+abbrev pub drawn : Past Opened → ℤ → ℕ
+drawn (Opening o) d = drawn_on d o.tables.plain.registry.settings o.tables.plain.numbering
+drawn (Turn e past) d = if drew past e && int_eq (day past (at_of past e).time) d then drawn past d + 1 else drawn past d
+
+abbrev pub numbering : Past Opened → Numbering
+numbering past = record { at = drawn_at past; drawn = drawn past (day past (drawn_at past)); last = last past }
+
+-- ---- facts of a report
+
+abbrev pub numbers_after : Change → ℕ → List ℕ → List ℕ
+numbers_after (Opens entry) last numbers = numbers ++ (last + 1) ∷ []
+numbers_after _ last numbers = numbers
+
+-- the numbers of all reports, in the order in which they were drawn
+abbrev pub numbers : Past Opened → List ℕ
+numbers (Opening o) = map (λ c. c.number) o.tables.plain.cases
+numbers (Turn e past) = numbers_after (alone_at past e) (last past) (numbers past)
+
+abbrev pub entries_of : Option Case → List Entry
+entries_of None = []
+entries_of (Some c) = c.trail
+
+-- the trail of the report that an event was on
+abbrev pub trail_of : Option ℕ → (ℕ → List Entry) → List Entry
+trail_of None trails = []
+trail_of (Some n) trails = trails n
+
+-- r's trail after a change: an entry on r counts while r is live
+abbrev pub grown : Change → ℕ → ℕ → Bool → List Entry → List Entry
+grown (Opens entry) last r lives trail = if last + 1 == r then entry ∷ [] else trail
+grown (Notes n entry) last r lives trail = if (n == r) && lives then trail ++ entry ∷ [] else trail
+grown _ last r lives trail = trail
+
+abbrev pub lives_at : Registry → ℕ → ℕ → List Entry → Bool
+lives_at g time r trail = is_live g.settings time (record { number = r; trail = trail })
+
+-- r's trail: one entry for each accepted command on r
+abbrev pub trail : Past Opened → ℕ → List Entry
+trail (Opening o) r = entries_of (report r o.tables.plain.cases)
+trail (Turn e past) r = let at = at_of past e in
+    grown (change_in e.what at (registry past) (trail_of (about e.what) (trail past))) (last past) r (lives_at (registry past) at.time r (trail past r)) (trail past r)
+
+-- what a turn changed
+abbrev pub change_at : Past Opened → Event → Change
+change_at past e = change_in e.what (at_of past e) (registry past) (trail_of (about e.what) (trail past))
+
+-- r is live at a moment
+abbrev pub live : Past Opened → ℕ → ℕ → Bool
+live past r time = lives_at (registry past) time r (trail past r)
+
+abbrev pub newer : Option Answered → Option Answered → Option Answered
+newer None before = before
+newer (Some given) before = Some given
+
+abbrev pub given : Change → ℕ → ℕ → Bool → Option Answered → Option Answered → Option Answered
+given (Opens entry) last r lives secret before = if last + 1 == r then secret else before
+given (Notes n entry) last r lives secret before = if (n == r) && lives then newer secret before else before
+given _ last r lives secret before = before
+
+-- the identity answers that were given last for r
+abbrev pub sealed : Past Opened → ℕ → Option Answered
+sealed (Opening o) r = o.tables.sealed r
+sealed (Turn e past) r = given (change_at past e) (last past) r (live past r (at_of past e).time) (secret_in e.what (registry past)) (sealed past r)
+
+-- ---- the tables
+
+abbrev pub case_of : Past Opened → ℕ → Case
+case_of past n = record { number = n; trail = trail past n }
+
+-- the reports that are live at a moment
+abbrev pub live_reports : Past Opened → ℕ → List Case
+live_reports past time = filter (is_live (registry past).settings time) (map (case_of past) (numbers past))
+
+-- the sessions that stood at each turn so far: no command makes one yet
+abbrev pub sessions : Past Opened → List Session
+sessions (Opening o) = o.tables.plain.sessions
+sessions (Turn e past) = let at = at_of past e in filter (lasts at.time (live_reports past at.time)) (sessions past)
+
+-- those of them that stand at a moment
+abbrev pub standing_sessions : Past Opened → ℕ → List Session
+standing_sessions past time = filter (lasts time (live_reports past time)) (sessions past)
+
+abbrev pub plain : Past Opened → ℕ → Plain
+plain past time = record { registry = registry past; numbering = numbering past; cases = live_reports past time; sessions = standing_sessions past time }
+
+-- the tables at a moment
+abbrev pub tables : Past Opened → ℕ → Tables
+tables past time = record { plain = plain past time; sealed = λ n. if is_there n (live_reports past time) then sealed past n else None }
+
+abbrev pub is_lost : What → Bool
+is_lost Lost = true
+is_lost _ = false
+
+-- what the host holds: the tables at the last turn that was not lost
+abbrev pub held : Past Opened → Tables
+held (Opening o) = o.tables
+held (Turn e past) = if is_lost e.what then held past else tables (Turn e past) (now (Turn e past))
+
+-- the host that stands for a past
+abbrev pub standing : Past Opened → Host
+standing past = record { turns = turns past; now = now past; tables = held past }
+
+-- ---- a turn
+
+abbrev pub at_frame : Past Opened → Frame → At
+at_frame past f = record { time = max (now past) f.moment; turn = turns past + 1; words = f.words }
+
+-- the verdict on a request
+abbrev pub verdict_at : Past Opened → Frame → Verdict
+verdict_at past f = let at = at_frame past f in ruling (tables past at.time) at f.asked
+
+-- the reply to it
+abbrev pub reply_at : Past Opened → Frame → Told
+reply_at past f = reply_by (verdict_at past f) (tables past (at_frame past f).time).sealed
+
+abbrev pub target_at : Past Opened → Frame → Target
+target_at past f = target (plain past (at_frame past f).time) f.asked.session (outline f.asked.command)
+
+-- the commands of the routes that only read (GET)
+abbrev pub is_read : Command → Bool
+is_read commands.Health = true
+is_read (commands.Public t) = true
+is_read (commands.ContextOf t c) = true
+is_read (commands.OwnReport t) = true
+is_read (commands.List t) = true
+is_read (commands.DueList t) = true
+is_read (commands.ReadReport t n) = true
+is_read (commands.ReadIdentity t n) = true
+is_read (commands.Requests t) = true
+is_read (commands.Admin t) = true
+is_read _ = false
+
+abbrev pub principal : ℕ → Who → Principal
+principal t (TheUser u) = principals.User t u
+principal t (TheReporter n) = principals.Report t n
+
+-- an accepted command, and who asked it
+abbrev pub did : ℕ → Target → Asked → What
+did t (Nobody refusal) a = Idle
+did t (Alone who) a = Did a (option_map (principal t) who)
+did t (On who case) a = Did a (Some (principal t who))
+
+-- what the turn of a request to tenant t was
+abbrev pub what_by : Verdict → ℕ → Target → Asked → What
+what_by (Refused refusal) t on a = Idle
+what_by (Accepted change answer) t on a = if is_read a.command then Idle else did t on a
+
+abbrev pub what_at : ℕ → Past Opened → Frame → What
+what_at t past f = what_by (verdict_at past f) t (target_at past f) f.asked
