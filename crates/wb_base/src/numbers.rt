@@ -2,6 +2,7 @@
 ghost use Rattle.std.specs.Prelude.{◌≡◌, ◌≤◌, ◌<◌, ◌^◌, ℕ, ℤ, pos, neg_ℤ, ◌≤ℤ◌, SomeIff};
 
 use std::marker::Model;
+use wb_list::{Memory, TryClone};
 
 /// The id of a tenant, from 1 to 64.
 #[derive(Clone, Copy, Debug, PartialEq, Eq, PartialOrd, Ord)]
@@ -108,6 +109,12 @@ impl UserId {
         ensures high { self ≤ 256 }
     {
         self.0
+    }
+}
+
+impl TryClone for UserId {
+    fn try_clone(&self) -> Result<UserId, Memory> {
+        Ok(*self)
     }
 }
 

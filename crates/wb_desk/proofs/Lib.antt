@@ -1,7 +1,6 @@
 pub mod AlikeTurns
 pub mod CaseLists
 pub mod Counting
-pub mod EarlyDays
 pub mod Purges
 pub mod ReaderLists
 pub mod Requests

@@ -1,7 +1,6 @@
 //! What a turn is going to answer and to change. Here is all memory taken but for the tables' own.
 ghost use Rattle.std.specs.Prelude.{List, Option, ◌≡◌, ◌≢◌, ◌<◌, ◌+◌, true, false, Some, None, if◌then◌else◌, MatchOption, IfOk, OnOk, IfSome, option_map};
 ghost use Rattle.std.specs.Option.{option_copied};
-ghost use Rattle.wb_base.specs.Days.{day_of as day_at, IsEarlyDay, IsOffset};
 ghost use Rattle.wb_model.specs.Tables.{Who as WhoValue, context as context_by, newest_form as newest_form_by};
 ghost use Rattle.wb_model.specs.Json.{told};
 ghost use Rattle.wb_model.specs.Refusals.{faulty as faulty_told};
@@ -20,8 +19,8 @@ use crate::target::{Target, find_target};
 use crate::tenancy::{Case, Tenancy, Who};
 use std::alloc::Global;
 use wb_access::{digest, draw};
-use wb_base::{AnswerFault, Answers, Day, Memory, Moment, UserId, Words};
-use wb_list::Items;
+use wb_base::{AnswerFault, Answers, Memory, Moment, UserId, Words};
+use wb_list::TryClone;
 use wb_model::{Actor, Asked, Body, Command, ContextItem, Deed, Entry, FormItem, Told};
 use wb_terms::{ack_due, day_of, expiry, feedback_due};
 use wb_trigger::{Split, check};
@@ -84,28 +83,9 @@ fn newest_form(forms: &[FormItem], id: u32) -> Option<&FormItem>
     found
 }
 
-// The readers once more.
-fn copy_of(alloc: Global, readers: &[UserId]) -> Result<Items<UserId>, Memory>
-    ensures { IfOk result (λ copy. copy ≡ readers.now) }
-{
-    let copy = readers.iter().copied().collect(alloc)?;
-    Ok(Items::of(copy))
-}
-
-// The tenant's day of a moment, to which terms may be added since a moment has a bound.
-fn received_on(time: Moment, offset: i32) -> Day
-    requires { IsOffset offset }
-    ensures day { result ≡ day_at time offset }
-    ensures early { IsEarlyDay result }
-{
-    let _bounded = time.seconds();
-    day_of(time, offset)
-}
-
 // The entry with which a report begins.
 #[tactic(auto, unfolding(wb_model::specs::Rules::submission_entry))]
 fn first_entry(
-    alloc: Global,
     tenancy: &Tenancy,
     at: &At,
     context: &ContextItem,
@@ -117,7 +97,7 @@ fn first_entry(
     requires context { IsContext tenancy.now.forms context.now }
     ensures { IfOk result (λ entry. entry ≡ submission_entry (at_of at.now) (registry_of tenancy.now) (Checked None public mark) context.now item.now) }
 {
-    let received = received_on(at.time, tenancy.settings.offset);
+    let received = day_of(at.time, tenancy.settings.offset);
     let receipt = draw(&at.words);
     Ok(Entry {
         at: at.time,
@@ -130,7 +110,7 @@ fn first_entry(
             feedback_due: feedback_due(received, None),
             form: item.id,
             mark,
-            readers: copy_of(alloc, context.recipients.as_slice())?,
+            readers: context.recipients.try_clone()?,
             receipt: digest(&tenancy.settings.salt, receipt.as_slice()),
             received,
             version: item.version,
@@ -209,7 +189,7 @@ fn open_report(
         sealed,
         mark,
     } = split;
-    let entry = first_entry(alloc, tenancy, at, context, item, public, mark)?;
+    let entry = first_entry(tenancy, at, context, item, public, mark)?;
     Ok(Plan {
         told,
         opening: Some(Opening {

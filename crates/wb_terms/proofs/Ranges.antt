@@ -5,7 +5,7 @@ use Rattle.jiff_core.specs.Calendar.{IsBetween, day_count, days_of_years, days_o
 use Rattle.jiff_core.specs.Date.{epoch_day}
 use Rattle.jiff_core.proofs.SignedLemmas.{signed_arith, signed_casts}
 use Rattle.jiff_core.proofs.CalendarLemmas.{days_from_civil-day_count, day_count-lt_year}
-use Rattle.wb_base.specs.Days.{IsDay, IsOffset, day_of}
+use Rattle.wb_base.specs.Days.{IsDay, IsEarlyDay, IsOffset, day_of}
 
 -- a day is kept by a cast to 32 bits
 pub day_cast : (z : ℤ) → IsDay z → to_z w32 (of_z w32 z) ≡ z
@@ -18,6 +18,10 @@ day_casts z h = omega (arith, signed_casts)
 -- the day of a moment is a day
 pub IsDay-day_of : (moment : ℕ) (offset : ℤ) → moment ≤ 99_999_999_999 → IsOffset offset → IsDay (day_of moment offset)
 IsDay-day_of moment offset high h = (omega (arith, signed_arith), omega (arith, signed_arith))
+
+-- .. and one to which terms may be added
+pub IsEarlyDay-day_of : (moment : ℕ) (offset : ℤ) → moment ≤ 99_999_999_999 → IsOffset offset → IsEarlyDay (day_of moment offset)
+IsEarlyDay-day_of moment offset high h = (omega (arith, signed_arith), omega (arith, signed_arith))
 
 known_1969 : days_from_civil (pos 1969) 12 31 +ℤ pos 1 ≡ pos 0
 unfolding days_from_civil day_count days_of_years days_of_months

@@ -2,7 +2,7 @@
 ghost use Rattle.std.specs.Prelude.{◌≡◌, pos};
 ghost use Rattle.jiff_core.specs.Calendar.{IsBetween};
 ghost use Rattle.jiff_core.specs.Date.{epoch_day};
-ghost use Rattle.wb_base.specs.Days.{IsDay, IsOffset, date_of as civil_of, day_of as day_at};
+ghost use Rattle.wb_base.specs.Days.{IsDay, IsEarlyDay, IsOffset, date_of as civil_of, day_of as day_at};
 
 use jiff_core::civil::Date;
 use wb_base::{Day, Moment};
@@ -11,7 +11,9 @@ use wb_base::{Day, Moment};
 /// at an offset from UTC in minutes, from -720 to 840.
 pub fn day_of(moment: Moment, offset: i32) -> Day
     requires { IsOffset offset }
-    ensures { result ≡ day_at moment offset }
+    ensures day { result ≡ day_at moment offset }
+    // The terms of a moment's day may be added to it.
+    ensures early { IsEarlyDay result }
 {
     let seconds = moment.seconds() as i64 + 60 * offset as i64;
     Day::new(seconds.div_euclid(86_400) as i32)

@@ -4,6 +4,7 @@ ghost use Rattle.wb_model.specs.Trails as trails;
 
 use std::alloc::Global;
 use wb_base::{Memory, UserId};
+use wb_list::TryClone;
 use wb_model::{Deed, Entry};
 
 // Where a reader goes: before the first that is greater.
@@ -26,21 +27,13 @@ fn remove(readers: &mut Vec<UserId>, user: UserId)
     readers.retain(|other| *other != user);
 }
 
-// Readers once more.
-fn copy(alloc: Global, readers: &[UserId]) -> Result<Vec<UserId>, Memory>
-    ensures { IfOk result (λ found. found.items ≡ readers.now) }
-{
-    let found = readers.iter().copied().collect(alloc)?;
-    Ok(found)
-}
-
 // The readers after an entry.
-fn change(alloc: Global, readers: &mut Vec<UserId>, entry: &Entry) -> Result<(), Memory>
+fn change(readers: &mut Vec<UserId>, entry: &Entry) -> Result<(), Memory>
     ensures { OnOk result (readers.new.items ≡ trails.readers_by readers.old.items entry.now.deed) }
 {
     match &entry.deed {
-        Deed::Submitted { readers: first, .. } => *readers = copy(alloc, first.as_slice())?,
-        Deed::Transferred { readers: next, .. } => *readers = copy(alloc, next.as_slice())?,
+        Deed::Submitted { readers: first, .. } => *readers = first.try_clone()?.into_vec(),
+        Deed::Transferred { readers: next, .. } => *readers = next.try_clone()?.into_vec(),
         Deed::Shared { user } => readers.insert(place(readers, *user), *user)?,
         Deed::Unshared { user } => remove(readers, *user),
         _ => (),
@@ -54,7 +47,7 @@ pub(crate) fn readers(alloc: Global, trail: &[Entry]) -> Result<Vec<UserId>, Mem
 {
     let mut found = Vec::new(alloc);
     for entry in trail {
-        change(alloc, &mut found, entry)?;
+        change(&mut found, entry)?;
     }
     Ok(found)
 }
