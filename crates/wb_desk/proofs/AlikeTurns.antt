@@ -11,10 +11,10 @@ module _
     (reply_law : (t r : ℕ) (h k : Hosts) (a b : Frame) → AllHostsAlike t r h k → OneLaterAlike t r h a b → is_report_reader t r h a ≡ false → hosts_reply h a ≡ hosts_reply k b)
     (hosts_law : (t r : ℕ) (h k : Hosts) (a b : Frame) → AllHostsAlike t r h k → OneLaterAlike t r h a b → AllHostsAlike t r (hosts_after h a) (hosts_after k b))
   where
-  pub alike_reply : (h k : Hosts) (f b : Frame) (reply : Told) (after : Hosts) (t r : ℕ) → IsTurn h f reply after → reply ≢ no_memory → AllHostsAlike t r h k → OneLaterAlike t r h f b → is_report_reader t r h f ≡ false → reply ≡ hosts_reply k b
-  alike_reply h k f b reply after t r (inl e) ne al later unread = e.0 ∙ reply_law t r h k f b al later unread
-  alike_reply h k f b reply after t r (inr e) ne al later unread = absurd (ne e.0)
+    pub alike_reply : (h k : Hosts) (f b : Frame) (reply : Told) (after : Hosts) (t r : ℕ) → IsTurn h f reply after → reply ≢ no_memory → AllHostsAlike t r h k → OneLaterAlike t r h f b → is_report_reader t r h f ≡ false → reply ≡ hosts_reply k b
+    alike_reply h k f b reply after t r (inl e) ne al later unread = e.0 ∙ reply_law t r h k f b al later unread
+    alike_reply h k f b reply after t r (inr e) ne al later unread = absurd (ne e.0)
 
-  pub alike_hosts : (h k : Hosts) (f b : Frame) (reply : Told) (after : Hosts) (t r : ℕ) → IsTurn h f reply after → reply ≢ no_memory → AllHostsAlike t r h k → OneLaterAlike t r h f b → AllHostsAlike t r after (hosts_after k b)
-  alike_hosts h k f b reply after t r (inl e) ne al later = subst (λ x. AllHostsAlike t r x (hosts_after k b)) (sym e.1) (hosts_law t r h k f b al later)
-  alike_hosts h k f b reply after t r (inr e) ne al later = absurd (ne e.0)
+    pub alike_hosts : (h k : Hosts) (f b : Frame) (reply : Told) (after : Hosts) (t r : ℕ) → IsTurn h f reply after → reply ≢ no_memory → AllHostsAlike t r h k → OneLaterAlike t r h f b → AllHostsAlike t r after (hosts_after k b)
+    alike_hosts h k f b reply after t r (inl e) ne al later = subst (λ x. AllHostsAlike t r x (hosts_after k b)) (sym e.1) (hosts_law t r h k f b al later)
+    alike_hosts h k f b reply after t r (inr e) ne al later = absurd (ne e.0)

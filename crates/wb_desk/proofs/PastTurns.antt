@@ -13,6 +13,6 @@ module _
     (turn_law : (past : Past AllOpened) (f : Frame) → hosts_after (standing_hosts past) f ≡ standing_hosts (with_turn past f))
     (loss_law : (past : Past AllOpened) (f : Frame) → hosts_lost (standing_hosts past) f ≡ standing_hosts (with_loss past f))
   where
-  pub turn_of_past : (h k : Hosts) (f : Frame) (reply : Told) (past : Past AllOpened) → IsTurn h f reply k → StandsFor h past → IsTurnOf past f reply k
-  turn_of_past h k f reply past (inl e) is = inl (e.0 ∙ (ap (λ x. hosts_reply x f) is ∙ reply_law past f), e.1 ∙ (ap (λ x. hosts_after x f) is ∙ turn_law past f))
-  turn_of_past h k f reply past (inr e) is = inr (e.0, e.1 ∙ (ap (λ x. hosts_lost x f) is ∙ loss_law past f))
+    pub turn_of_past : (h k : Hosts) (f : Frame) (reply : Told) (past : Past AllOpened) → IsTurn h f reply k → StandsFor h past → IsTurnOf past f reply k
+    turn_of_past h k f reply past (inl e) is = inl (e.0 ∙ (ap (λ x. hosts_reply x f) is ∙ reply_law past f), e.1 ∙ (ap (λ x. hosts_after x f) is ∙ turn_law past f))
+    turn_of_past h k f reply past (inr e) is = inr (e.0, e.1 ∙ (ap (λ x. hosts_lost x f) is ∙ loss_law past f))

@@ -18,9 +18,7 @@ use std::alloc::Global;
 use std::marker::Model;
 use wb_base::{Keeper, Memory, Moment, Words};
 use wb_custody::SealedTable;
-use wb_model::{
-    Asked, Body, Told, a_turn_keeps_all_hosts_alike, hosts_stand_for_their_past,
-};
+use wb_model::{Asked, Body, Told, a_turn_keeps_all_hosts_alike, hosts_stand_for_their_past};
 
 /// How many turns a host makes.
 const TURNS: u64 = 1_000_000_000_000_000;
