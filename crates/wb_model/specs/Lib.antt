@@ -15,3 +15,8 @@ pub mod Alike
 pub mod Tenants
 pub mod Fits
 pub mod Starter
+pub mod FrameTexts
+pub mod Heads
+pub mod Bodies
+pub mod Readings
+pub mod Replies

@@ -11,6 +11,7 @@ mod laws;
 mod numbering;
 mod registry;
 mod trail;
+mod wire;
 
 pub use access::{AccessRequest, State};
 pub use body::{Body, Told};
@@ -24,6 +25,7 @@ pub use laws::{
 pub use numbering::Numbering;
 pub use registry::{ContextItem, FormItem, Lists, Rights, TenantItem, UserItem};
 pub use trail::Trail;
+pub use wire::{PathNo, ScriptFrame, WireFault};
 
 #[cfg(test)]
 mod tests;

@@ -1,0 +1,41 @@
+//! The replies to requests that are not read.
+ghost use Rattle.std.specs.Prelude.{◌≡◌};
+ghost use Rattle.wb_model.specs.Replies.{fault_told};
+
+use wb_model::WireFault;
+
+/// The status code of a fault's reply (RFC 9110, section 15). It takes no memory.
+pub fn fault_status(fault: &WireFault) -> u16
+    ensures { result ≡ (fault_told fault.now).status }
+{
+    match fault {
+        WireFault::BadHead => 400,
+        WireFault::BadLength => 400,
+        WireFault::NoLength => 411,
+        WireFault::TooLarge => 413,
+        WireFault::NoRoute => 404,
+        WireFault::NoMethod(_) => 405,
+        WireFault::BadJson => 400,
+        WireFault::BadShape => 400,
+        WireFault::NotBuilt => 501,
+        WireFault::Memory => 507,
+    }
+}
+
+/// The body of a fault's reply, JSON (RFC 8259). It takes no memory.
+pub fn fault_body(fault: &WireFault) -> &'static [u8]
+    ensures { result.now ≡ (fault_told fault.now).body }
+{
+    match fault {
+        WireFault::BadHead => b"{\"code\":\"bad_head\"}",
+        WireFault::BadLength => b"{\"code\":\"bad_length\"}",
+        WireFault::NoLength => b"{\"code\":\"no_length\"}",
+        WireFault::TooLarge => b"{\"code\":\"too_large\"}",
+        WireFault::NoRoute => b"{\"code\":\"not_found\"}",
+        WireFault::NoMethod(_) => b"{\"code\":\"no_method\"}",
+        WireFault::BadJson => b"{\"code\":\"bad_json\"}",
+        WireFault::BadShape => b"{\"code\":\"bad_shape\"}",
+        WireFault::NotBuilt => b"{\"code\":\"not_built\"}",
+        WireFault::Memory => b"{\"code\":\"no_memory\"}",
+    }
+}

@@ -1,0 +1,18 @@
+//! The wire: the frames of a script, requests read from their bytes, and the bytes of replies (RFC 9112).
+#![tactic(auto)]
+
+mod faults;
+mod frame_line;
+mod frames;
+mod laws;
+mod numbers;
+mod replies;
+mod taking;
+mod written;
+
+pub use faults::{fault_body, fault_status};
+pub use frames::{FrameNo, FrameReader};
+pub use laws::one_frame;
+pub use replies::{reply_head, reply_line};
+pub use wb_model::{PathNo, ScriptFrame, WireFault};
+pub use written::{Head, Line};
