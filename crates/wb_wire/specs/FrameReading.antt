@@ -63,7 +63,7 @@ TookLine most old new room ends.Broken = (n : ℕ) × (0 < n) × (n ≤ 96) × (
 
 -- the reading stopped within a line
 abbrev pub StoppedInLine : ℕ → Option (List ℕ) → Option (List ℕ) → ℕ → ℕ → FrameNo → Type 0
-StoppedInLine most old new before now no = (part : List ℕ) × Lacks 10 part × Stopped most old new before now part no
+StoppedInLine most old new before now fault = (part : List ℕ) × Lacks 10 part × Stopped most old new before now part fault
 
 -- what the parts of a line may be
 pub record LineFits (m w0 w1 w2 w3 n : ℕ) : Type 0 where
@@ -86,7 +86,7 @@ TookBytes size most old new parts.NoMemory = Consumes old new []
 
 -- the reading stopped within so many bytes
 abbrev pub StoppedInBytes : ℕ → ℕ → Option (List ℕ) → Option (List ℕ) → ℕ → ℕ → FrameNo → Type 0
-StoppedInBytes size most old new before now no = (part : List ℕ) × (length part ≤ size) × Stopped most old new before now part no
+StoppedInBytes size most old new before now fault = (part : List ℕ) × (length part ≤ size) × Stopped most old new before now part fault
 
 -- a byte was taken, or the input had ended
 abbrev pub TookByte : ℕ → Option (List ℕ) → Option (List ℕ) → Option ℕ → Type 0
@@ -105,4 +105,4 @@ TookBody size most old new parts.NoMemory = Consumes old new []
 
 -- the reading stopped within them
 abbrev pub StoppedInBody : ℕ → ℕ → Option (List ℕ) → Option (List ℕ) → ℕ → ℕ → FrameNo → Type 0
-StoppedInBody size most old new before now no = (part : List ℕ) × NoBody size part × Stopped most old new before now part no
+StoppedInBody size most old new before now fault = (part : List ℕ) × NoBody size part × Stopped most old new before now part fault

@@ -4,6 +4,7 @@ ghost use Rattle.wb_model.specs.Replies.{fault_told};
 
 use wb_model::WireFault;
 
+#[tactic(auto, unfolding(wb_model::specs::Replies::fault_told, wb_model::specs::Refusals::not_found, wb_model::specs::Refusals::not_built, wb_model::specs::Refusals::no_memory))]
 /// The status code of a fault's reply (RFC 9110, section 15). It takes no memory.
 pub fn fault_status(fault: &WireFault) -> u16
     ensures { result ≡ (fault_told fault.now).status }
@@ -22,6 +23,7 @@ pub fn fault_status(fault: &WireFault) -> u16
     }
 }
 
+#[tactic(auto, unfolding(wb_model::specs::Replies::fault_told, wb_model::specs::Refusals::not_found, wb_model::specs::Refusals::not_built, wb_model::specs::Refusals::no_memory, json::specs::Print::escape_byte))]
 /// The body of a fault's reply, JSON (RFC 8259). It takes no memory.
 pub fn fault_body(fault: &WireFault) -> &'static [u8]
     ensures { result.now ≡ (fault_told fault.now).body }

@@ -42,7 +42,8 @@ impl<const N: usize> Written<N> {
         ensures { self.new ≡ self.old ++ text.now }
     {
         let end = self.used + text.len();
-        self.bytes[self.used..end].copy_from_slice(text);
+        let bytes = &mut self.bytes[..];
+        bytes[self.used..end].copy_from_slice(text);
         self.used = end;
     }
 
