@@ -5,3 +5,5 @@ pub mod OneReadingLemmas
 pub mod RoomLemmas
 pub mod TakingLemmas
 pub mod Phrases
+pub mod FieldLemmas
+pub mod EntryLemmas

@@ -1,1 +1,3 @@
 pub mod FrameReading
+pub mod FieldValues
+pub mod Entries

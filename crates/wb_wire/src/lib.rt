@@ -1,12 +1,15 @@
 //! The wire: the frames of a script, requests read from their bytes, and the bytes of replies (RFC 9112).
 #![tactic(auto)]
 
+mod bodies;
 mod faults;
+mod fields;
 mod frame_line;
 mod frames;
 mod laws;
 mod numbers;
 mod replies;
+mod requests;
 mod taking;
 mod written;
 
@@ -14,5 +17,6 @@ pub use faults::{fault_body, fault_status};
 pub use frames::{FrameNo, FrameReader};
 pub use laws::one_frame;
 pub use replies::{reply_head, reply_line};
+pub use requests::WireNo;
 pub use wb_model::{PathNo, ScriptFrame, WireFault};
 pub use written::{Head, Line};
