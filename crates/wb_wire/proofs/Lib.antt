@@ -7,3 +7,5 @@ pub mod TakingLemmas
 pub mod Phrases
 pub mod FieldLemmas
 pub mod EntryLemmas
+pub mod HeadLemmas
+pub mod RequestLemmas

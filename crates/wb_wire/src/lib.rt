@@ -17,6 +17,6 @@ pub use faults::{fault_body, fault_status};
 pub use frames::{FrameNo, FrameReader};
 pub use laws::one_frame;
 pub use replies::{reply_head, reply_line};
-pub use requests::WireNo;
+pub use requests::{WireNo, read_request};
 pub use wb_model::{PathNo, ScriptFrame, WireFault};
 pub use written::{Head, Line};
