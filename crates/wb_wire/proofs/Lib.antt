@@ -9,3 +9,4 @@ pub mod FieldLemmas
 pub mod EntryLemmas
 pub mod HeadLemmas
 pub mod RequestLemmas
+pub mod ReadingLemmas

@@ -116,7 +116,8 @@ pub fn declared_length(bytes: &[u8], fields: &[HeaderSpan]) -> Result<Option<u64
 fn are_lower_hex(text: &[u8]) -> bool
     ensures { result ≡ list_all is_lower_hex text.now }
 {
-    text.iter().all(|c| c.is_ascii_digit() || 97 <= *c && *c <= 102)
+    text.iter()
+        .all(|c| c.is_ascii_digit() || 97 <= *c && *c <= 102)
 }
 
 // Whether a turn and the 33 bytes after it can be a session's.

@@ -1,7 +1,7 @@
 //! A reader of a script's frames.
-ghost use Rattle.std.specs.Prelude.{◌≡◌, ◌≤◌, ◌^◌, Some, None, Err, IfOk, IfErr, OnOk, IfSome};
+ghost use Rattle.std.specs.Prelude.{◌≡◌, ◌≤◌, ◌^◌, Some, None, Err, IfOk, IfErr, IfSome};
 ghost use Rattle.std.specs.Io.KnownBytes.{Keeps};
-ghost use Rattle.wb_wire.specs.FrameReading.{Progress, TookNext, HasCause, after_next};
+ghost use Rattle.wb_wire.specs.FrameReading.{TookNext, HasCause, after_next};
 
 use crate::frame_line::read_line;
 use crate::taking::{LINE_ROOM, LineEnd, Part, take_body, take_line};
@@ -69,7 +69,6 @@ impl FrameReader {
         ensures ok { IfOk result (λ next. TookNext (S.left source.old) (S.left source.new) next) }
         ensures goes_on { IfOk result (λ next. self.new ≡ after_next self.old next) }
         ensures limit { self.new.taken ≤ 2 ^ 40 }
-        ensures open { OnOk result (self.old.stopped ≡ None) }
         ensures cause { self.old.stopped ≡ None → IfErr result (λ no. HasCause self.old (S.left source.old) (S.left source.new) (S.count source.old) (S.count source.new) no) }
         ensures stops { IfErr result (λ no. self.new ≡ record self.old { stopped = Some no }) }
         ensures again { IfSome self.old.stopped (λ no. (result ≡ Err no) × Keeps (S.left source.old) (S.left source.new)) }

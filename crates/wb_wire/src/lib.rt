@@ -15,8 +15,11 @@ mod written;
 
 pub use faults::{fault_body, fault_status};
 pub use frames::{FrameNo, FrameReader};
-pub use laws::one_frame;
+pub use laws::{one_frame, one_reading, what_is_asked_fits};
 pub use replies::{reply_head, reply_line};
 pub use requests::{WireNo, read_request};
 pub use wb_model::{PathNo, ScriptFrame, WireFault};
 pub use written::{Head, Line};
+
+#[cfg(test)]
+mod tests;

@@ -68,7 +68,11 @@ pub fn take_line<S: Source>(
     let mut byte = [0u8; 1];
     while used < LINE_ROOM {
         match take_some(source, most - used as u64, &mut byte) {
-            Ok(0) => return Ok(if used == 0 { LineEnd::End } else { LineEnd::Broken }),
+            Ok(0) => return Ok(if used == 0 {
+                LineEnd::End
+            } else {
+                LineEnd::Broken
+            }),
             Ok(_) => {
                 if byte[0] == b'\n' {
                     return Ok(LineEnd::Whole(used));

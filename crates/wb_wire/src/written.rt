@@ -4,6 +4,7 @@ ghost use Rattle.std.specs.Prelude.{◌≡◌, ◌≤◌, ◌+◌, ◌++◌, [],
 use std::marker::Model;
 
 /// Text of at most N bytes, in place, seen as its bytes.
+#[derive(Drop)]
 pub struct Written<const N: usize> {
     bytes: [u8; N],
     used: usize,

@@ -78,8 +78,8 @@ returns-in-Err-take_body-clause-cause g c =
     let whole : length line ≡ c.in-Ok-Whole.used = length-take-le c.in-Ok-Whole.used c.take_line.new.room (omega arith) in
     let body = c.in-Err-take_body.ensures.err in
     has_cause c.args.self.now (2 ^ 40 - c.self.inside.taken) _ _ _ _ (line ++ 10 ∷ body.0) c.in-Err-take_body.no (omega (arith, taken, c.self.invariant))
-        (no_body line body.0 c.in-Some.head.size took.3 c.in-Some.ensures.only body.1)
-        (stopped_after (2 ^ 40 - c.self.inside.taken) c.in-Ok-Whole.used _ _ _ _ _ _ line body.0 c.in-Err-take_body.no c.take_line.ensures.later whole took.1 took.2 body.2)
+    (no_body line body.0 c.in-Some.head.size took.3 c.in-Some.ensures.only body.1)
+    (stopped_after (2 ^ 40 - c.self.inside.taken) c.in-Ok-Whole.used _ _ _ _ _ _ line body.0 c.in-Err-take_body.no c.take_line.ensures.later whole took.1 took.2 body.2)
 
 pub returns-clause-ok : goal.returns-clause-ok
 returns-clause-ok g c =
