@@ -1,7 +1,7 @@
 -- Facts on the text of frames.
-use Rattle.std.proofs.Common.{◌≡◌, ◌≢◌, ◌≤◌, ◌<◌, ◌+◌, ℕ, zero, suc, List, [], ◌∷◌, ◌++◌, ◌⊎◌, inl, inr, length, Some, None, refl, sym, ap, ◌∙◌, arith, append_assoc, append-nil, get_or, length-append}
+use Rattle.std.proofs.Common.{◌≡◌, ◌≢◌, ◌≤◌, ◌<◌, ℕ, suc, List, [], ◌∷◌, ◌++◌, length, refl, sym, ap, ◌∙◌, arith, append_assoc, append-nil, length-append}
 use Rattle.wb_model.specs.declared.wire.ScriptFrame.{ScriptFrame}
-use Rattle.wb_model.specs.FrameTexts.{line_of, frame_text, IsFrame, NoFrame}
+use Rattle.wb_model.specs.FrameTexts.{line_of, frame_text, NoFrame}
 use Rattle.wb_wire.specs.FrameReading.{Lacks, SaysSize, NoBody}
 use Rattle.wb_wire.proofs.LineLemmas.{line_fits, line_lacks, line_short}
 

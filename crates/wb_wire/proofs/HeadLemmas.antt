@@ -1,14 +1,13 @@
 -- The head at the front of a request's bytes.
-use Rattle.std.proofs.Common.{◌≡◌, ◌≢◌, inl, inr, ℕ, ◌+◌, ◌-◌, ◌<◌, ◌≤◌, ◌==◌, Bool, true, false, List, [], ◌∷◌, ◌++◌, length, take, drop, map, refl, sym, ap, subst, ◌∙◌, arith, append_assoc, append-nil, length-append}
-use Rattle.std.proofs.lemmas.List.{take-append-drop, drop_at, length-take, take_all, length-map}
-use Rattle.std.proofs.lemmas.Bool.{and_parts, eqb-true}
+use Rattle.std.proofs.Common.{◌≡◌, inl, ℕ, ◌+◌, ◌-◌, ◌≤◌, true, false, List, [], ◌++◌, length, take, drop, map, sym, ap, subst, ◌∙◌, arith, append-nil}
+use Rattle.std.proofs.lemmas.List.{take-append-drop, drop_at, length-take, length-map}
 use Rattle.std.proofs.Math.Seq.{take-append-add}
 use Rattle.httparse.specs.declared.spans.HeaderSpan.{HeaderSpan}
 use Rattle.httparse.specs.declared.spans.RequestSpans.{RequestSpans}
 use Rattle.httparse.specs.Grammar.{RequestHead, ReadsRequest, print_request, HasNoRequest}
 use Rattle.httparse.specs.Spans.{RequestOverflows, IsRequestAt, IsRequestOf, IsRequestWithin, span_bytes, header_bytes, name_and_value}
 use Rattle.httparse.proofs.GrammarLemmas.{ReadsRequest-append}
-use Rattle.wb_model.specs.Heads.{BeginsWithHead, HasNoHead, fields_of, path_of}
+use Rattle.wb_model.specs.Heads.{BeginsWithHead, HasNoHead, path_of}
 use Rattle.wb_model.specs.Readings.{Reading, Reads, Closes, reading_by_parts, reading_of, is_plain}
 use Rattle.wb_wire.proofs.RequestLemmas.{stays_open}
 

@@ -1,5 +1,5 @@
 -- The phrases of status codes: those that `http` has, as a table.
-use Rattle.std.proofs.Common.{◌≡◌, ◌≤◌, ◌<◌, ◌==◌, ◌&&◌, ◌⊎◌, ℕ, nat_le, nat_lt, Bool, true, false, if◌then◌else◌, List, [], ◌∷◌, length, codes, Option, Some, None, IfSome, refl, sym, ap, ◌∙◌, inl, inr, subst, arith}
+use Rattle.std.proofs.Common.{◌≡◌, ◌≤◌, ◌==◌, ◌&&◌, ℕ, nat_le, nat_lt, Bool, true, if◌then◌else◌, List, [], ◌∷◌, length, codes, Option, Some, None, IfSome, refl, sym, ◌∙◌, inl, inr, subst, arith}
 use Rattle.std.specs.List.{list_all}
 use Rattle.std.proofs.lemmas.Bool.{cases_Bool, and_parts, leb-true, ltb-true, eqb-true}
 use Rattle.http.specs.StatusCode.{IsStatusCode, reason_phrase}

@@ -1,5 +1,5 @@
 -- Bytes have one head, and are read in one way.
-use Rattle.std.proofs.Common.{◌≡◌, List, ℕ, Bool, refl, sym, ap, ◌∙◌, inl, inr, true}
+use Rattle.std.proofs.Common.{◌≡◌, List, ℕ, Bool, sym, ap, ◌∙◌, inl, inr, true}
 use Rattle.httparse.specs.Grammar.{RequestHead}
 use Rattle.httparse.proofs.GrammarLemmas.{request_unique}
 use Rattle.wb_model.specs.declared.command.Asked.{Asked}

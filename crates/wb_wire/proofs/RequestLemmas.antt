@@ -1,26 +1,24 @@
 -- What requests ask, by the definitions: it fits, and it leaves the connection open.
-use Rattle.std.proofs.Common.{◌≡◌, ◌≢◌, inl, inr, ℕ, suc, ◌-◌, ◌≤◌, ◌==◌, ◌&&◌, ◌||◌, nat_le, not, Bool, true, false, List, [], ◌∷◌, length, take, drop, Option, Some, None, option_map, option_and_then, refl, sym, ap, subst, ◌∙◌, arith, codes, if◌then◌else◌}
+use Rattle.std.proofs.Common.{◌≡◌, inl, inr, ℕ, ◌-◌, ◌==◌, ◌&&◌, nat_le, Bool, true, false, List, [], ◌∷◌, length, take, drop, Option, Some, None, option_map, option_and_then, refl, ap, subst, ◌∙◌, arith, codes, if◌then◌else◌}
 use Rattle.std.specs.Prelude.{slice_index}
 use Rattle.std.specs.Str.Parse.{digits_value}
-use Rattle.std.specs.List.{list_all, list_any}
-use Rattle.std.proofs.lemmas.Bool.{cases_Bool, and_parts, and_from, eqb-true, ne_eqb, leb-true, le-leb, false≢true}
+use Rattle.std.specs.List.{list_any}
+use Rattle.std.proofs.lemmas.Bool.{cases_Bool, and_parts, and_from, eqb-true, ne_eqb, leb-true, le-leb}
 use Rattle.serde_json.specs.Data.{Data, Members, no_members, member}
 use Rattle.serde_json.specs.Find.{as_object, as_str, get, as_number, as_u64}
 use Rattle.httparse.specs.Grammar.{RequestHead}
 use Rattle.wb_base.specs.declared.answers.Given.{Given}
 use Rattle.wb_base.specs.declared.answers.Given.TheVariants as given
-use Rattle.wb_base.specs.declared.callers.Presented.{Presented}
 use Rattle.wb_base.specs.declared.callers.Presented.TheVariants as presented
 use Rattle.wb_base.specs.AnswerList.{Answered, is_text}
 use Rattle.wb_base.specs.FormShape.{keep, size}
 use Rattle.wb_model.specs.declared.command.Asked.{Asked}
 use Rattle.wb_model.specs.declared.command.Command.{Command}
 use Rattle.wb_model.specs.declared.command.Command.TheVariants as commands
-use Rattle.wb_model.specs.declared.wire.WireFault.TheVariants as faults
 use Rattle.wb_model.specs.Fits.{fits, fits_command, fits_session, is_given, are_given, is_between, is_path_number}
 use Rattle.wb_model.specs.Heads.{Fields, fields_of, is_absent, values, closes, says_close, is_number, is_token, token, presented_by, session}
 use Rattle.wb_model.specs.Bodies.{given_text, short_text, answer, is_answer_key, with_entry, entries, answers, context, submission, submitted, json}
-use Rattle.wb_model.specs.Readings.{Reading, Asks, Refuses, is_plain, command, path_number, report_read, reading_by, reading_by_parts, is_submission, is_read}
+use Rattle.wb_model.specs.Readings.{Asks, is_plain, command, path_number, report_read, reading_by, reading_by_parts, is_submission, is_read}
 
 -- ---- the closing
 

@@ -1,11 +1,11 @@
 -- What was taken of a source, and the frame that it is or is not.
-use Rattle.std.proofs.Common.{◌≡◌, ◌≢◌, ◌≤◌, ◌<◌, ◌+◌, ◌-◌, ◌^◌, ℕ, zero, suc, List, [], ◌∷◌, ◌++◌, length, Option, Some, None, IfSome, refl, sym, ap, ◌∙◌, arith, append_assoc, append-nil, length-append, subst}
+use Rattle.std.proofs.Common.{◌≡◌, ◌≢◌, ◌≤◌, ◌<◌, ◌+◌, ◌-◌, ◌^◌, ℕ, List, [], ◌∷◌, ◌++◌, length, Option, Some, None, IfSome, sym, ap, ◌∙◌, arith, append_assoc, append-nil, length-append, subst}
 use Rattle.std.specs.Prelude.{slice_index}
 use Rattle.std.specs.List.{AllByRecursion}
 use Rattle.std.specs.Io.KnownBytes.{Consumes, IsAtEnd, Keeps}
-use Rattle.std.proofs.KnownBytes.{Consumes-trans, Consumes-kept}
+use Rattle.std.proofs.KnownBytes.{Consumes-trans}
 use Rattle.wb_model.specs.declared.wire.ScriptFrame.{ScriptFrame}
-use Rattle.wb_model.specs.FrameTexts.{frame_line, line_of, frame_text, IsFrame, NoFrame, IsBroken}
+use Rattle.wb_model.specs.FrameTexts.{frame_line, frame_text, IsFrame, NoFrame, IsBroken}
 use Rattle.wb_wire.specs.declared.frames.FrameNo.{FrameNo}
 use Rattle.wb_wire.specs.declared.frames.FrameNo.TheVariants.{Read, Bad, TooLong, Memory}
 use Rattle.wb_wire.specs.FrameReading.{Progress, HasCause, Stopped, Lacks, SaysSize, LineFits, NoBody}

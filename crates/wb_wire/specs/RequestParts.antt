@@ -1,5 +1,5 @@
 -- The reading of a request by its parts.
-use Rattle.std.specs.Prelude.{ℕ, List, map, Option, if◌then◌else◌, None}
+use Rattle.std.specs.Prelude.{map, Option}
 use Rattle.httparse.specs.Spans.{header_bytes}
 use Rattle.wb_model.specs.declared.command.Command.{Command}
 use Rattle.wb_model.specs.Heads.{Fields, path_of}

@@ -1,5 +1,4 @@
-use Rattle.std.proofs.Common.{◌≡◌, ◌++◌, ◌∷◌, [], ◌∙◌, ap}
-use Rattle.wb_model.specs.Bodies.{with_entry}
+use Rattle.std.proofs.Common.{◌∙◌}
 use Rattle.wb_wire.proofs.EntryLemmas.{absent, insert_last}
 use Rattle.wb_wire.proofs.bodies.push_entry.Goals as goal
 

@@ -1,4 +1,4 @@
-use Rattle.std.proofs.Common.{◌≡◌, ◌∙◌, sym, ap, Some, None, Ok, refl, decimal}
+use Rattle.std.proofs.Common.{◌≡◌, ◌∙◌, sym, ap, decimal}
 use Rattle.std.proofs.lemmas.Fmt.{parse-decimal}
 use Rattle.wb_wire.proofs.NumberLemmas.{decimal_utf8}
 use Rattle.wb_wire.proofs.numbers.number_of.Goals as goal

@@ -1,9 +1,8 @@
-use Rattle.std.proofs.Common.{◌≡◌, ◌∙◌, sym, ap, Some, None, Ok, refl, subst}
+use Rattle.std.proofs.Common.{◌∙◌, sym, ap, Some}
 use Rattle.std.proofs.lemmas.Nat.{from_be_bytes-to_be_bytes_8}
 use Rattle.std.specs.Int.{from_be_bytes, to_be_bytes, w64}
 use Rattle.hex.specs.Hex.{encode_lower}
-use Rattle.wb_model.specs.FrameTexts.{word_text}
-use Rattle.wb_wire.proofs.NumberLemmas.{word_decodes, decoded}
+use Rattle.wb_wire.proofs.NumberLemmas.{decoded}
 use Rattle.wb_wire.proofs.numbers.word_of.Goals as goal
 
 pub returns-in-Err-clause-again : goal.returns-in-Err-clause-again

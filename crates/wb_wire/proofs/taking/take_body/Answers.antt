@@ -1,4 +1,4 @@
-use Rattle.std.proofs.Common.{◌≡◌, ◌≤◌, ◌+◌, [], ◌∷◌, ◌++◌, length, arith, length-append}
+use Rattle.std.proofs.Common.{[], ◌∷◌, ◌++◌, arith, length-append}
 use Rattle.std.proofs.KnownBytes.{Consumes-trans}
 use Rattle.wb_wire.proofs.FrameLemmas.{other_end}
 use Rattle.wb_wire.proofs.TakingLemmas.{wrong_end}

@@ -1,8 +1,6 @@
-use Rattle.std.proofs.Common.{rules, ◌≡◌, ◌≤◌, ◌<◌, ◌+◌, ◌-◌, ◌^◌, ◌++◌, ◌∷◌, [], ℕ, List, length, take, refl, sym, ap, ◌∙◌, arith, length-append, Option}
+use Rattle.std.proofs.Common.{◌≡◌, ◌+◌, ◌-◌, ◌^◌, ◌++◌, ◌∷◌, [], ℕ, length, take, ap, ◌∙◌, arith, length-append, Option}
 use Rattle.std.proofs.lemmas.List.{length-take-le}
-use Rattle.std.proofs.KnownBytes.{Consumes-trans}
 use Rattle.wb_model.specs.declared.wire.ScriptFrame.{ScriptFrame}
-use Rattle.wb_model.specs.FrameTexts.{frame_text}
 use Rattle.wb_wire.specs.declared.frames.FrameNo.{FrameNo}
 use Rattle.wb_wire.specs.FrameReading.{Progress}
 use Rattle.wb_wire.proofs.FrameLemmas.{line_part, no_line, no_body, too_short}
