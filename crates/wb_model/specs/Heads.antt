@@ -1,5 +1,5 @@
 -- The head of a request (RFC 9112, sections 2 to 6), and what its fields say of the body's length, the session and the connection.
-use Rattle.std.specs.Prelude.{ℕ, ◌-◌, ◌≤◌, ◌==◌, ◌&&◌, ◌||◌, nat_lt, nat_le, Bool, if◌then◌else◌, List, [], ◌∷◌, length, map, filter, take, drop, slice_index, decimal, codes, Option, Some, None, Result, Ok, Err}
+use Rattle.std.specs.Prelude.{ℕ, ◌-◌, ◌≤◌, ◌==◌, ◌&&◌, ◌||◌, nat_lt, nat_le, Bool, true, false, if◌then◌else◌, List, [], ◌∷◌, length, map, filter, take, drop, slice_index, decimal, codes, Option, Some, None, Result, Ok, Err}
 use Rattle.std.specs.List.{list_all, list_any, before_first, slice_split}
 use Rattle.std.specs.Char.{is_ascii_digit}
 use Rattle.std.specs.Str.{str_eq_ignore_ascii_case}
@@ -47,8 +47,11 @@ is_absent name fields = length (values name fields) == 0
 -- ---- the path
 
 -- the target up to the first `?`
+abbrev pub path_of : List ℕ → List ℕ
+path_of target = before_first (λ c. c == 63) target
+
 abbrev pub path : RequestHead → List ℕ
-path h = before_first (λ c. c == 63) h.target
+path h = path_of h.target
 
 -- ---- the body's length
 
@@ -73,11 +76,13 @@ declared_length fields = if is_absent (codes "transfer-encoding") fields then le
 abbrev pub is_number : List ℕ → Bool
 is_number text = is_text text (decimal (digits_value 10 text))
 
--- a turn, a `-` and the session's secret
+-- a `-` and the secret of a session that a turn made
+abbrev pub is_token : ℕ → List ℕ → Bool
+is_token turn rest = (slice_index rest 0 == 45) && fits_session (presented.Token turn (drop 1 rest))
+
+-- a turn in digits, and then these
 abbrev pub token : List ℕ → List ℕ → Presented
-token turn rest =
-    if is_number turn && (slice_index rest 0 == 45) && fits_session (presented.Token (digits_value 10 turn) (drop 1 rest))
-    then presented.Token (digits_value 10 turn) (drop 1 rest) else presented.Bad
+token turn rest = if is_number turn && is_token (digits_value 10 turn) rest then presented.Token (digits_value 10 turn) (drop 1 rest) else presented.Bad
 
 -- the session that the values of `X-Session` present; a token's last 33 bytes are the `-` and the secret
 abbrev pub presented_by : List (List ℕ) → Presented

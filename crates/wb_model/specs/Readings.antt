@@ -1,5 +1,5 @@
 -- What the bytes of a request are read as: what it asks, or why it is not read.
-use Rattle.std.specs.Prelude.{ℕ, ◌≡◌, ◌==◌, ◌&&◌, ◌⊎◌, nat_eq, Bool, true, false, if◌then◌else◌, List, length, drop, replicate, codes, Option, Some, None, Result, Ok, Err, option_map, option_and_then}
+use Rattle.std.specs.Prelude.{ℕ, ◌≡◌, ◌==◌, ◌&&◌, ◌⊎◌, nat_eq, Bool, true, false, if◌then◌else◌, List, length, drop, replicate, codes, Option, Some, None, Result, Ok, Err, option_map}
 use Rattle.std.specs.List.{starts_with}
 use Rattle.std.specs.Str.Parse.{digits_value}
 use Rattle.httparse.specs.Grammar.{RequestHead}
@@ -14,7 +14,7 @@ use Rattle.wb_model.specs.declared.wire.WireFault.{WireFault}
 use Rattle.wb_model.specs.declared.wire.WireFault.TheVariants as faults
 use Rattle.wb_model.specs.Fits.{is_path_number}
 use Rattle.wb_model.specs.Heads.{Fields, fields_of, is_absent, path, declared_length, is_number, session, closes, BeginsWithHead, HasNoHead}
-use Rattle.wb_model.specs.Bodies.{json, submission}
+use Rattle.wb_model.specs.Bodies.{submitted}
 
 -- what is asked, or the fault, with whether the connection closes after it
 pub data Reading : Type 0 where
@@ -43,9 +43,6 @@ is_no_length (Err fault) = false
 abbrev pub is_submission : List ℕ → Fields → List ℕ → Bool
 is_submission path fields rest = is_text path (codes "/t/1/reports") && is_absent (codes "x-session") fields && is_length (length rest) (declared_length fields)
 
-abbrev pub submitted : List ℕ → Option Command
-submitted rest = option_and_then (submission 1) (json rest)
-
 -- the starter host's standing session
 abbrev pub is_starter : Presented → Bool
 is_starter presented.None = false
@@ -66,7 +63,7 @@ report_read path = option_map (λ n. commands.ReadReport 1 n) (path_number (drop
 -- the command that a method on a path asks
 abbrev pub command : List ℕ → List ℕ → Fields → List ℕ → Option Command
 command method path fields rest =
-    if is_text method (codes "POST") && is_submission path fields rest then submitted rest
+    if is_text method (codes "POST") && is_submission path fields rest then submitted 1 rest
     else if is_text method (codes "GET") && is_read path fields rest then report_read path
     else None
 
@@ -77,9 +74,13 @@ abbrev pub reading_by : Fields → Option Command → Reading
 reading_by fields (Some command) = Asks (record { command = command; session = session fields; close = false })
 reading_by fields None = Refuses faults.NotBuilt true
 
+-- of a method, a path, a version, fields and what follows the head
+abbrev pub reading_by_parts : List ℕ → List ℕ → ℕ → Fields → List ℕ → Reading
+reading_by_parts method path minor fields rest = reading_by fields (if is_plain minor fields then command method path fields rest else None)
+
 -- of a head and what follows it
 abbrev pub reading_of : RequestHead → List ℕ → Reading
-reading_of h rest = reading_by (fields_of h) (if is_plain h.minor (fields_of h) then command h.method (path h) (fields_of h) rest else None)
+reading_of h rest = reading_by_parts h.method (path h) h.minor (fields_of h) rest
 
 -- the bytes are read as this
 abbrev pub Reads : List ℕ → Reading → Type 0

@@ -1,0 +1,12 @@
+pub mod NumberLemmas
+pub mod LineLemmas
+pub mod FrameLemmas
+pub mod OneReadingLemmas
+pub mod RoomLemmas
+pub mod TakingLemmas
+pub mod Phrases
+pub mod FieldLemmas
+pub mod EntryLemmas
+pub mod HeadLemmas
+pub mod RequestLemmas
+pub mod ReadingLemmas

@@ -1,0 +1,18 @@
+use Rattle.std.proofs.Common.{◌≡◌, ◌++◌, [], Some, ◌∙◌, ap, string_bytes}
+use Rattle.serde_json.specs.View.{view}
+use Rattle.wb_model.specs.Bodies.{answer, with_entry}
+use Rattle.wb_wire.proofs.EntryLemmas.{entries_step, below_step, ordered_step}
+use Rattle.wb_wire.proofs.bodies.read_entries.Goals as goal
+
+pub loop-key-preserved : goal.loop-key-preserved
+loop-key-preserved c =
+    let given = c.in_ok-given.given in
+    let id = string_bytes c.in-Some.key.now in
+    let steps = c.in-Some.ensures.steps in
+    let is : answer id (view c.in-Some.value.now) ≡ Some given = rw c.as_str.ensures.value at c.in_ok-given.ensures.ok in
+    let grown : c.push_entry.new.answers ≡ c.loop-key.answers ++ with_entry id given [] = c.in_ok-push_entry.ensures ∙ ap (λ t. c.loop-key.answers ++ with_entry t given []) c.as_str-in-loop-key.ensures.value in
+    record {
+      entries = entries_step _ c.loop-key.answers _ (c.in-Some.key.now, c.in-Some.value.now) _ _ given steps is grown c.loop-key.invariant.entries;
+      below = below_step c.loop-key.answers _ (c.in-Some.key.now, c.in-Some.value.now) _ _ given steps grown c.loop-key.invariant.ordered c.loop-key.invariant.below;
+      ordered = ordered_step (c.in-Some.key.now, c.in-Some.value.now) _ _ steps c.loop-key.invariant.ordered;
+    }

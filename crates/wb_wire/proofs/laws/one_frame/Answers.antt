@@ -1,0 +1,5 @@
+use Rattle.wb_wire.proofs.OneReadingLemmas.{one_frame}
+use Rattle.wb_wire.proofs.laws.one_frame.Goals as goal
+
+pub returns : goal.returns
+returns c = one_frame

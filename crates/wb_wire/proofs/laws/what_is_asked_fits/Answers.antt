@@ -1,0 +1,5 @@
+use Rattle.wb_wire.proofs.ReadingLemmas.{reads_fit}
+use Rattle.wb_wire.proofs.laws.what_is_asked_fits.Goals as goal
+
+pub returns : goal.returns
+returns c = reads_fit

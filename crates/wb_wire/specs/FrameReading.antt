@@ -1,0 +1,108 @@
+-- What a reader of frames takes and answers.
+use Rattle.std.specs.Prelude.{ℕ, ◌≡◌, ◌≢◌, ◌+◌, ◌<◌, ◌≤◌, ◌^◌, List, [], ◌∷◌, ◌++◌, length, take, slice_index, EachIndex, Option, None, Some, IfSome}
+use Rattle.std.specs.Io.KnownBytes.{Consumes, IsAtEnd}
+use Rattle.wb_base.specs.Outside.{Rose}
+use Rattle.wb_model.specs.declared.wire.ScriptFrame.{ScriptFrame}
+use Rattle.wb_model.specs.FrameTexts.{frame_line, frame_text, IsFrame, IsBroken, NoFrame}
+use Rattle.wb_wire.specs.declared.frames.FrameNo.{FrameNo}
+use Rattle.wb_wire.specs.declared.frames.FrameNo.TheVariants.{Read, Bad, TooLong, Memory}
+use Rattle.wb_wire.specs.declared.taking.LineEnd.{LineEnd}
+use Rattle.wb_wire.specs.declared.taking.LineEnd.TheVariants as ends
+use Rattle.wb_wire.specs.declared.taking.Part.{Part}
+use Rattle.wb_wire.specs.declared.taking.Part.TheVariants as parts
+
+-- how far a reader has come: how many frames it gave, how many bytes these have, and why it stopped, if it did
+pub record Progress : Type 0 where
+  pub given : ℕ
+  pub taken : ℕ
+  pub stopped : Option FrameNo
+
+-- after a call that answers this
+abbrev pub after_next : Progress → Option ScriptFrame → Progress
+after_next p None = p
+after_next p (Some frame) = record p { given = p.given + 1; taken = p.taken + length (frame_text frame) }
+
+-- the frame was taken, or the input had ended
+abbrev pub TookNext : Option (List ℕ) → Option (List ℕ) → Option ScriptFrame → Type 0
+TookNext old new (Some frame) = IsFrame frame × Consumes old new (frame_text frame)
+TookNext old new None = Consumes old new [] × IsAtEnd new
+
+-- after so many bytes, bytes within the limit were taken that no whole frame begins
+abbrev pub TookPart : ℕ → Option (List ℕ) → Option (List ℕ) → Type 0
+TookPart taken old new = (part : List ℕ) × Consumes old new part × NoFrame part × (taken + length part ≤ 2 ^ 40)
+
+-- all bytes up to the limit were taken, which no whole frame begins, and one more was there
+abbrev pub TookAll : ℕ → Option (List ℕ) → Option (List ℕ) → Type 0
+TookAll taken old new = (part : List ℕ) × (next : ℕ) × Consumes old new (part ++ next ∷ []) × NoFrame part × (taken + length part ≡ 2 ^ 40)
+
+-- why a reader stops: by how far it has come, what was left and is left, and the source's count before and now
+abbrev pub HasCause : Progress → Option (List ℕ) → Option (List ℕ) → ℕ → ℕ → FrameNo → Type 0
+HasCause p old new before now Read = Rose before now × TookPart p.taken old new
+HasCause p old new before now (Bad n) = (n ≡ p.given + 1) × IfSome old IsBroken × TookPart p.taken old new
+HasCause p old new before now TooLong = TookAll p.taken old new
+HasCause p old new before now Memory = TookPart p.taken old new
+
+-- ---- the parts of a frame, of which at most so many bytes may be taken
+
+-- the byte stands nowhere in the text
+abbrev pub Lacks : ℕ → List ℕ → Type 0
+Lacks c text = EachIndex text (λ i. slice_index text i ≢ c)
+
+-- this part was taken, and then a call failed, or as many bytes were taken as may be and one more was there
+abbrev pub Stopped : ℕ → Option (List ℕ) → Option (List ℕ) → ℕ → ℕ → List ℕ → FrameNo → Type 0
+Stopped most old new before now part Read = Consumes old new part × (length part ≤ most) × Rose before now
+Stopped most old new before now part TooLong = (next : ℕ) × Consumes old new (part ++ next ∷ []) × (length part ≡ most)
+Stopped most old new before now part (Bad n) = ⊥
+Stopped most old new before now part Memory = ⊥
+
+-- how the reading of a line ended: at the end of the input, at a line feed after so many bytes, or before one
+abbrev pub TookLine : ℕ → Option (List ℕ) → Option (List ℕ) → List ℕ → LineEnd → Type 0
+TookLine most old new room ends.End = Consumes old new [] × IsAtEnd new
+TookLine most old new room (ends.Whole n) = (n < 96) × (n < most) × Consumes old new (take n room ++ 10 ∷ []) × Lacks 10 (take n room)
+TookLine most old new room ends.Broken = (n : ℕ) × (0 < n) × (n ≤ 96) × (n ≤ most) × Consumes old new (take n room) × Lacks 10 (take n room) × (n < 96 → IsAtEnd new)
+
+-- the reading stopped within a line
+abbrev pub StoppedInLine : ℕ → Option (List ℕ) → Option (List ℕ) → ℕ → ℕ → FrameNo → Type 0
+StoppedInLine most old new before now fault = (part : List ℕ) × Lacks 10 part × Stopped most old new before now part fault
+
+-- what the parts of a line may be
+pub record LineFits (m w0 w1 w2 w3 n : ℕ) : Type 0 where
+  pub moment : m ≤ 99_999_999_999
+  pub first : w0 < 2 ^ 64
+  pub second : w1 < 2 ^ 64
+  pub third : w2 < 2 ^ 64
+  pub fourth : w3 < 2 ^ 64
+  pub size : n ≤ 300_000
+
+-- wherever the line is the text of some parts, this holds of the size
+abbrev pub SaysSize : List ℕ → (ℕ → Type 0) → Type 0
+SaysSize line P = (m w0 w1 w2 w3 size : ℕ) → LineFits m w0 w1 w2 w3 size → line ≡ frame_line m w0 w1 w2 w3 size → P size
+
+-- how the reading of so many bytes ended: with them, at the end of the input, or for want of memory
+abbrev pub TookBytes : ℕ → ℕ → Option (List ℕ) → Option (List ℕ) → Part → Type 0
+TookBytes size most old new (parts.Whole bytes) = (length bytes ≡ size) × (size ≤ most) × Consumes old new bytes
+TookBytes size most old new parts.Broken = (part : List ℕ) × (length part < size) × (length part ≤ most) × Consumes old new part × IsAtEnd new
+TookBytes size most old new parts.NoMemory = Consumes old new []
+
+-- the reading stopped within so many bytes
+abbrev pub StoppedInBytes : ℕ → ℕ → Option (List ℕ) → Option (List ℕ) → ℕ → ℕ → FrameNo → Type 0
+StoppedInBytes size most old new before now fault = (part : List ℕ) × (length part ≤ size) × Stopped most old new before now part fault
+
+-- a byte was taken, or the input had ended
+abbrev pub TookByte : ℕ → Option (List ℕ) → Option (List ℕ) → Option ℕ → Type 0
+TookByte most old new (Some byte) = (0 < most) × Consumes old new (byte ∷ [])
+TookByte most old new None = Consumes old new [] × IsAtEnd new
+
+-- no such number of bytes with a line feed after them begins the text
+abbrev pub NoBody : ℕ → List ℕ → Type 0
+NoBody size text = (body tail : List ℕ) → length body ≡ size → text ≢ body ++ 10 ∷ tail
+
+-- how the reading of so many bytes and a line feed ended: with them, without one of them, or for want of memory
+abbrev pub TookBody : ℕ → ℕ → Option (List ℕ) → Option (List ℕ) → Part → Type 0
+TookBody size most old new (parts.Whole bytes) = (length bytes ≡ size) × (size < most) × Consumes old new (bytes ++ 10 ∷ [])
+TookBody size most old new parts.Broken = (part : List ℕ) × (length part ≤ most) × Consumes old new part × NoBody size part × IfSome old (NoBody size)
+TookBody size most old new parts.NoMemory = Consumes old new []
+
+-- the reading stopped within them
+abbrev pub StoppedInBody : ℕ → ℕ → Option (List ℕ) → Option (List ℕ) → ℕ → ℕ → FrameNo → Type 0
+StoppedInBody size most old new before now fault = (part : List ℕ) × NoBody size part × Stopped most old new before now part fault

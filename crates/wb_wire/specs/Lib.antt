@@ -1,0 +1,4 @@
+pub mod FrameReading
+pub mod FieldValues
+pub mod Entries
+pub mod RequestParts

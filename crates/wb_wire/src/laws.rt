@@ -1,0 +1,23 @@
+//! Laws of the wire's definitions, each a function with no body.
+ghost use Rattle.std.specs.Prelude.{◌≡◌, ◌++◌, ℕ, List, Bool, true};
+ghost use Rattle.wb_model.specs.declared.command.Asked.{Asked};
+ghost use Rattle.wb_model.specs.declared.wire.ScriptFrame.{ScriptFrame};
+ghost use Rattle.wb_model.specs.FrameTexts.{frame_text, IsFrame};
+ghost use Rattle.wb_model.specs.Fits.{fits};
+ghost use Rattle.wb_model.specs.Readings.{Reading, Asks, Reads, Closes};
+
+/// No frame's text begins another's, so a text parts into frames in one way.
+pub fn one_frame()
+    ensures { (f g : ScriptFrame) (x y : List ℕ) → IsFrame f → IsFrame g → frame_text f ++ x ≡ frame_text g ++ y → (f ≡ g) × (x ≡ y) }
+{}
+
+/// Bytes are read as one thing alone, and their head asks for one closing.
+pub fn one_reading()
+    ensures reading { (bytes : List ℕ) (a b : Reading) → Reads bytes a → Reads bytes b → a ≡ b }
+    ensures closing { (bytes : List ℕ) (a b : Bool) → Closes bytes a → Closes bytes b → a ≡ b }
+{}
+
+/// What is asked is in the ranges of requests.
+pub fn what_is_asked_fits()
+    ensures { (bytes : List ℕ) (asked : Asked) → Reads bytes (Asks asked) → fits asked ≡ true }
+{}

@@ -1,0 +1,25 @@
+//! The wire: the frames of a script, requests read from their bytes, and the bytes of replies (RFC 9112).
+#![tactic(auto)]
+
+mod bodies;
+mod faults;
+mod fields;
+mod frame_line;
+mod frames;
+mod laws;
+mod numbers;
+mod replies;
+mod requests;
+mod taking;
+mod written;
+
+pub use faults::{fault_body, fault_status};
+pub use frames::{FrameNo, FrameReader};
+pub use laws::{one_frame, one_reading, what_is_asked_fits};
+pub use replies::{reply_head, reply_line};
+pub use requests::{WireNo, read_request};
+pub use wb_model::{PathNo, ScriptFrame, WireFault};
+pub use written::{Head, Line};
+
+#[cfg(test)]
+mod tests;
