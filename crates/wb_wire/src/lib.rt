@@ -19,7 +19,7 @@ pub use laws::{one_frame, one_reading, what_is_asked_fits};
 pub use replies::{reply_head, reply_line};
 pub use requests::{WireNo, read_request};
 pub use wb_model::{PathNo, ScriptFrame, WireFault};
-pub use written::{Head, Line};
+pub use written::{Head, Line, Written};
 
 #[cfg(test)]
 mod tests;
