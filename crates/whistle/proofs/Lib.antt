@@ -1,0 +1,5 @@
+pub mod AnswerLemmas
+pub mod SinkLemmas
+pub mod SubmissionLemmas
+pub mod PlayLemmas
+pub mod Completeness

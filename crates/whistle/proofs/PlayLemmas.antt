@@ -1,0 +1,154 @@
+-- Turn after turn.
+use Rattle.std.proofs.Common.{◌≡◌, ◌≤◌, ◌<◌, ◌+◌, ◌^◌, ℕ, zero, suc, List, [], ◌∷◌, ◌++◌, length, refl, sym, ap, ◌∙◌, append_assoc, append-nil, subst, arith, min, Option, Some, None, IfSome, length-append, get_or}
+use Rattle.std.specs.List.{AllByRecursion}
+use Rattle.std.specs.Io.KnownBytes.{Appends, Consumes, IsAtEnd}
+use Rattle.std.proofs.KnownBytes.{Appends-trans, Consumes-trans, Appends-nil, Consumes-nil}
+use Rattle.wb_base.specs.Outside.{AppendsFront}
+use Rattle.wb_model.specs.declared.wire.ScriptFrame.{ScriptFrame}
+use Rattle.wb_model.specs.FrameTexts.{texts, frame_text, line_of, IsFrame}
+use Rattle.wb_model.specs.Past.{Past}
+use Rattle.wb_model.specs.Pasts.{AllOpened}
+use Rattle.wb_model.specs.Playing.{IsPlaceOf, ArePlacesOf, written, output, one_by_keeper, keeper_losses, RoseBy}
+use Rattle.wb_model.specs.Readings.{Reading, Asks, Refuses}
+use Rattle.wb_model.specs.Scripts.{Loss, NotLost, ByKeeper, ByMemory, Unread, Place, Reply, IsPossible, ArePossible, play, answers, past_after}
+use Rattle.wb_model.specs.Tenants.{Hosts}
+use Rattle.wb_wire.specs.FrameReading.{Progress, after_next}
+use Rattle.wb_desk.specs.Turns.{StandsFor}
+use Rattle.whistle.specs.declared.answering.Answer.{Answer}
+use Rattle.whistle.specs.Answered.{reply_of, IsAnswer}
+use Rattle.whistle.specs.Submissions.{AreWellAnswered}
+use Rattle.whistle.specs.Runs.{start, output_of, Played, Wrote}
+use Rattle.whistle.proofs.SinkLemmas.{front_after}
+use Rattle.whistle.proofs.SubmissionLemmas.{all_well}
+
+-- one more at the end
+abbrev pub more : {X : Type 0} → List X → X → List X
+more xs x = xs ++ x ∷ []
+
+pub texts_more : (fs : List ScriptFrame) (f : ScriptFrame) → texts (more fs f) ≡ texts fs ++ frame_text f
+texts_more [] f = append-nil (frame_text f)
+texts_more (g ∷ fs) f = ap (λ l. frame_text g ++ l) (texts_more fs f) ∙ sym (append_assoc (frame_text g) (texts fs) (frame_text f))
+
+pub past_more : (past : Past AllOpened) (ps : List Place) (p : Place) → past_after past (more ps p) ≡ (play (past_after past ps) p).past
+past_more past [] p = refl
+past_more past (q ∷ ps) p = past_more (play past q).past ps p
+
+pub output_more : (past : Past AllOpened) (ps : List Place) (p : Place) → output (answers past (more ps p)) ≡ output (answers past ps) ++ written (play (past_after past ps) p).reply
+output_more past [] p = append-nil (written (play past p).reply)
+output_more past (q ∷ ps) p =
+    ap (λ l. written (play past q).reply ++ l) (output_more (play past q).past ps p) ∙ sym (append_assoc (written (play past q).reply) (output (answers (play past q).past ps)) (written (play (past_after (play past q).past ps) p).reply))
+
+pub good_more : (fs : List ScriptFrame) (f : ScriptFrame) → AllByRecursion IsFrame fs → IsFrame f → AllByRecursion IsFrame (more fs f)
+good_more [] f all one = (one, tt)
+good_more (g ∷ fs) f all one = (all.0, good_more fs f all.1 one)
+
+pub placed_more : (fs : List ScriptFrame) (ps : List Place) (f : ScriptFrame) (p : Place) → ArePlacesOf fs ps → IsPlaceOf f p → ArePlacesOf (more fs f) (more ps p)
+placed_more [] [] f p all one = (one, tt)
+placed_more (g ∷ fs) [] f p all one = absurd all
+placed_more [] (q ∷ ps) f p all one = absurd all
+placed_more (g ∷ fs) (q ∷ ps) f p all one = (all.0, placed_more fs ps f p all.1 one)
+
+pub possible_more : (past : Past AllOpened) (ps : List Place) (p : Place) → ArePossible past ps → IsPossible (past_after past ps) p p.reading p.loss → ArePossible past (more ps p)
+possible_more past [] p all one = (one, tt)
+possible_more past (q ∷ ps) p all one = (all.0, possible_more (play past q).past ps p all.1 one)
+
+pub losses_more : (ps : List Place) (p : Place) → keeper_losses (more ps p) ≡ keeper_losses ps + one_by_keeper p.loss
+losses_more [] p = omega arith
+losses_more (q ∷ ps) p = omega (arith, losses_more ps p)
+
+pub length_more : {X : Type 0} (xs : List X) (x : X) → length (more xs x) ≡ length xs + 1
+length_more [] x = refl
+length_more (y ∷ xs) x = omega (arith, length_more xs x)
+
+-- what was consumed stood in front
+pub begins_with : (a b : Option (List ℕ)) (bytes : List ℕ) → Consumes a b bytes → IfSome a (λ text. (rest : List ℕ) × (text ≡ bytes ++ rest))
+begins_with None b bytes h = tt
+begins_with (Some x) None bytes h = absurd h
+begins_with (Some x) (Some y) bytes h = (y, h)
+
+-- the same bytes, parted otherwise
+pub regrouped : (a b : Option (List ℕ)) (xs ys zs : List ℕ) → Consumes a b (xs ++ (ys ++ zs)) → Consumes a b (xs ++ ys ++ zs)
+regrouped a b xs ys zs h = subst (Consumes a b) (sym (append_assoc xs ys zs)) h
+
+-- a frame has bytes
+pub some_bytes : (f : ScriptFrame) → 0 < length (frame_text f)
+unfolding frame_text
+some_bytes f = omega (arith, length-append (line_of f) (10 ∷ (f.bytes ++ 10 ∷ [])))
+
+-- How it stands between two turns: what was at the start, what is now, and the frames and places so far.
+module _ (left held : Option (List ℕ)) (keeper : ℕ) where
+  module _ (left' held' : Option (List ℕ)) (keeper' : ℕ) (hosts : Hosts) (reader : Progress) where
+    pub record Standing (frames : List ScriptFrame) (places : List Place) : Type 0 where
+      pub good : AllByRecursion IsFrame frames
+      pub placed : ArePlacesOf frames places
+      pub possible : ArePossible start places
+      pub taken : Consumes left left' (texts frames)
+      pub told : Appends held held' (output_of places)
+      pub counted : RoseBy (keeper_losses places) keeper keeper'
+      pub stands : StandsFor hosts (past_after start places)
+      pub number : reader.given ≡ length frames
+      pub size : reader.taken ≡ length (texts frames)
+      pub goes_on : reader.stopped ≡ None
+      pub submissions : AreWellAnswered start places
+
+  -- before the first turn
+  pub at_start : (hosts : Hosts) (reader : Progress) → StandsFor hosts start → reader ≡ record { given = 0; taken = 0; stopped = None } → Standing left held keeper hosts reader [] []
+  at_start hosts reader stands is = record {
+    good = tt;
+    placed = tt;
+    possible = tt;
+    taken = Consumes-nil left;
+    told = Appends-nil held;
+    counted = omega arith;
+    stands = stands;
+    number = ap (λ (p : Progress). p.given) is;
+    size = ap (λ (p : Progress). p.taken) is;
+    goes_on = ap (λ (p : Progress). p.stopped) is;
+    submissions = tt;
+  }
+
+  -- a turn whose reply was written
+  pub advance : (left' held' : Option (List ℕ)) (keeper' : ℕ) (hosts : Hosts) (reader : Progress) (frames : List ScriptFrame) (places : List Place) → Standing left' held' keeper' hosts reader frames places
+      → (left'' held'' : Option (List ℕ)) (keeper'' : ℕ) (after : Hosts) (frame : ScriptFrame) (answer : Answer) (place : Place) → IsFrame frame → Consumes left' left'' (frame_text frame)
+      → IsAnswer (past_after start places) frame answer after keeper' keeper'' place → Appends held' held'' (written (reply_of answer))
+      → (reader' : Progress) → reader' ≡ after_next reader (Some frame) → Standing left'' held'' keeper'' after reader' (more frames frame) (more places place)
+  advance left' held' keeper' hosts reader frames places so_far left'' held'' keeper'' after frame answer place is_frame taken is told reader' goes =
+      record {
+        good = good_more frames frame so_far.good is_frame;
+        placed = placed_more frames places frame place so_far.placed is.of_frame;
+        possible = possible_more start places place so_far.possible is.possible;
+        taken = subst (Consumes left left'') (sym (texts_more frames frame)) (Consumes-trans left left' left'' _ _ so_far.taken taken);
+        told = subst (Appends held held'') (sym (output_more start places place)) (Appends-trans held held' held'' _ _ so_far.told (subst (λ r. Appends held' held'' (written r)) is.reply told));
+        counted = omega (arith, so_far.counted, losses_more places place, is.counted);
+        stands = is.stands ∙ ap Rattle.wb_model.specs.Pasts.standing_hosts (sym (past_more start places place));
+        number = omega (arith, so_far.number, length_more frames frame, ap (λ (r : Progress). r.given) goes);
+        size = omega (arith, so_far.size, ap length (texts_more frames frame), length-append (texts frames) (frame_text frame), ap (λ (r : Progress). r.taken) goes);
+        goes_on = ap (λ (r : Progress). r.stopped) goes ∙ so_far.goes_on;
+        submissions = all_well start (more places place);
+      }
+
+  -- a turn whose reply was not wholly written
+  pub stuck : (left' held' : Option (List ℕ)) (keeper' : ℕ) (hosts : Hosts) (reader : Progress) (frames : List ScriptFrame) (places : List Place) → Standing left' held' keeper' hosts reader frames places
+      → (left'' held'' : Option (List ℕ)) (keeper'' : ℕ) (after : Hosts) (frame : ScriptFrame) (answer : Answer) (place : Place) → IsFrame frame → Consumes left' left'' (frame_text frame)
+      → IsAnswer (past_after start places) frame answer after keeper' keeper'' place → AppendsFront held' held'' (written (reply_of answer)) → (source source' sink sink' : ℕ)
+      → Played left left'' held held'' source source' sink sink' keeper keeper'' (more frames frame) (more places place) × AppendsFront held held'' (output_of (more places place))
+  stuck left' held' keeper' hosts reader frames places so_far left'' held'' keeper'' after frame answer place is_frame taken is told source source' sink sink' =
+      let consumed : Consumes left left'' (texts (more frames frame)) = subst (Consumes left left'') (sym (texts_more frames frame)) (Consumes-trans left left' left'' _ _ so_far.taken taken) in (
+        record {
+          good = good_more frames frame so_far.good is_frame;
+          placed = placed_more frames places frame place so_far.placed is.of_frame;
+          possible = possible_more start places place so_far.possible is.possible;
+          begins = begins_with left left'' _ consumed;
+          counted = omega (arith, so_far.counted, losses_more places place, is.counted);
+          submissions = all_well start (more places place);
+        },
+        subst (AppendsFront held held'') (sym (output_more start places place)) (front_after held held' held'' _ _ so_far.told (subst (λ r. AppendsFront held' held'' (written r)) is.reply told)),
+      )
+
+  -- what is so far was played and written
+  pub wrote : (left' held' : Option (List ℕ)) (keeper' : ℕ) (hosts : Hosts) (reader : Progress) (frames : List ScriptFrame) (places : List Place) → Standing left' held' keeper' hosts reader frames places
+      → (left'' : Option (List ℕ)) (part : List ℕ) → Consumes left' left'' part → (source source' sink sink' : ℕ) → Wrote left left'' held held' source source' sink sink' keeper keeper' frames places
+  wrote left' held' keeper' hosts reader frames places so_far left'' part taken source source' sink sink' = record {
+    played = record { good = so_far.good; placed = so_far.placed; possible = so_far.possible; begins = begins_with left left' _ so_far.taken; counted = so_far.counted; submissions = so_far.submissions };
+    written = so_far.told;
+  }

@@ -1,0 +1,85 @@
+-- What a run did, by its status.
+use Rattle.std.specs.Prelude.{ℕ, ◌≡◌, ◌+◌, ◌^◌, ◌<◌, ◌⊎◌, List, [], ◌∷◌, ◌++◌, length, codes, decimal, Option, IfSome}
+use Rattle.std.specs.List.{AllByRecursion}
+use Rattle.std.specs.Io.KnownBytes.{Appends, Consumes, Keeps}
+use Rattle.wb_base.specs.Outside.{Rose, AppendsFront}
+use Rattle.wb_model.specs.declared.wire.ScriptFrame.{ScriptFrame}
+use Rattle.wb_model.specs.FrameTexts.{texts, IsFrame, IsBroken, NoFrame}
+use Rattle.wb_model.specs.Past.{Past, Opening}
+use Rattle.wb_model.specs.Pasts.{AllOpened}
+use Rattle.wb_model.specs.Playing.{ArePlacesOf, output, keeper_losses, RoseBy}
+use Rattle.wb_model.specs.Scripts.{Place, ArePossible, answers}
+use Rattle.wb_model.specs.Starter.{starter_opening}
+use Rattle.whistle.specs.Submissions.{AreWellAnswered}
+use Rattle.whistle.specs.declared.status.Status.{Status}
+use Rattle.whistle.specs.declared.status.Status.TheVariants.{Done, Usage, ReadFault, WriteFault, NoMemory, BadFrame, TooLong}
+
+-- the host before its first turn
+abbrev pub start : Past AllOpened
+start = Opening starter_opening
+
+-- what is written for these places
+abbrev pub output_of : List Place → List ℕ
+output_of places = output (answers start places)
+
+-- what the source had left and has left now, what the sink held before and holds now, and the counts of both and of the keeper before and now
+module _ (left left' held held' : Option (List ℕ)) (source source' sink sink' keeper keeper' : ℕ) where
+  -- the input begins with these frames, and the host played them as these places
+  pub record Played (frames : List ScriptFrame) (places : List Place) : Type 0 where
+    pub good : AllByRecursion IsFrame frames
+    pub placed : ArePlacesOf frames places
+    pub possible : ArePossible start places
+    pub begins : IfSome left (λ text. (rest : List ℕ) × (text ≡ texts frames ++ rest))
+    pub counted : RoseBy (keeper_losses places) keeper keeper'
+    -- and each good submission among them was answered as its sender expects
+    pub submissions : AreWellAnswered start places
+
+  -- and wrote each reply
+  pub record Wrote (frames : List ScriptFrame) (places : List Place) : Type 0 where
+    pub played : Played frames places
+    pub written : Appends held held' (output_of places)
+
+  -- these frames were taken, and then bytes that no whole frame begins
+  abbrev pub TookThen : List ScriptFrame → Type 0
+  TookThen frames = (part : List ℕ) × Consumes left left' (texts frames ++ part) × NoFrame part
+
+  -- so were 2^40 bytes in all, and one more
+  abbrev pub TookAll : List ScriptFrame → Type 0
+  TookAll frames = (part : List ℕ) × (next : ℕ) × Consumes left left' (texts frames ++ part ++ next ∷ []) × NoFrame part × (length (texts frames ++ part) ≡ 2 ^ 40)
+
+  -- nothing was taken and nothing was written
+  pub record IsUntouched : Type 0 where
+    pub left_as_it_was : Keeps left left'
+    pub held_as_it_was : Keeps held held'
+
+  -- what a run with this status did
+  abbrev pub Ran : Status → Type 0
+  Ran Done = (frames : List ScriptFrame) × (places : List Place) × Wrote frames places × IfSome left (λ text. text ≡ texts frames)
+  Ran Usage = IsUntouched
+  Ran ReadFault = (frames : List ScriptFrame) × (places : List Place) × Wrote frames places × Rose source source' × TookThen frames
+  Ran WriteFault = (frames : List ScriptFrame) × (places : List Place) × Played frames places × Rose sink sink' × AppendsFront held held' (output_of places)
+  Ran NoMemory = IsUntouched ⊎ ((frames : List ScriptFrame) × (places : List Place) × Wrote frames places × TookThen frames)
+  Ran (BadFrame n) = (frames : List ScriptFrame) × (places : List Place) × Wrote frames places × TookThen frames × (n ≡ length frames + 1)
+      × IfSome left (λ text. (rest : List ℕ) × (text ≡ texts frames ++ rest) × IsBroken rest)
+  Ran TooLong = (frames : List ScriptFrame) × (places : List Place) × Wrote frames places × TookAll frames
+
+-- ---- the line of a status
+
+abbrev pub status_text : Status → List ℕ
+status_text Done = []
+status_text Usage = codes "usage: whistle play [--store PATH], make N, tally N, serve --setup PATH --listen ADDRESS --workers N [--store PATH]\n"
+status_text ReadFault = codes "read fault\n"
+status_text WriteFault = codes "write fault\n"
+status_text NoMemory = codes "no memory\n"
+status_text (BadFrame n) = codes "bad frame " ++ decimal n ++ codes "\n"
+status_text TooLong = codes "input too long\n"
+
+-- the number that the program ends with
+abbrev pub status_number : Status → ℕ
+status_number Done = 0
+status_number Usage = 2
+status_number ReadFault = 3
+status_number WriteFault = 4
+status_number NoMemory = 5
+status_number (BadFrame n) = 6
+status_number TooLong = 10

@@ -1,0 +1,111 @@
+//! One frame of a script, answered and written.
+ghost use Rattle.std.specs.Prelude.{◌≡◌, ◌<◌, ◌≤◌, ◌+◌, OnOk, OnErr};
+ghost use Rattle.std.specs.Io.KnownBytes.{Appends};
+ghost use Rattle.wb_base.specs.Outside.{AppendsFront, HasCause};
+ghost use Rattle.wb_model.specs.Past.{Past};
+ghost use Rattle.wb_model.specs.Pasts.{AllOpened};
+ghost use Rattle.wb_model.specs.Playing.{written};
+ghost use Rattle.wb_model.specs.Replies.{fault_told, fault_allow};
+ghost use Rattle.wb_model.specs.Scripts.{Place};
+ghost use Rattle.wb_desk.specs.Standing.{hosts_of};
+ghost use Rattle.wb_desk.specs.Turns.{StandsFor};
+ghost use Rattle.whistle.specs.Answered.{reply_of, IsAnswer};
+
+use std::alloc::Global;
+use wb_base::{Failed, Keeper, Sink};
+use wb_desk::Desk;
+use wb_model::{Body, Told};
+use wb_wire::{
+    PathNo, ScriptFrame, WireFault, WireNo, fault_body, fault_status, read_request, reply_head,
+    reply_line,
+};
+
+/// A reply: what is told, the path whose methods it lists, and whether the connection closes after it.
+#[derive(Drop)]
+pub struct Answer {
+    pub told: Told,
+    pub allow: Option<PathNo>,
+    pub close: bool,
+}
+
+// The path whose methods a fault's reply lists.
+fn allow_of(fault: &WireFault) -> Option<PathNo>
+    ensures { result ≡ fault_allow fault.now }
+{
+    match fault {
+        WireFault::BadHead => None,
+        WireFault::BadLength => None,
+        WireFault::NoLength => None,
+        WireFault::TooLarge => None,
+        WireFault::NoRoute => None,
+        WireFault::NoMethod(path) => Some(*path),
+        WireFault::BadJson => None,
+        WireFault::BadShape => None,
+        WireFault::NotBuilt => None,
+        WireFault::Memory => None,
+    }
+}
+
+// The reply to a request that is not read. It takes no memory.
+fn refusal(no: &WireNo) -> Answer
+    ensures { reply_of result ≡ record { told = fault_told no.now.fault; allow = fault_allow no.now.fault; close = no.now.close } }
+{
+    Answer {
+        told: Told {
+            status: fault_status(&no.fault),
+            body: Body::short(fault_body(&no.fault)),
+        },
+        allow: allow_of(&no.fault),
+        close: no.close,
+    }
+}
+
+/// Answers one frame, which is a turn of the host where it is read.
+pub fn answer_frame<K: Keeper>(
+    alloc: Global,
+    desk: &mut Desk,
+    keeper: &mut K,
+    frame: &ScriptFrame,
+) -> Answer
+    requires { desk.old.turns < 1_000_000_000_000_000 }
+    ensures answer { (past : Past AllOpened) → StandsFor (hosts_of desk.old) past → (place : Place) × IsAnswer past frame.now result (hosts_of desk.new) (K.count keeper.old) (K.count keeper.new) place }
+    ensures turns { desk.new.turns ≤ desk.old.turns + 1 }
+    ensures keeper { keeper.new ≡ keeper.old }
+{
+    match read_request(alloc, frame.bytes.as_slice()) {
+        Ok(asked) => Answer {
+            told: desk.step(keeper, &asked, frame.moment, &frame.words),
+            allow: None,
+            close: asked.close,
+        },
+        Err(no) => refusal(&no),
+    }
+}
+
+/// Writes what the output has of an answer. It takes no memory.
+pub fn write_answer<W: Sink>(sink: &mut W, answer: &Answer) -> Result<(), Failed>
+    ensures ok { OnOk result (Appends (W.held sink.old) (W.held sink.new) (written (reply_of answer.now))) }
+    ensures err { OnErr result (AppendsFront (W.held sink.old) (W.held sink.new) (written (reply_of answer.now))) }
+    ensures cause { HasCause (W.count sink.old) (W.count sink.new) result }
+{
+    let told = &answer.told;
+    let body = told.body.as_bytes();
+    let head = reply_head(told.status, answer.allow, body.len(), answer.close);
+    let line = reply_line(told.status, head.as_bytes().len() + body.len());
+    match sink.write_all(line.as_bytes()) {
+        Ok(()) => {}
+        Err(no) => return Err(no),
+    }
+    match sink.write_all(head.as_bytes()) {
+        Ok(()) => {}
+        Err(no) => return Err(no),
+    }
+    match sink.write_all(body) {
+        Ok(()) => {}
+        Err(no) => return Err(no),
+    }
+    match sink.write_all(b"\n") {
+        Ok(()) => Ok(()),
+        Err(no) => Err(no),
+    }
+}

@@ -1,0 +1,87 @@
+//! The top call.
+ghost use Rattle.std.specs.Prelude.{List, Some, ◌≡◌, ◌≢◌, ◌⊎◌, ◌<◌, ◌^◌, ◌↔◌, ◌∷◌, [], codes, length, IsTrue};
+ghost use Rattle.std.specs.List.{AllByRecursion};
+ghost use Rattle.wb_base.specs.Outside.{Rose};
+ghost use Rattle.wb_model.specs.declared.wire.ScriptFrame.{ScriptFrame};
+ghost use Rattle.wb_model.specs.FrameTexts.{texts, IsFrame};
+ghost use Rattle.wb_desk.specs.Standing.{hosts_of};
+ghost use Rattle.wb_desk.specs.Turns.{StandsFor};
+ghost use Rattle.whistle.specs.Runs.{Ran, start};
+
+use crate::answering::{answer_frame, write_answer};
+use crate::status::Status;
+use std::alloc::Global;
+use wb_base::{Keeper, Memory, Sink, Source, Text};
+use wb_desk::Desk;
+use wb_wire::{FrameNo, FrameReader, one_frame};
+
+// Whether the word is `play`.
+fn is_play_word(word: &Text) -> bool
+    ensures { IsTrue result ↔ (word.now ≡ codes "play") }
+{
+    word.as_bytes() == b"play".as_slice()
+}
+
+// Whether the words are `play` alone.
+fn is_play(words: &[Text]) -> bool
+    ensures { IsTrue result ↔ (words.now ≡ codes "play" ∷ []) }
+{
+    words.len() == 1 && is_play_word(&words[0])
+}
+
+// Plays frame after frame.
+fn play<S: Source, W: Sink, K: Keeper>(
+    alloc: Global,
+    desk: &mut Desk,
+    source: &mut S,
+    sink: &mut W,
+    keeper: &mut K,
+) -> Status
+    requires { StandsFor (hosts_of desk.old) start }
+    ensures ran { Ran (S.left source.old) (S.left source.new) (W.held sink.old) (W.held sink.new) (S.count source.old) (S.count source.new) (W.count sink.old) (W.count sink.new) (K.count keeper.old) (K.count keeper.new) result }
+    ensures no_usage { result ≢ Status.Usage }
+    ensures keeper { keeper.new ≡ keeper.old }
+{
+    let mut reader = FrameReader::new();
+    loop {
+        match reader.next(alloc, source) {
+            Ok(Some(frame)) => {
+                let answer = answer_frame(alloc, desk, keeper, &frame);
+                match write_answer(sink, &answer) {
+                    Ok(()) => {}
+                    Err(_) => return Status::WriteFault,
+                }
+            }
+            Ok(None) => return Status::Done,
+            Err(FrameNo::Read) => return Status::ReadFault,
+            Err(FrameNo::Bad(n)) => return Status::BadFrame(n),
+            Err(FrameNo::TooLong) => return Status::TooLong,
+            Err(FrameNo::Memory) => return Status::NoMemory,
+        }
+    }
+}
+
+/// Does what the words ask: `play` plays the script of the source on the starter host and writes each reply before it
+/// reads the next frame. It waits for nobody.
+pub fn run<S: Source, W: Sink, K: Keeper>(
+    alloc: Global,
+    words: &[Text],
+    source: &mut S,
+    sink: &mut W,
+    keeper: &mut K,
+) -> Status
+    ensures usage { (result ≡ Status.Usage) ↔ (words.now ≢ codes "play" ∷ []) }
+    ensures ran { Ran (S.left source.old) (S.left source.new) (W.held sink.old) (W.held sink.new) (S.count source.old) (S.count source.new) (W.count sink.old) (W.count sink.new) (K.count keeper.old) (K.count keeper.new) result }
+    ensures keeper { keeper.new ≡ keeper.old }
+    // A whole script is played to its end where nothing failed, or there was no memory.
+    ensures complete { (frames : List ScriptFrame) → AllByRecursion IsFrame frames → S.left source.old ≡ Some (texts frames) → length (texts frames) < 2 ^ 40 → words.now ≡ codes "play" ∷ [] → (Rose (S.count source.old) (S.count source.new) → ⊥) → (Rose (W.count sink.old) (W.count sink.new) → ⊥) → (result ≡ Status.Done) ⊎ (result ≡ Status.NoMemory) }
+{
+    one_frame();
+    if !is_play(words) {
+        return Status::Usage;
+    }
+    match Desk::starter(alloc) {
+        Ok(mut desk) => play(alloc, &mut desk, source, sink, keeper),
+        Err(Memory) => Status::NoMemory,
+    }
+}
