@@ -1,6 +1,6 @@
 -- The verdict on a submission, case by case, and verdicts as the code has them.
 use Rattle.std.proofs.Common.{◌≡◌, ℕ, ◌+◌, Bool, true, false, List, [], ◌∷◌, Option, Some, None, refl, sym, ap, ◌∙◌, subst}
-use Rattle.std.specs.Prelude.{nat_lt, Result, Ok, Err, IfOk}
+use Rattle.std.specs.Prelude.{nat_lt, if◌then◌else◌, Result, Ok, Err, IfOk, OnOk}
 use Rattle.wb_base.specs.AnswerList.{Answered}
 use Rattle.wb_base.specs.declared.faults.AnswerFault.{AnswerFault}
 use Rattle.wb_model.specs.declared.body.Told.{Told}
@@ -57,6 +57,19 @@ is_spent p at id answers item kept e f g n k = is_refused (submission_verdict p 
 
 pub is_taken : (p : Plain) (at : At) (id : ℕ) (answers : Answered) (item : FormItem) (t : Told) → is_open (context id p.registry.contexts) ≡ true → form_at p id ≡ Some item → submission_fault item.form answers ≡ None → nat_lt p.numbering.last 4_294_967_295 ≡ true → t ≡ told 201 (submission_view (p.numbering.last + 1) (receipt_text at.words)) → IsVerdict (submission_verdict p at id answers) (verdicts.Accepted t)
 is_taken p at id answers item t e f g n k = let v = taken p at id answers item e f g n in (v.0, v.1 ∙ ap (λ x. Accepted v.0 (Says x)) (sym k))
+
+-- a submission with right answers draws a number, where one is left
+pub is_drawn : (p : Plain) (at : At) (id : ℕ) (answers : Answered) (item : FormItem) (kept : KeptVerdict) → is_open (context id p.registry.contexts) ≡ true → form_at p id ≡ Some item → submission_fault item.form answers ≡ None
+    → kept ≡ (if nat_lt p.numbering.last 4_294_967_295 then verdicts.Accepted (told 201 (submission_view (p.numbering.last + 1) (receipt_text at.words))) else verdicts.Refused numbers_spent) → IsVerdict (submission_verdict p at id answers) kept
+is_drawn p at id answers item kept e f g k = by_room (nat_lt p.numbering.last 4_294_967_295) refl k
+  where
+    by_room : (b : Bool) → nat_lt p.numbering.last 4_294_967_295 ≡ b → kept ≡ (if b then verdicts.Accepted (told 201 (submission_view (p.numbering.last + 1) (receipt_text at.words))) else verdicts.Refused numbers_spent) → IsVerdict (submission_verdict p at id answers) kept
+    by_room true n k = subst (IsVerdict (submission_verdict p at id answers)) (sym k) (is_taken p at id answers item (told 201 (submission_view (p.numbering.last + 1) (receipt_text at.words))) e f g n refl)
+    by_room false n k = is_spent p at id answers item kept e f g n k
+
+pub ok_both : {X E : Type 0} {A : Type 0} {P Q : X → Type 0} (r : Result X E) → ((x : X) → A → P x → Q x) → OnOk r A → IfOk r P → IfOk r Q
+ok_both (Ok x) f a p = f x a p
+ok_both (Err e) f a p = tt
 
 pub ok_map : {X E : Type 0} {P Q : X → Type 0} (r : Result X E) → ((x : X) → P x → Q x) → IfOk r P → IfOk r Q
 ok_map (Ok x) f p = f x p

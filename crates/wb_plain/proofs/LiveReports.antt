@@ -1,11 +1,15 @@
 -- The report of a number among those that are live.
-use Rattle.std.proofs.Common.{◌≡◌, ◌⊎◌, inl, inr, ℕ, Bool, true, false, cond, List, [], ◌∷◌, Option, Some, None, refl, sym, ap, ◌∙◌, subst, arith}
+use Rattle.std.proofs.Common.{◌≡◌, ◌⊎◌, inl, inr, ℕ, ◌≤◌, Bool, true, false, cond, List, [], ◌∷◌, Option, Some, None, refl, sym, ap, ◌∙◌, subst, arith}
 use Rattle.std.specs.Prelude.{◌==◌, ◌&&◌, if◌then◌else◌, filter, map}
 use Rattle.std.specs.List.{list_any}
 use Rattle.std.proofs.lemmas.Bool.{cases_Bool}
 use Rattle.std.proofs.lemmas.Bool.Decides.{nat_tests}
 use Rattle.wb_model.specs.Tables.{Case, is_live, report}
-use Rattle.wb_model.specs.Past.{Past, Opened, registry, numbers, live, case_of, live_reports}
+use Rattle.wb_model.specs.Past.{Past, Opened, registry, numbers, trail, lives_at, live, case_of, live_reports}
+use Rattle.wb_model.specs.declared.entry.Entry.{Entry}
+use Rattle.wb_model.specs.declared.event.Event.{Event}
+use Rattle.wb_plain.specs.Pasts.{own}
+use Rattle.wb_plain.proofs.OwnPasts.{no_number_0}
 
 -- the report of a number among live ones of these numbers
 abbrev among : Past Opened → ℕ → ℕ → List ℕ → Option Case
@@ -51,3 +55,30 @@ report_among past time n (k ∷ ks) = elim (cases_Bool (k == n)) [
 
 pub report_live : (past : Past Opened) (time n : ℕ) → report n (live_reports past time) ≡ found past time n (list_any (λ k. k == n) (numbers past))
 report_live past time n = report_among past time n (numbers past)
+
+pub report_0 : (events : List Event) (time n : ℕ) → (1 ≤ n → ⊥) → None ≡ report n (live_reports (own events) time)
+report_0 events time n none =
+    let zero : n ≡ 0 = omega (arith, none) in
+    sym (ap (λ k. report k (live_reports (own events) time)) zero ∙ (report_live (own events) time 0 ∙ rw (no_number_0 events) refl))
+
+pub report_none : (past : Past Opened) (time n : ℕ) → list_any (λ k. k == n) (numbers past) ≡ false → None ≡ report n (live_reports past time)
+report_none past time n none = sym (report_live past time n ∙ rw none refl)
+
+-- with the trail that was found for it
+abbrev with_trail : Past Opened → ℕ → ℕ → List Entry → Option Case
+with_trail past time n entries = if list_any (λ k. k == n) (numbers past) && lives_at (registry past) time n entries then Some (record { number = n; trail = entries }) else None
+
+found_with : (past : Past Opened) (time n : ℕ) (entries : List Entry) → entries ≡ trail past n → report n (live_reports past time) ≡ with_trail past time n entries
+found_with past time n entries same = report_live past time n ∙ ap (with_trail past time n) (sym same)
+
+pub report_dead : (past : Past Opened) (time n : ℕ) (entries : List Entry) → entries ≡ trail past n → lives_at (registry past) time n entries ≡ false → None ≡ report n (live_reports past time)
+report_dead past time n entries same dead = sym (found_with past time n entries same ∙ no_case (list_any (λ k. k == n) (numbers past)))
+  where
+    no_case : (b : Bool) → cond {A = Option Case} (b && lives_at (registry past) time n entries) (Some (record { number = n; trail = entries })) None ≡ None
+    no_case true = rw dead refl
+    no_case false = refl
+
+pub report_some : (past : Past Opened) (time n number : ℕ) (entries : List Entry) → number ≡ n → entries ≡ trail past n → list_any (λ k. k == n) (numbers past) ≡ true → lives_at (registry past) time n entries ≡ true → Some (record { number = number; trail = entries }) ≡ report n (live_reports past time)
+report_some past time n number entries named same there lives =
+    ap (λ k. Some (record { number = k; trail = entries })) named
+    ∙ sym (found_with past time n entries same ∙ rw (there, lives) refl)

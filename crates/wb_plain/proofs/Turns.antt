@@ -25,7 +25,7 @@ use Rattle.wb_model.specs.Pasts.{tenants, has_tenant, part, reply_in, what_in}
 use Rattle.wb_model.specs.Starter.{starter_registry}
 use Rattle.wb_plain.specs.Pasts.{past_of, own, fault_in, fault_done}
 use Rattle.wb_plain.specs.Setups.{plain_of, at_of, IsAsOf}
-use Rattle.wb_plain.specs.Verdicts.{IsVerdict}
+use Rattle.wb_plain.specs.Verdicts.{told_in, IsVerdict}
 use Rattle.wb_plain.specs.declared.past.AsOf.{AsOf}
 use Rattle.wb_plain.specs.declared.verdict.Verdict.{Verdict as KeptVerdict}
 use Rattle.wb_plain.specs.declared.verdict.Verdict.TheVariants as verdicts
@@ -106,10 +106,6 @@ tenant_there events f one = rw (one_tenant events, one) refl
 tenant_absent : (events : List Event) (f : Frame) → tenant_at f ≢ 1 → has_tenant (past_of events) (tenant_at f) ≡ false
 tenant_absent events f other = rw (one_tenant events) (grind (arith, nat_tests, other))
 
-abbrev pub told_in : KeptVerdict → Told
-told_in (verdicts.Refused told) = told
-told_in (verdicts.Accepted told) = told
-
 told_by : (v : Verdict) (kept : KeptVerdict) (sealed : Sealed) → IsVerdict v kept → reply_by v sealed ≡ told_in kept
 told_by v (verdicts.Refused told) sealed e = ap (λ x. reply_by x sealed) e
 told_by v (verdicts.Accepted told) sealed e = ap (λ x. reply_by x sealed) e.1
@@ -125,8 +121,11 @@ what_made events f s t kept what h one by =
     ∙ (ap (λ x. what_by (verdict_at (own events) f) 1 x f.asked) (target_is events f s t kept h)
     ∙ (ap (λ u. what_at u (part u (past_of events)) f) (sym one) ∙ rw (tenant_there events f one) refl))
 
-pub reply_elsewhere : (events : List Event) (f : Frame) → tenant_at f ≢ 1 → without_tenant (tenant_at f) ≡ reply_in (past_of events) f
-reply_elsewhere events f other = rw (tenant_absent events f other) refl
+pub reply_elsewhere : (events : List Event) (f : Frame) (t : ℕ) → t ≡ tenant_at f → t ≢ 1 → without_tenant t ≡ reply_in (past_of events) f
+reply_elsewhere events f t same other = ap without_tenant same ∙ rw (tenant_absent events f (λ e. other (same ∙ e))) refl
+
+pub what_elsewhere : (events : List Event) (f : Frame) (t : ℕ) → t ≡ tenant_at f → t ≢ 1 → Idle ≡ what_in (past_of events) f
+what_elsewhere events f t same other = rw (tenant_absent events f (λ e. other (same ∙ e))) refl
 
 -- ---- a command that was done has right answers
 

@@ -29,6 +29,10 @@ target_of (targets.Nobody refusal) = Nobody (told_of refusal)
 target_of (targets.Alone user) = Alone (option_map TheUser user)
 target_of (targets.On user case) = On (TheUser user) (case_of case)
 
+abbrev pub told_in : KeptVerdict → Told
+told_in (verdicts.Refused told) = told
+told_in (verdicts.Accepted told) = told
+
 -- the verdict on a submission to a context
 abbrev pub submission_verdict : Plain → At → ℕ → Answered → Verdict
 submission_verdict p at id answers = let command = commands.Submit 1 id [] in

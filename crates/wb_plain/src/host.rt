@@ -10,7 +10,7 @@ use crate::refused::{Refusal, refuse};
 use crate::routes::tenant_of;
 use crate::setup::{Setup, starter_setup};
 use crate::target::find_target;
-use crate::verdict::{Verdict, judge, what};
+use crate::verdict::{judge, reply, what};
 use std::alloc::Global;
 use std::marker::Model;
 use wb_base::{Memory, Moment, Words};
@@ -68,12 +68,11 @@ fn turn(
         return Ok((without_tenant(alloc, t)?, What::Idle));
     }
     let at = as_of(setup, events, moment);
+    let _bounded = at.time.seconds();
     let target = find_target(alloc, &at, &asked.session, &asked.command)?;
     let verdict = judge(alloc, &at, words, &asked, &target)?;
     let what = what(&verdict, &target, asked);
-    match verdict {
-        Verdict::Refused(told) | Verdict::Accepted(told) => Ok((told, what)),
-    }
+    Ok((reply(verdict), what))
 }
 
 impl PlainHost {

@@ -80,8 +80,11 @@ pub fn report(alloc: Global, at: &AsOf<'_>, n: u32) -> Result<Option<Case>, Memo
         return Ok(None);
     };
     let numbers = numbers(alloc, at.setup, at.past)?;
+    if !numbers.as_slice().contains(&(n as u64)) {
+        return Ok(None);
+    }
     let trail = trail(alloc, at.setup, at.past, n as u64)?;
-    if numbers.as_slice().contains(&(n as u64)) && lives(trail.as_slice()) {
+    if lives(trail.as_slice()) {
         Ok(Some(Case { number, trail }))
     } else {
         Ok(None)

@@ -1,7 +1,8 @@
 //! The verdict on a request.
-ghost use Rattle.std.specs.Prelude.{◌≡◌, List, Option, IfOk};
+ghost use Rattle.std.specs.Prelude.{◌≡◌, ◌≢◌, ◌+◌, nat_lt, if◌then◌else◌, List, Option, IfOk, OnOk};
 ghost use Rattle.wb_model.specs.Json.{told};
-ghost use Rattle.wb_model.specs.Past as past;
+ghost use Rattle.wb_model.specs.Past.{last as last_of, did as did_by, what_by};
+ghost use Rattle.wb_model.specs.Refusals.{numbers_spent, faulty as faulty_told};
 ghost use Rattle.wb_model.specs.Requests.{request};
 ghost use Rattle.wb_model.specs.Rules as rules;
 ghost use Rattle.wb_model.specs.Secrets.{receipt_text};
@@ -10,8 +11,9 @@ ghost use Rattle.wb_model.specs.Targets as targets;
 ghost use Rattle.wb_model.specs.declared.entry.Entry.{Entry as EntryValue};
 ghost use Rattle.wb_model.specs.Views.{submission_view as submission_data, recipient_view as recipient_data};
 ghost use Rattle.wb_plain.specs.Facts.{case_of};
+ghost use Rattle.wb_plain.specs.Pasts.{own};
 ghost use Rattle.wb_plain.specs.Setups.{plain_of, at_of, IsAsOf};
-ghost use Rattle.wb_plain.specs.Verdicts.{told_of, target_of, submission_verdict, IsVerdict};
+ghost use Rattle.wb_plain.specs.Verdicts.{told_of, target_of, submission_verdict, told_in, IsVerdict};
 
 use crate::past::{AsOf, asking, last};
 use crate::refused::{Refusal, refuse, refuse_answers};
@@ -50,6 +52,31 @@ fn submitted(alloc: Global, number: u32, words: &Words) -> Result<Told, Memory>
     })
 }
 
+// The verdict on a submission with right answers: it draws a number, where one is left.
+fn drawn(alloc: Global, at: &AsOf<'_>, words: &Words) -> Result<Verdict, Memory>
+    requires { IsAsOf at.now }
+    ensures { IfOk result (λ v. v ≡ (if nat_lt (last_of (own at.now.past.now)) 4_294_967_295 then Verdict.Accepted (told 201 (submission_data (last_of (own at.now.past.now) + 1) (receipt_text words.now))) else Verdict.Refused numbers_spent)) }
+{
+    let last = last(alloc, at.setup, at.past)?;
+    if last < 4_294_967_295 {
+        Ok(Verdict::Accepted(submitted(alloc, last as u32 + 1, words)?))
+    } else {
+        refused(alloc, Refusal::NumbersSpent)
+    }
+}
+
+// The verdict on answers with a fault, which may be want of memory.
+fn faulty(alloc: Global, fault: AnswerFault) -> Result<Verdict, Memory>
+    ensures code { OnOk result (fault.code ≢ AnswerFault.MEMORY) }
+    ensures verdict { IfOk result (λ v. v ≡ Verdict.Refused (faulty_told fault)) }
+{
+    if fault.code == AnswerFault::MEMORY {
+        Err(Memory)
+    } else {
+        Ok(Verdict::Refused(refuse_answers(alloc, fault)?))
+    }
+}
+
 // The verdict on a submission to a context.
 fn submission(
     alloc: Global,
@@ -68,19 +95,8 @@ fn submission(
         return refused(alloc, Refusal::NotFound);
     }
     match check(alloc, &item.form, answers) {
-        Ok(_) => {
-            let last = last(alloc, at.setup, at.past)?;
-            if last < 4_294_967_295 {
-                Ok(Verdict::Accepted(submitted(alloc, last as u32 + 1, words)?))
-            } else {
-                refused(alloc, Refusal::NumbersSpent)
-            }
-        }
-        Err(fault) => if fault.code == AnswerFault::MEMORY {
-            Err(Memory)
-        } else {
-            Ok(Verdict::Refused(refuse_answers(alloc, fault)?))
-        },
+        Ok(_) => drawn(alloc, at, words),
+        Err(fault) => faulty(alloc, fault),
     }
 }
 
@@ -153,7 +169,7 @@ pub fn judge(
 
 // A command that was done, and who asked it.
 fn did(target: &Target, asked: Asked) -> What
-    ensures { result ≡ past.did 1 (target_of target.now) asked }
+    ensures { result ≡ did_by 1 (target_of target.now) asked }
 {
     match target {
         Target::Nobody(_) => What::Idle,
@@ -166,7 +182,7 @@ fn did(target: &Target, asked: Asked) -> What
 
 /// What the turn of a request was.
 pub fn what(verdict: &Verdict, target: &Target, asked: Asked) -> What
-    ensures { (v : rules.Verdict) → IsVerdict v verdict.now → result ≡ past.what_by v 1 (target_of target.now) asked }
+    ensures { (v : rules.Verdict) → IsVerdict v verdict.now → result ≡ what_by v 1 (target_of target.now) asked }
 {
     match verdict {
         Verdict::Refused(_) => What::Idle,
@@ -175,5 +191,15 @@ pub fn what(verdict: &Verdict, target: &Target, asked: Asked) -> What
         } else {
             did(target, asked)
         },
+    }
+}
+
+/// The reply of a verdict.
+pub fn reply(verdict: Verdict) -> Told
+    ensures { result ≡ told_in verdict }
+{
+    match verdict {
+        Verdict::Refused(told) => told,
+        Verdict::Accepted(told) => told,
     }
 }
