@@ -1,4 +1,3 @@
-pub mod EarlyDays
 pub mod OwnPasts
 pub mod Changes
 pub mod LiveReports

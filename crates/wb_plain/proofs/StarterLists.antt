@@ -1,6 +1,7 @@
 -- What stands in the starter host's setup.
-use Rattle.std.proofs.Common.{◌≡◌, ℕ, ◌≤◌, Bool, true, false, cond, Option, Some, None, refl, sym, ◌∙◌, subst, [], ◌∷◌, codes, arith}
+use Rattle.std.proofs.Common.{◌≡◌, ℕ, ◌≤◌, Bool, true, false, cond, Option, Some, None, refl, sym, ◌∙◌, subst, [], ◌∷◌, codes, ℤ, w32, to_z, of_z, arith}
 use Rattle.std.specs.Prelude.{◌==◌}
+use Rattle.jiff_core.proofs.SignedLemmas.{signed_casts}
 use Rattle.wb_base.specs.Days.{IsOffset}
 use Rattle.wb_base.specs.FormFaults.{is_good}
 use Rattle.wb_model.specs.declared.registry.ContextItem.{ContextItem}
@@ -12,6 +13,10 @@ use Rattle.wb_plain.specs.Setups.{IsAsking}
 pub starter_offset : IsOffset starter_registry.settings.offset
 unfolding starter_registry
 starter_offset = (omega arith, omega arith)
+
+-- an offset is kept by a cast to 32 bits
+pub offset_cast : (z : ℤ) → IsOffset z → to_z w32 (of_z w32 z) ≡ z
+offset_cast z h = omega (arith, signed_casts)
 
 abbrev the_item : FormItem
 the_item = record { tenant = 1; id = 1; version = 1; form = starter_form }

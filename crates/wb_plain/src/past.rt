@@ -1,7 +1,6 @@
 //! Facts of the past, each computed anew from the turns.
 ghost use Rattle.std.specs.Prelude.{◌≡◌, ◌≤◌, ℕ, [], Option, None, length, max, IfOk, MatchOption};
 ghost use Rattle.std.specs.Option.{option_copied};
-ghost use Rattle.wb_base.specs.Days.{day_of as day_at, IsEarlyDay, IsOffset};
 ghost use Rattle.wb_model.specs.Past.{now as now_of, last as last_of, drew as drew_of, alone_at};
 ghost use Rattle.wb_model.specs.Requests.{Checked, outcome, outline, submission_fault, public as public_part, mark as mark_of};
 ghost use Rattle.wb_model.specs.Rules.{Opens, dealt, deal_of, submission_entry};
@@ -14,8 +13,8 @@ use crate::routes::{place_of, tenant_of};
 use crate::setup::Setup;
 use std::alloc::Global;
 use wb_access::{digest, draw};
-use wb_base::{AnswerFault, Answers, Day, Memory, Moment, UserId, Words};
-use wb_list::Items;
+use wb_base::{AnswerFault, Answers, Memory, Moment, Words};
+use wb_list::TryClone;
 use wb_model::{
     Actor, Command, ContextItem, Deed, Entry, Event, FormItem, What, the_starter_form_is_good,
 };
@@ -48,7 +47,11 @@ pub fn now(events: &[Event]) -> Moment
     match events.split_last() {
         Some((event, past)) => {
             let before = now(past);
-            if before < event.moment { event.moment } else { before }
+            if before < event.moment {
+                event.moment
+            } else {
+                before
+            }
         }
         None => {
             let Some(start) = Moment::try_new(0) else {
@@ -104,28 +107,9 @@ pub fn asking(setup: &Setup, id: u32) -> Option<(&ContextItem, &FormItem)>
     Some((context, item))
 }
 
-// The tenant's day of a moment, to which terms may be added since a moment has a bound.
-fn received_on(time: Moment, offset: i32) -> Day
-    requires { IsOffset offset }
-    ensures day { result ≡ day_at time offset }
-    ensures early { IsEarlyDay result }
-{
-    let _bounded = time.seconds();
-    day_of(time, offset)
-}
-
-// The readers once more.
-fn copy_of(alloc: Global, readers: &[UserId]) -> Result<Items<UserId>, Memory>
-    ensures { IfOk result (λ copy. copy ≡ readers.now) }
-{
-    let copy = readers.iter().copied().collect(alloc)?;
-    Ok(Items::of(copy))
-}
-
 // The entry with which a report begins.
 #[tactic(auto, unfolding(wb_model::specs::Rules::submission_entry))]
 fn first_entry(
-    alloc: Global,
     at: &AsOf<'_>,
     words: &Words,
     context: &ContextItem,
@@ -138,7 +122,7 @@ fn first_entry(
     ensures { IfOk result (λ entry. entry ≡ submission_entry (at_of at.now words.now) (registry_of at.now.setup.now) (Checked None public mark) context.now item.now) }
 {
     let settings = &at.setup.settings;
-    let received = received_on(at.time, settings.offset);
+    let received = day_of(at.time, settings.offset);
     Ok(Entry {
         at: at.time,
         by: Actor::Reporter,
@@ -150,7 +134,7 @@ fn first_entry(
             feedback_due: feedback_due(received, None),
             form: item.id,
             mark,
-            readers: copy_of(alloc, context.recipients.as_slice())?,
+            readers: context.recipients.try_clone()?,
             receipt: digest(&settings.salt, &draw(words)),
             received,
             version: item.version,
@@ -174,7 +158,7 @@ fn opened(
 {
     match check(alloc, &item.form, answers) {
         Ok(split) => {
-            let entry = first_entry(alloc, at, words, context, item, split.public, split.mark)?;
+            let entry = first_entry(at, words, context, item, split.public, split.mark)?;
             Ok(Change::Opens(entry))
         }
         Err(fault) => if fault.code == AnswerFault::MEMORY {

@@ -11,7 +11,7 @@ use wb_model::{Body, Told};
 use wb_views::{Detail, refusal};
 
 /// Why a request is refused, but for a fault of its answers.
-#[derive(Clone, Copy, Debug, PartialEq, Eq)]
+#[derive(Clone, Copy)]
 pub enum Refusal {
     NotFound,
     NoSession,

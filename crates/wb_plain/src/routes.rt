@@ -9,7 +9,7 @@ use wb_base::{Principal, Role};
 use wb_model::Command;
 
 /// A right of a recipient, or none that is needed.
-#[derive(Clone, Copy, Debug, PartialEq, Eq)]
+#[derive(Clone, Copy)]
 pub enum Right {
     Free,
     ToPostpone,
@@ -18,7 +18,7 @@ pub enum Right {
 }
 
 /// Who may call a route, and the report that it names.
-#[derive(Clone, Copy, Debug, PartialEq, Eq)]
+#[derive(Clone, Copy)]
 pub enum Need {
     Anyone,
     AnySession,

@@ -91,13 +91,7 @@ fn finds(role: Role, user: UserId, case: &Case) -> bool
 }
 
 // The report of a number, where the user finds it.
-fn named(
-    alloc: Global,
-    at: &AsOf<'_>,
-    role: Role,
-    user: UserId,
-    n: u32,
-) -> Result<Target, Memory>
+fn named(alloc: Global, at: &AsOf<'_>, role: Role, user: UserId, n: u32) -> Result<Target, Memory>
     requires { IsAsOf at.now }
     ensures { IfOk result (λ t. target_of t ≡ named_case role user (report_by n (live_reports (own at.now.past.now) at.now.time))) }
 {
@@ -151,7 +145,7 @@ pub fn find_target(
     ensures { IfOk result (λ t. target_of t ≡ target_by (plain_of at.now) presented.now command.now) }
 {
     let need = needed(command);
-    if need == Need::Anyone {
+    if let Need::Anyone = need {
         return Ok(Target::Alone(None));
     }
     if !is_session(at.setup, presented) {

@@ -15,13 +15,14 @@ const ADA: Presented = Presented::Token {
 };
 
 // Both hosts, which are asked the same.
+#[derive(Drop)]
 struct Both {
     plain: PlainHost,
     desk: Desk,
     keeper: MemKeeper,
 }
 
-fn both(alloc: Global) -> Result<Both, Fail> {
+fn hosts_of(alloc: Global) -> Result<Both, Fail> {
     Ok(Both {
         plain: PlainHost::starter(alloc)?,
         desk: Desk::starter(alloc)?,
@@ -61,81 +62,90 @@ fn put(answers: &mut Answers, id: Text, given: Given) -> Result<(), Fail> {
     Ok(())
 }
 
-// A submission of texts.
-fn submission(alloc: Global, context: u32, texts: &[(&str, &str)]) -> Result<Asked, Fail> {
-    let mut answers = Answers::new(alloc);
-    for (id, text) in texts {
-        let given = Given::Text(Text::from_str(alloc, text)?);
-        put(&mut answers, Text::from_str(alloc, id)?, given)?;
-    }
-    Ok(asking(
-        Command::Submit {
-            t: 1,
-            context,
-            answers,
-        },
-        Presented::None,
-    ))
+// A request of a worked example.
+#[derive(Clone, Copy)]
+enum Request {
+    // A submission to a context, with these texts as answers.
+    Submit(u32, &'static [(&'static str, &'static str)]),
+    // Ada's read of a report.
+    Read(u32),
+    Health,
+}
+
+// What is asked so many seconds after the new year of 2025, and the reply's status and body.
+const ROWS: &[(Request, u64, u16, &str)] = &[
+    (
+        Request::Submit(1, &[("name", "Eve"), ("what", "Bribe")]),
+        0,
+        201,
+        r#"{"number":1,"receipt":"0000000000000042"}"#,
+    ),
+    (
+        Request::Read(1),
+        20,
+        200,
+        r#"{"ack_due":"2025-01-08","acknowledged":null,"answers":{"what":"Bribe"},"context":1,"dialogue":[],"expires":"2025-01-31","feedback_due":"2025-04-08","feedback_given":false,"form":1,"identity":"sealed","label":"","number":1,"readers":[1],"received":"2025-01-01","requests":[],"status":"new","version":1}"#,
+    ),
+    (
+        Request::Submit(1, &[]),
+        30,
+        422,
+        r#"{"code":"missing","field":"what"}"#,
+    ),
+    (
+        Request::Submit(1, &[("what", "x"), ("phone", "5")]),
+        40,
+        422,
+        r#"{"code":"missing","field":"name"}"#,
+    ),
+    (
+        Request::Submit(2, &[("what", "x")]),
+        50,
+        201,
+        r#"{"number":2,"receipt":"0000000000000042"}"#,
+    ),
+    (Request::Read(2), 60, 404, r#"{"code":"not_found"}"#),
+    (Request::Health, 70, 501, r#"{"code":"not_built"}"#),
+];
+
+fn asked(alloc: Global, request: Request) -> Result<Asked, Fail> {
+    Ok(match request {
+        Request::Submit(context, texts) => {
+            let mut answers = Answers::new(alloc);
+            for (id, text) in texts {
+                let given = Given::Text(Text::from_str(alloc, text)?);
+                put(&mut answers, Text::from_str(alloc, id)?, given)?;
+            }
+            asking(
+                Command::Submit {
+                    t: 1,
+                    context,
+                    answers,
+                },
+                Presented::None,
+            )
+        }
+        Request::Read(n) => asking(Command::ReadReport { t: 1, n }, ADA),
+        Request::Health => asking(Command::Health, Presented::None),
+    })
 }
 
 #[test]
 fn worked_examples(rt: HostRuntime) -> Result<(), Fail> {
     let alloc = rt.alloc();
-    let start = 1_735_689_600;
-    let rows: [(Asked, u64, u16, &str); 7] = [
-        (
-            submission(alloc, 1, &[("name", "Eve"), ("what", "Bribe")])?,
-            0,
-            201,
-            "{\"number\":1,\"receipt\":\"0000000000000042\"}",
-        ),
-        (
-            asking(Command::ReadReport { t: 1, n: 1 }, ADA),
-            20,
-            200,
-            "{\"ack_due\":\"2025-01-08\",\"acknowledged\":null,\"answers\":{\"what\":\"Bribe\"},\"context\":1,\"dialogue\":[],\"expires\":\"2025-01-31\",\"feedback_due\":\"2025-04-08\",\"feedback_given\":false,\"form\":1,\"identity\":\"sealed\",\"label\":\"\",\"number\":1,\"readers\":[1],\"received\":\"2025-01-01\",\"requests\":[],\"status\":\"new\",\"version\":1}",
-        ),
-        (
-            submission(alloc, 1, &[])?,
-            30,
-            422,
-            "{\"code\":\"missing\",\"field\":\"what\"}",
-        ),
-        (
-            submission(alloc, 1, &[("phone", "5"), ("what", "x")])?,
-            40,
-            422,
-            "{\"code\":\"missing\",\"field\":\"name\"}",
-        ),
-        (
-            submission(alloc, 2, &[("what", "x")])?,
-            50,
-            201,
-            "{\"number\":2,\"receipt\":\"0000000000000042\"}",
-        ),
-        (
-            asking(Command::ReadReport { t: 1, n: 2 }, ADA),
-            60,
-            404,
-            "{\"code\":\"not_found\"}",
-        ),
-        (
-            asking(Command::Health, Presented::None),
-            70,
-            501,
-            "{\"code\":\"not_built\"}",
-        ),
-    ];
-    let mut hosts = both(alloc)?;
-    for (asked, after, status, body) in rows {
-        let told = turn(&rt, &mut hosts, asked, start + after, [0, 42, 0, 0])?;
-        assert_eq!(rt; told.status, status);
+    let mut hosts = hosts_of(alloc)?;
+    for (request, after, status, body) in ROWS {
+        let second = 1_735_689_600u64.saturating_add(*after);
+        let asked = asked(alloc, *request)?;
+        let told = turn(&rt, &mut hosts, asked, second, [0, 42, 0, 0])?;
+        assert_eq!(rt; told.status, *status);
         assert_eq!(rt; told.body.as_bytes(), body.as_bytes());
     }
     Ok(())
 }
 
 // Numbers that look random, from a seed (Knuth's multiplier).
+#[derive(Drop)]
 struct Random {
     state: u64,
 }
@@ -178,21 +188,21 @@ fn any_answers(alloc: Global, random: &mut Random) -> Result<Answers, Fail> {
         let given = Given::Text(Text::from_str(alloc, "fraud")?);
         put(&mut answers, Text::from_str(alloc, "cat")?, given)?;
     }
-    if random.below(3) == 0 {
+    if random.below(6) == 0 {
         put(
             &mut answers,
             Text::from_str(alloc, "amount")?,
             Given::Whole(-7),
         )?;
     }
-    for id in ["name", "phone"] {
-        if random.below(3) == 0 {
+    for (id, of) in [("name", 3), ("phone", 6)] {
+        if random.below(of) == 0 {
             let given = Given::Text(Text::from_str(alloc, "Eve")?);
             put(&mut answers, Text::from_str(alloc, id)?, given)?;
         }
     }
     for id in ["cat", "amount", "doc", "phone", "zz"] {
-        if random.below(12) == 0 {
+        if random.below(30) == 0 {
             let given = any_given(alloc, random)?;
             put(&mut answers, Text::from_str(alloc, id)?, given)?;
         }
@@ -232,7 +242,7 @@ fn other_route(alloc: Global, random: &mut Random, t: u32) -> Result<Command, Fa
 }
 
 fn any_session(random: &mut Random) -> Presented {
-    match random.below(6) {
+    match random.below(12) {
         0 => Presented::None,
         1 => Presented::Bad,
         2 => Presented::Token {
@@ -252,41 +262,65 @@ fn any_request(alloc: Global, random: &mut Random) -> Result<Asked, Fail> {
     let command = match random.below(8) {
         0..4 => Command::Submit {
             t,
-            context: 1 + random.below(3),
+            context: if random.below(2) == 0 {
+                1
+            } else {
+                1 + random.below(3)
+            },
             answers: any_answers(alloc, random)?,
         },
         4..7 => Command::ReadReport {
             t,
-            n: random.below(5),
+            n: if random.below(2) == 0 {
+                1
+            } else {
+                random.below(5)
+            },
         },
         _ => other_route(alloc, random, t)?,
     };
     Ok(asking(command, any_session(random)))
 }
 
-#[test]
-fn both_hosts_answer_alike(rt: HostRuntime) -> Result<(), Fail> {
-    let alloc = rt.alloc();
-    let mut random = Random { state: 11 };
-    let statuses = [200, 201, 401, 403, 404, 422, 501];
-    let mut counts = [0u32; 7];
-    for _ in 0..300 {
-        let mut hosts = both(alloc)?;
-        for _ in 0..1 + random.below(6) {
-            let asked = any_request(alloc, &mut random)?;
-            let second = 1_735_000_000 + random.below(20_000_000) as u64;
-            let words = [random.below(3) as u64, random.below(u32::MAX) as u64, 3, 4];
-            let told = turn(&rt, &mut hosts, asked, second, words)?;
-            for (count, status) in counts.iter_mut().zip(statuses) {
-                if told.status == status {
-                    *count = count.saturating_add(1);
-                }
-            }
+// The statuses of replies.
+const STATUSES: [u16; 7] = [200, 201, 401, 403, 404, 422, 501];
+
+fn count(counts: &mut [u32; 7], status: u16) {
+    for (count, known) in counts.iter_mut().zip(STATUSES) {
+        if known == status {
+            *count = count.saturating_add(1);
         }
     }
+}
+
+// One past of up to six requests, to both hosts; the replies are counted by their statuses.
+fn play(
+    rt: &impl Abort,
+    alloc: Global,
+    random: &mut Random,
+    counts: &mut [u32; 7],
+) -> Result<(), Fail> {
+    let mut hosts = hosts_of(alloc)?;
+    for _ in 0..1 + random.below(6) {
+        let asked = any_request(alloc, random)?;
+        let second = 1_735_000_000 + random.below(20_000_000) as u64;
+        let words = [random.below(3) as u64, random.below(u32::MAX) as u64, 3, 4];
+        let told = turn(rt, &mut hosts, asked, second, words)?;
+        count(counts, told.status);
+    }
+    Ok(())
+}
+
+#[test]
+fn both_hosts_answer_alike(rt: HostRuntime) -> Result<(), Fail> {
+    let mut random = Random { state: 11 };
+    let mut counts = [0; 7];
+    for _ in 0..300 {
+        play(&rt, rt.alloc(), &mut random, &mut counts)?;
+    }
     // Each kind of reply came, reports that are read among them.
-    for count in counts {
-        assert!(rt; count > 5);
+    for (count, status) in counts.into_iter().zip(STATUSES) {
+        assert!(rt; count > 5, "{status}: {count}");
     }
     Ok(())
 }

@@ -101,16 +101,18 @@ fn submission(
 }
 
 // The verdict on a user's read of a report.
-fn read(
-    alloc: Global,
-    at: &AsOf<'_>,
-    user: UserId,
-    case: &Case,
-) -> Result<Verdict, Memory>
+fn read(alloc: Global, at: &AsOf<'_>, user: UserId, case: &Case) -> Result<Verdict, Memory>
     ensures { IfOk result (λ v. v ≡ Verdict.Accepted (told 200 (recipient_data at.now.setup.now.users user at.now.time (case_of case.now)))) }
 {
     let users = at.setup.users.as_slice();
-    let body = recipient_view(alloc, users, user, at.time, case.number, case.trail.as_slice())?;
+    let body = recipient_view(
+        alloc,
+        users,
+        user,
+        at.time,
+        case.number,
+        case.trail.as_slice(),
+    )?;
     Ok(Verdict::Accepted(Told {
         status: 200,
         body: Body::of(body),
