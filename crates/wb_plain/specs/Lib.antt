@@ -1,0 +1,5 @@
+pub mod Pasts
+pub mod Setups
+pub mod Needs
+pub mod Facts
+pub mod Verdicts
