@@ -3,3 +3,4 @@ pub mod SinkLemmas
 pub mod SubmissionLemmas
 pub mod PlayLemmas
 pub mod Completeness
+pub mod Identities

@@ -1,3 +1,4 @@
 pub mod Answered
 pub mod Submissions
 pub mod Runs
+pub mod Headline

@@ -57,3 +57,6 @@ fn main(rt: HostRuntime) -> ExitCode {
     let _line = exit_line(&status, &mut StdSink::new(rt.stderr()));
     ExitCode::from(status.number())
 }
+
+#[cfg(test)]
+mod tests;

@@ -6,14 +6,17 @@ ghost use Rattle.wb_model.specs.declared.wire.ScriptFrame.{ScriptFrame};
 ghost use Rattle.wb_model.specs.FrameTexts.{texts, IsFrame};
 ghost use Rattle.wb_desk.specs.Standing.{hosts_of};
 ghost use Rattle.wb_desk.specs.Turns.{StandsFor};
-ghost use Rattle.whistle.specs.Runs.{Ran, start};
+ghost use Rattle.wb_model.specs.Scripts.{Place};
+ghost use Rattle.whistle.specs.Headline.{KeepsIdentities};
+ghost use Rattle.whistle.specs.Runs.{Ran, Wrote, start};
 
 use crate::answering::{answer_frame, write_answer};
 use crate::status::Status;
 use std::alloc::Global;
 use wb_base::{Keeper, Memory, Sink, Source, Text};
 use wb_desk::Desk;
-use wb_wire::{FrameNo, FrameReader, one_frame};
+use wb_model::alike_scripts_get_the_same_replies;
+use wb_wire::{FrameNo, FrameReader, one_frame, one_reading};
 
 // Whether the word is `play`.
 fn is_play_word(word: &Text) -> bool
@@ -73,10 +76,15 @@ pub fn run<S: Source, W: Sink, K: Keeper>(
     ensures usage { (result ≡ Status.Usage) ↔ (words.now ≢ codes "play" ∷ []) }
     ensures ran { Ran (S.left source.old) (S.left source.new) (W.held sink.old) (W.held sink.new) (S.count source.old) (S.count source.new) (W.count sink.old) (W.count sink.new) (K.count keeper.old) (K.count keeper.new) result }
     ensures keeper { keeper.new ≡ keeper.old }
+    // The replies that were written, of which none is 503 or 507, are byte for byte those of each script that differs in one
+    // report's valid identity answers alone, but at the places where one of that report's readers asks.
+    ensures identities { (frames : List ScriptFrame) (places : List Place) → Wrote (S.left source.old) (S.left source.new) (W.held sink.old) (W.held sink.new) (S.count source.old) (S.count source.new) (W.count sink.old) (W.count sink.new) (K.count keeper.old) (K.count keeper.new) frames places → KeepsIdentities start frames places }
     // A whole script is played to its end where nothing failed, or there was no memory.
     ensures complete { (frames : List ScriptFrame) → AllByRecursion IsFrame frames → S.left source.old ≡ Some (texts frames) → length (texts frames) < 2 ^ 40 → words.now ≡ codes "play" ∷ [] → (Rose (S.count source.old) (S.count source.new) → ⊥) → (Rose (W.count sink.old) (W.count sink.new) → ⊥) → (result ≡ Status.Done) ⊎ (result ≡ Status.NoMemory) }
 {
     one_frame();
+    one_reading();
+    alike_scripts_get_the_same_replies();
     if !is_play(words) {
         return Status::Usage;
     }

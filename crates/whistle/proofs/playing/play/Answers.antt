@@ -64,9 +64,9 @@ returns-in-Err-TooLong-clause-ran g c =
     let places = c.loop-frame.invariant.standing.1 in
     let so_far = c.loop-frame.invariant.standing.2 in
     let all = rw c.in-Err-TooLong.field-0-is at c.in-Err-TooLong.ensures.cause so_far.goes_on in
-    let taken = Consumes-trans _ _ _ _ _ so_far.taken all.2 in (
+    let taken = Consumes-trans (g.S.Source.left c.args.source.now) (g.S.Source.left c.loop-frame.source) (g.S.Source.left c.next.new.source) (texts frames) (all.0 ++ all.1 ∷ []) so_far.taken all.2 in (
       frames,
       places,
       wrote _ _ _ _ _ _ _ c.loop-frame.reader frames places so_far _ (all.0 ++ all.1 ∷ []) all.2 _ _ _ _,
-      (all.0, all.1, regrouped _ _ (texts frames) all.0 (all.1 ∷ []) taken, all.3, omega (arith, length-append (texts frames) all.0, so_far.size, all.4)),
+      (all.0, all.1, regrouped (g.S.Source.left c.args.source.now) (g.S.Source.left c.next.new.source) (texts frames) all.0 (all.1 ∷ []) taken, all.3, omega (arith, length-append (texts frames) all.0, so_far.size, all.4)),
     )
