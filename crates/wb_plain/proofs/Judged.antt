@@ -1,5 +1,5 @@
 -- The verdict on a submission, case by case, and verdicts as the code has them.
-use Rattle.std.proofs.Common.{◌≡◌, ℕ, ◌+◌, Bool, true, false, List, [], ◌∷◌, Option, Some, None, refl, sym, ap, ◌∙◌, subst}
+use Rattle.std.proofs.Common.{◌≡◌, ℕ, ◌+◌, Bool, true, false, [], Option, Some, None, refl, sym, ap, ◌∙◌, subst}
 use Rattle.std.specs.Prelude.{nat_lt, if◌then◌else◌, Result, Ok, Err, IfOk, OnOk}
 use Rattle.wb_base.specs.AnswerList.{Answered}
 use Rattle.wb_base.specs.declared.faults.AnswerFault.{AnswerFault}

@@ -1,12 +1,12 @@
 -- The starter host's past, one turn after another.
-use Rattle.std.proofs.Common.{◌≡◌, ℕ, ◌≤◌, ◌+◌, ◌++◌, Bool, true, false, cond, List, [], ◌∷◌, length, refl, sym, ap, ◌∙◌, subst, arith}
+use Rattle.std.proofs.Common.{◌≡◌, ℕ, ◌≤◌, ◌+◌, ◌++◌, Bool, true, false, cond, List, [], ◌∷◌, length, refl, ap, ◌∙◌, subst, arith}
 use Rattle.std.specs.Prelude.{◌==◌, fold, filter, max, nat_lt}
 use Rattle.std.specs.List.{list_any}
 use Rattle.std.proofs.lemmas.List.Sums.{fold-append}
 use Rattle.std.proofs.lemmas.List.Folds.{list_any-append}
 use Rattle.std.proofs.lemmas.Bool.Decides.{nat_tests}
 use Rattle.wb_model.specs.declared.event.Event.{Event}
-use Rattle.wb_model.specs.Tables.{Case, Session, lasts}
+use Rattle.wb_model.specs.Tables.{Case, lasts}
 use Rattle.wb_model.specs.Rules.{Change, Nothing, Draws, Opens, Notes}
 use Rattle.wb_model.specs.Past.{Past, Opening, Turn, Opened, now, registry, numbers_after, numbers, sessions, standing_sessions, live_reports, alone_at, drew, last, trail}
 use Rattle.wb_model.specs.Pasts.{AllOpened, part, tenants}

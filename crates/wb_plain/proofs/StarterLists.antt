@@ -1,5 +1,5 @@
 -- What stands in the starter host's setup.
-use Rattle.std.proofs.Common.{◌≡◌, ℕ, ◌≤◌, Bool, true, false, cond, Option, Some, None, refl, sym, ◌∙◌, subst, [], ◌∷◌, codes, ℤ, w32, to_z, of_z, arith}
+use Rattle.std.proofs.Common.{◌≡◌, ℕ, ◌≤◌, Bool, true, false, cond, Some, None, refl, sym, ◌∙◌, subst, codes, ℤ, w32, to_z, of_z, arith}
 use Rattle.std.specs.Prelude.{◌==◌}
 use Rattle.jiff_core.proofs.SignedLemmas.{signed_casts}
 use Rattle.wb_base.specs.Days.{IsOffset}

@@ -1,10 +1,8 @@
 -- A turn of the code is one of the past.
-use Rattle.std.proofs.Common.{◌≡◌, ◌≢◌, ℕ, ◌+◌, ◌≤◌, Bool, true, false, cond, List, [], ◌∷◌, Option, Some, None, refl, sym, ap, ◌∙◌, subst, arith}
-use Rattle.std.specs.Prelude.{◌==◌, max, nat_lt}
+use Rattle.std.proofs.Common.{◌≡◌, ◌≢◌, ℕ, ◌≤◌, Bool, true, false, cond, List, [], ◌∷◌, Option, Some, None, refl, sym, ap, ◌∙◌, subst, arith}
+use Rattle.std.specs.Prelude.{max, nat_lt}
 use Rattle.std.proofs.lemmas.Bool.Decides.{nat_tests}
 use Rattle.wb_base.specs.declared.callers.Presented.{Presented}
-use Rattle.wb_base.specs.declared.faults.AnswerFault.{AnswerFault}
-use Rattle.wb_base.specs.declared.words.Words.{Words}
 use Rattle.wb_model.specs.declared.body.Told.{Told}
 use Rattle.wb_model.specs.declared.command.Asked.{Asked}
 use Rattle.wb_model.specs.declared.command.Command.{Command}
@@ -17,11 +15,11 @@ use Rattle.wb_model.specs.Refusals.{not_found, numbers_spent}
 use Rattle.wb_model.specs.Tables.{Registry, Plain, context}
 use Rattle.wb_model.specs.Targets.{Need, Anyone, Any_session, Own, Staff, Names, need, needed_target, Target, Nobody, Alone, On, target, trail_at}
 use Rattle.wb_model.specs.Requests.{Frame, Outcome, Unchecked, Checked, request, outcome, outline, plain_part}
-use Rattle.wb_model.specs.Rules.{At, Change, Answer, Verdict, Refused, Accepted, is_open, judged, unless, if_faulty, refusal_alone, refusal_on, verdict_on, verdict}
+use Rattle.wb_model.specs.Rules.{At, Change, Answer, Verdict, is_open, judged, unless, if_faulty, refusal_alone, refusal_on, verdict_on, verdict}
 use Rattle.wb_model.specs.Host.{Sealed, reply_by}
 use Rattle.wb_model.specs.Tenants.{tenant_at, without_tenant}
-use Rattle.wb_model.specs.Past.{Past, Opened, now, plain, tables, at_frame, verdict_at, reply_at, target_at, is_read, did, what_by, what_at}
-use Rattle.wb_model.specs.Pasts.{tenants, has_tenant, part, reply_in, what_in}
+use Rattle.wb_model.specs.Past.{now, plain, tables, at_frame, verdict_at, reply_at, target_at, is_read, did, what_by, what_at}
+use Rattle.wb_model.specs.Pasts.{has_tenant, part, reply_in, what_in}
 use Rattle.wb_model.specs.Starter.{starter_registry}
 use Rattle.wb_plain.specs.Pasts.{past_of, own, fault_in, fault_done}
 use Rattle.wb_plain.specs.Setups.{plain_of, at_of, IsAsOf}

@@ -1,5 +1,5 @@
 -- What the code keeps of the starter host, and the past at a moment.
-use Rattle.std.specs.Prelude.{◌≡◌, ℕ, ◌+◌, ◌≤◌, true, List, [], ◌∷◌, Some}
+use Rattle.std.specs.Prelude.{◌≡◌, ℕ, ◌+◌, ◌≤◌, true, [], ◌∷◌, Some}
 use Rattle.wb_base.specs.declared.words.Words.{Words}
 use Rattle.wb_base.specs.FormFaults.{is_good}
 use Rattle.wb_model.specs.declared.registry.ContextItem.{ContextItem}

@@ -1,5 +1,5 @@
 -- What the code's words for refusals, targets and verdicts stand for.
-use Rattle.std.specs.Prelude.{◌≡◌, ℕ, [], Option, option_map, None}
+use Rattle.std.specs.Prelude.{◌≡◌, ℕ, [], option_map, None}
 use Rattle.wb_base.specs.AnswerList.{Answered}
 use Rattle.wb_model.specs.declared.body.Told.{Told}
 use Rattle.wb_model.specs.declared.command.Command.TheVariants as commands

@@ -1,5 +1,4 @@
-use Rattle.std.proofs.Common.{sym, ap, ◌∙◌, subst, arith}
-use Rattle.std.proofs.lemmas.Bool.Decides.{nat_tests}
+use Rattle.std.proofs.Common.{sym, ◌∙◌, subst}
 use Rattle.wb_model.specs.Requests.{Frame}
 use Rattle.wb_plain.specs.Pasts.{AreMade}
 use Rattle.wb_plain.specs.Setups.{IsSetup}

@@ -1,4 +1,4 @@
-use Rattle.std.proofs.Common.{◌≡◌, Bool, None, Some, sym, ap, ◌∙◌}
+use Rattle.std.proofs.Common.{Bool, None, sym, ap, ◌∙◌}
 use Rattle.wb_base.specs.AnswerList.{Answered}
 use Rattle.wb_model.specs.Requests.{Checked, submission_fault, public, mark}
 use Rattle.wb_model.specs.Rules.{Opens, submission_entry}

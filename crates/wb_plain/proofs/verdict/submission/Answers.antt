@@ -1,4 +1,4 @@
-use Rattle.std.proofs.Common.{◌≡◌, true, sym, ap, ◌∙◌, arith}
+use Rattle.std.proofs.Common.{◌≡◌, true, ap, ◌∙◌, arith}
 use Rattle.wb_model.specs.Requests.{asking_form, submission_fault}
 use Rattle.wb_model.specs.Rules.{is_open}
 use Rattle.wb_plain.specs.Setups.{plain_of, at_of}
