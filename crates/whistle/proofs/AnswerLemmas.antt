@@ -1,17 +1,16 @@
 -- What comes of one frame.
-use Rattle.std.proofs.Common.{◌≡◌, ◌≢◌, ◌⊎◌, inl, inr, ℕ, Bool, List, Option, None, Some, refl, sym, ap, ◌∙◌, subst, arith}
+use Rattle.std.proofs.Common.{◌≡◌, ◌≢◌, inl, inr, ℕ, Bool, None, refl, sym, ap, ◌∙◌, subst, arith}
 use Rattle.wb_model.specs.declared.body.Told.{Told}
 use Rattle.wb_model.specs.declared.command.Asked.{Asked}
 use Rattle.wb_model.specs.declared.wire.ScriptFrame.{ScriptFrame}
 use Rattle.wb_model.specs.declared.wire.WireFault.{WireFault}
 use Rattle.wb_model.specs.declared.wire.WireFault.TheVariants as faults
 use Rattle.wb_model.specs.Past.{Past}
-use Rattle.wb_model.specs.Pasts.{AllOpened, reply_in, with_turn, with_loss}
+use Rattle.wb_model.specs.Pasts.{AllOpened}
 use Rattle.wb_model.specs.Readings.{Reading, Asks, Refuses, Reads, Closes, reading_of}
 use Rattle.wb_model.specs.Refusals.{no_memory}
 use Rattle.wb_model.specs.Replies.{fault_told, fault_allow}
 use Rattle.wb_model.specs.Scripts.{Loss, NotLost, ByMemory, Unread, Place, Reply, Played, frame_of, replying, play_by, play, IsPossible}
-use Rattle.wb_model.specs.Playing.{IsPlaceOf}
 use Rattle.wb_model.specs.Tenants.{Hosts}
 use Rattle.wb_desk.specs.Turns.{StandsFor, IsTurnOf}
 use Rattle.whistle.specs.declared.answering.Answer.{Answer}

@@ -1,10 +1,8 @@
 -- The replies to a script that was played keep identities, from the law of scripts.
-use Rattle.std.proofs.Common.{zero, suc, ◌≡◌, ◌≢◌, ◌⊎◌, inl, inr, ℕ, Bool, true, false, List, [], ◌∷◌, Option, refl, sym, ap, ◌∙◌, subst, arith}
+use Rattle.std.proofs.Common.{zero, suc, ◌≡◌, ◌≢◌, inl, inr, ℕ, Bool, true, false, List, [], ◌∷◌, Option, refl, sym, ap, ◌∙◌, subst}
 use Rattle.std.specs.Prelude.{map, option_map}
-use Rattle.std.specs.List.{AllByRecursion}
 use Rattle.wb_model.specs.declared.command.Asked.{Asked}
 use Rattle.wb_model.specs.declared.wire.ScriptFrame.{ScriptFrame}
-use Rattle.wb_model.specs.declared.wire.WireFault.{WireFault}
 use Rattle.wb_model.specs.Refusals.{keeper_failed, no_memory}
 use Rattle.wb_model.specs.Requests.{Frame}
 use Rattle.wb_model.specs.Tenants.{OneLaterAlike, FirstAlike}
@@ -41,7 +39,7 @@ module _ (one_reading : (bytes : List ℕ) (a b : Reading) → Reads bytes a →
   of_one : (f g : ScriptFrame) (p q : Place) → IsPlaceOf f p → IsPlaceOf g q → p.loss ≡ NotLost → q.loss ≡ NotLost → f ≡ g → p ≡ q
   of_one f g p q x y a b e =
       same_place p q (x.at ∙ (ap (λ (h : ScriptFrame). h.moment) e ∙ sym y.at)) (x.drawn ∙ (ap (λ (h : ScriptFrame). h.words) e ∙ sym y.drawn))
-        (one_reading g.bytes p.reading q.reading (subst (λ (h : ScriptFrame). Reads h.bytes p.reading) e x.reads) y.reads) (a ∙ sym b)
+      (one_reading g.bytes p.reading q.reading (subst (λ (h : ScriptFrame). Reads h.bytes p.reading) e x.reads) y.reads) (a ∙ sym b)
 
   same_frame : (f : ScriptFrame) (p : Place) (a : Asked) → IsPlaceOf f p → frame_asking f a ≡ frame_of p a
   same_frame f p a x = λ i. record { moment = sym x.at i; words = sym x.drawn i; asked = a }
@@ -107,4 +105,4 @@ module _ (one_reading : (bytes : List ℕ) (a b : Reading) → Reads bytes a →
     pub keeps : (past : Past AllOpened) (frames : List ScriptFrame) (places : List Place) → ArePlacesOf frames places → ArePossible past places → KeepsIdentities past frames places
     keeps past frames places placed may served i t r others theirs theirs_placed unlost alike =
         ap (map (λ (x : Option Reply). option_map written x))
-          (law i t r past places theirs (alike_places i t r past frames others places theirs placed theirs_placed (all_unlost past places may served) unlost alike))
+        (law i t r past places theirs (alike_places i t r past frames others places theirs placed theirs_placed (all_unlost past places may served) unlost alike))

@@ -1,7 +1,7 @@
 -- Turn after turn.
-use Rattle.std.proofs.Common.{◌≡◌, ◌≤◌, ◌<◌, ◌+◌, ◌^◌, ℕ, zero, suc, List, [], ◌∷◌, ◌++◌, length, refl, sym, ap, ◌∙◌, append_assoc, append-nil, subst, arith, min, Option, Some, None, IfSome, length-append, get_or}
+use Rattle.std.proofs.Common.{◌≡◌, ◌<◌, ◌+◌, ℕ, List, [], ◌∷◌, ◌++◌, length, refl, sym, ap, ◌∙◌, append_assoc, append-nil, subst, arith, Option, Some, None, IfSome, length-append}
 use Rattle.std.specs.List.{AllByRecursion}
-use Rattle.std.specs.Io.KnownBytes.{Appends, Consumes, IsAtEnd}
+use Rattle.std.specs.Io.KnownBytes.{Appends, Consumes}
 use Rattle.std.proofs.KnownBytes.{Appends-trans, Consumes-trans, Appends-nil, Consumes-nil}
 use Rattle.wb_base.specs.Outside.{AppendsFront}
 use Rattle.wb_model.specs.declared.wire.ScriptFrame.{ScriptFrame}
@@ -9,15 +9,15 @@ use Rattle.wb_model.specs.FrameTexts.{texts, frame_text, line_of, IsFrame}
 use Rattle.wb_model.specs.Past.{Past}
 use Rattle.wb_model.specs.Pasts.{AllOpened}
 use Rattle.wb_model.specs.Playing.{IsPlaceOf, ArePlacesOf, written, output, one_by_keeper, keeper_losses, RoseBy}
-use Rattle.wb_model.specs.Readings.{Reading, Asks, Refuses}
-use Rattle.wb_model.specs.Scripts.{Loss, NotLost, ByKeeper, ByMemory, Unread, Place, Reply, IsPossible, ArePossible, play, answers, past_after}
+use Rattle.wb_model.specs.Scripts.{Place, IsPossible, ArePossible, play, answers, past_after}
 use Rattle.wb_model.specs.Tenants.{Hosts}
 use Rattle.wb_wire.specs.FrameReading.{Progress, after_next}
 use Rattle.wb_desk.specs.Turns.{StandsFor}
 use Rattle.whistle.specs.declared.answering.Answer.{Answer}
 use Rattle.whistle.specs.Answered.{reply_of, IsAnswer}
 use Rattle.whistle.specs.Submissions.{AreWellAnswered}
-use Rattle.whistle.specs.Runs.{start, output_of, Played, Wrote}
+use Rattle.whistle.specs.Runs.{start, output_of, AreLossesTold, Played, Wrote}
+use Rattle.whistle.proofs.Statuses.{all_told}
 use Rattle.whistle.proofs.SinkLemmas.{front_after}
 use Rattle.whistle.proofs.SubmissionLemmas.{all_well}
 
@@ -89,6 +89,7 @@ module _ (left held : Option (List ℕ)) (keeper : ℕ) where
       pub number : reader.given ≡ length frames
       pub size : reader.taken ≡ length (texts frames)
       pub goes_on : reader.stopped ≡ None
+      pub losses : AreLossesTold start places
       pub submissions : AreWellAnswered start places
 
   -- before the first turn
@@ -104,6 +105,7 @@ module _ (left held : Option (List ℕ)) (keeper : ℕ) where
     number = ap (λ (p : Progress). p.given) is;
     size = ap (λ (p : Progress). p.taken) is;
     goes_on = ap (λ (p : Progress). p.stopped) is;
+    losses = tt;
     submissions = tt;
   }
 
@@ -124,6 +126,7 @@ module _ (left held : Option (List ℕ)) (keeper : ℕ) where
         number = omega (arith, so_far.number, length_more frames frame, ap (λ (r : Progress). r.given) goes);
         size = omega (arith, so_far.size, ap length (texts_more frames frame), length-append (texts frames) (frame_text frame), ap (λ (r : Progress). r.taken) goes);
         goes_on = ap (λ (r : Progress). r.stopped) goes ∙ so_far.goes_on;
+        losses = all_told start (more frames frame) (more places place) (placed_more frames places frame place so_far.placed is.of_frame) (possible_more start places place so_far.possible is.possible);
         submissions = all_well start (more places place);
       }
 
@@ -140,6 +143,7 @@ module _ (left held : Option (List ℕ)) (keeper : ℕ) where
           possible = possible_more start places place so_far.possible is.possible;
           begins = begins_with left left'' _ consumed;
           counted = omega (arith, so_far.counted, losses_more places place, is.counted);
+          losses = all_told start (more frames frame) (more places place) (placed_more frames places frame place so_far.placed is.of_frame) (possible_more start places place so_far.possible is.possible);
           submissions = all_well start (more places place);
         },
         subst (AppendsFront held held'') (sym (output_more start places place)) (front_after held held' held'' _ _ so_far.told (subst (λ r. AppendsFront held' held'' (written r)) is.reply told)),
@@ -149,6 +153,6 @@ module _ (left held : Option (List ℕ)) (keeper : ℕ) where
   pub wrote : (left' held' : Option (List ℕ)) (keeper' : ℕ) (hosts : Hosts) (reader : Progress) (frames : List ScriptFrame) (places : List Place) → Standing left' held' keeper' hosts reader frames places
       → (left'' : Option (List ℕ)) (part : List ℕ) → Consumes left' left'' part → (source source' sink sink' : ℕ) → Wrote left left'' held held' source source' sink sink' keeper keeper' frames places
   wrote left' held' keeper' hosts reader frames places so_far left'' part taken source source' sink sink' = record {
-    played = record { good = so_far.good; placed = so_far.placed; possible = so_far.possible; begins = begins_with left left' _ so_far.taken; counted = so_far.counted; submissions = so_far.submissions };
+    played = record { good = so_far.good; placed = so_far.placed; possible = so_far.possible; begins = begins_with left left' _ so_far.taken; counted = so_far.counted; losses = so_far.losses; submissions = so_far.submissions };
     written = so_far.told;
   }

@@ -1,5 +1,5 @@
 -- A good submission is answered 201, 507, or 429 where the last number is drawn.
-use Rattle.std.proofs.Common.{◌≡◌, ◌≢◌, ◌⊎◌, inl, inr, ℕ, ◌≤◌, Bool, true, false, cond, ◌+◌, List, [], ◌∷◌, Option, Some, None, refl, sym, ap, ◌∙◌, subst, arith}
+use Rattle.std.proofs.Common.{◌≡◌, ◌≢◌, inl, inr, ℕ, Bool, true, false, cond, ◌+◌, List, [], ◌∷◌, Option, Some, None, refl, sym, subst, arith}
 use Rattle.std.specs.Prelude.{nat_lt}
 use Rattle.std.proofs.lemmas.Bool.Decides.{nat_tests}
 use Rattle.wb_base.specs.declared.callers.Presented.{Presented}
@@ -13,8 +13,8 @@ use Rattle.wb_model.specs.declared.registry.ContextItem.{ContextItem}
 use Rattle.wb_model.specs.declared.registry.FormItem.{FormItem}
 use Rattle.wb_model.specs.Past.{Past, Opened, registry, last, plain, tables, at_frame, reply_at}
 use Rattle.wb_model.specs.Pasts.{AllOpened, part, has_tenant, reply_in}
-use Rattle.wb_model.specs.Readings.{Reading, Asks}
-use Rattle.wb_model.specs.Refusals.{no_memory, not_found, numbers_spent}
+use Rattle.wb_model.specs.Readings.{Asks}
+use Rattle.wb_model.specs.Refusals.{not_found, numbers_spent}
 use Rattle.wb_model.specs.Json.{told as answered}
 use Rattle.wb_model.specs.Requests.{Frame, Request, submission_outcome, asking_form, submission_fault, plain_part}
 use Rattle.wb_model.specs.Rules.{At, Change, Says, dealt, deal_of, judged, unless, if_faulty, is_open}

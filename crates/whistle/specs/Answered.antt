@@ -1,9 +1,9 @@
 -- What the program does with one frame.
-use Rattle.std.specs.Prelude.{◌≡◌, ℕ, ◌+◌, ◌≤◌}
+use Rattle.std.specs.Prelude.{◌≡◌, ℕ}
 use Rattle.wb_model.specs.declared.wire.ScriptFrame.{ScriptFrame}
 use Rattle.wb_model.specs.Past.{Past}
 use Rattle.wb_model.specs.Pasts.{AllOpened}
-use Rattle.wb_model.specs.Scripts.{Place, Reply, Played, IsPossible, play}
+use Rattle.wb_model.specs.Scripts.{Place, Reply, IsPossible, play}
 use Rattle.wb_model.specs.Playing.{IsPlaceOf, one_by_keeper, RoseBy}
 use Rattle.wb_model.specs.Tenants.{Hosts}
 use Rattle.wb_desk.specs.Turns.{StandsFor}

@@ -8,8 +8,8 @@ use Rattle.wb_model.specs.Tenants.{OneLaterAlike, FirstAlike}
 use Rattle.wb_model.specs.Past.{Past}
 use Rattle.wb_model.specs.Pasts.{AllOpened, standing_hosts}
 use Rattle.wb_model.specs.Playing.{ArePlacesOf, written}
-use Rattle.wb_model.specs.Readings.{Reading, Asks, Reads}
-use Rattle.wb_model.specs.Scripts.{Loss, NotLost, Place, Reply, play, answers}
+use Rattle.wb_model.specs.Readings.{Asks, Reads}
+use Rattle.wb_model.specs.Scripts.{NotLost, Place, Reply, play, answers}
 use Rattle.wb_model.specs.ScriptsAlike.{is_accepted, hidden_answers}
 
 -- ---- scripts

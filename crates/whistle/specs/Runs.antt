@@ -1,5 +1,5 @@
 -- What a run did, by its status.
-use Rattle.std.specs.Prelude.{ℕ, ◌≡◌, ◌+◌, ◌^◌, ◌<◌, ◌⊎◌, List, [], ◌∷◌, ◌++◌, length, codes, decimal, Option, IfSome}
+use Rattle.std.specs.Prelude.{Bool, false, ◌==◌, ◌||◌, ◌↔◌, ℕ, ◌≡◌, ◌+◌, ◌^◌, ◌⊎◌, List, [], ◌∷◌, ◌++◌, length, codes, decimal, Option, IfSome}
 use Rattle.std.specs.List.{AllByRecursion}
 use Rattle.std.specs.Io.KnownBytes.{Appends, Consumes, Keeps}
 use Rattle.wb_base.specs.Outside.{Rose, AppendsFront}
@@ -8,7 +8,7 @@ use Rattle.wb_model.specs.FrameTexts.{texts, IsFrame, IsBroken, NoFrame}
 use Rattle.wb_model.specs.Past.{Past, Opening}
 use Rattle.wb_model.specs.Pasts.{AllOpened}
 use Rattle.wb_model.specs.Playing.{ArePlacesOf, output, keeper_losses, RoseBy}
-use Rattle.wb_model.specs.Scripts.{Place, ArePossible, answers}
+use Rattle.wb_model.specs.Scripts.{Place, NotLost, ArePossible, play, answers}
 use Rattle.wb_model.specs.Starter.{starter_opening}
 use Rattle.whistle.specs.Submissions.{AreWellAnswered}
 use Rattle.whistle.specs.declared.status.Status.{Status}
@@ -22,6 +22,15 @@ start = Opening starter_opening
 abbrev pub output_of : List Place → List ℕ
 output_of places = output (answers start places)
 
+-- a reply that tells a loss: the keeper's fault or want of memory
+abbrev pub is_loss : ℕ → Bool
+is_loss status = (status == 503) || (status == 507)
+
+-- something was lost exactly where the reply tells it
+abbrev pub AreLossesTold : Past AllOpened → List Place → Type 0
+AreLossesTold past [] = Unit {0}
+AreLossesTold past (p ∷ ps) = ((p.loss ≡ NotLost) ↔ (is_loss (play past p).reply.told.status ≡ false)) × AreLossesTold (play past p).past ps
+
 -- what the source had left and has left now, what the sink held before and holds now, and the counts of both and of the keeper before and now
 module _ (left left' held held' : Option (List ℕ)) (source source' sink sink' keeper keeper' : ℕ) where
   -- the input begins with these frames, and the host played them as these places
@@ -31,6 +40,8 @@ module _ (left left' held held' : Option (List ℕ)) (source source' sink sink' 
     pub possible : ArePossible start places
     pub begins : IfSome left (λ text. (rest : List ℕ) × (text ≡ texts frames ++ rest))
     pub counted : RoseBy (keeper_losses places) keeper keeper'
+    -- a turn was lost or a request unread exactly where the reply is 503 or 507
+    pub losses : AreLossesTold start places
     -- and each good submission among them was answered as its sender expects
     pub submissions : AreWellAnswered start places
 

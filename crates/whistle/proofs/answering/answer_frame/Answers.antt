@@ -1,5 +1,4 @@
-use Rattle.std.proofs.Common.{◌≡◌, ◌⊎◌, ◌≢◌, List, ℕ, inl, inr, refl, sym, ap, ◌∙◌, subst, arith, Some, None}
-use Rattle.wb_model.specs.declared.wire.WireFault.TheVariants as faults
+use Rattle.std.proofs.Common.{List, ℕ, sym, subst, None}
 use Rattle.wb_model.specs.Readings.{Asks, Refuses, Reads, Closes}
 use Rattle.wb_model.specs.Scripts.{Place}
 use Rattle.wb_desk.specs.Standing.{hosts_of}

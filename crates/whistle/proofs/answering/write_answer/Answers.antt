@@ -1,7 +1,5 @@
-use Rattle.std.proofs.Common.{◌≡◌, List, ℕ, ◌+◌, length, refl, sym, ap, ◌∙◌}
-use Rattle.std.specs.Io.KnownBytes.{Appends}
-use Rattle.wb_base.specs.Outside.{AppendsFront}
-use Rattle.wb_model.specs.Replies.{head_text, output_line}
+use Rattle.std.proofs.Common.{List, ℕ, ◌+◌, length, ap, ◌∙◌}
+use Rattle.wb_model.specs.Replies.{output_line}
 use Rattle.whistle.specs.Answered.{reply_of}
 use Rattle.whistle.proofs.SinkLemmas.{sent_line, sent_head, sent_body, sent_end}
 use Rattle.whistle.proofs.answering.write_answer.Goals as goal

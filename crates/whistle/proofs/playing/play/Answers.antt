@@ -1,13 +1,12 @@
-use Rattle.std.proofs.Common.{◌≡◌, ◌≤◌, ◌<◌, ◌+◌, ◌++◌, ◌^◌, List, ℕ, [], ◌∷◌, length, length-append, append_assoc, refl, sym, ap, ◌∙◌, subst, arith, Some}
-use Rattle.std.specs.Io.KnownBytes.{Consumes}
+use Rattle.std.proofs.Common.{◌++◌, [], ◌∷◌, length-append, refl, ap, ◌∙◌, arith}
 use Rattle.std.proofs.KnownBytes.{Consumes-trans}
-use Rattle.wb_model.specs.FrameTexts.{texts, frame_text}
+use Rattle.wb_model.specs.FrameTexts.{texts}
 use Rattle.wb_model.specs.Scripts.{past_after}
 use Rattle.wb_model.specs.Tenants.{Hosts}
 use Rattle.wb_wire.specs.FrameReading.{Progress}
 use Rattle.wb_desk.specs.Standing.{hosts_of}
 use Rattle.whistle.specs.Runs.{start}
-use Rattle.whistle.proofs.PlayLemmas.{Standing, at_start, advance, stuck, wrote, more, regrouped, some_bytes}
+use Rattle.whistle.proofs.PlayLemmas.{at_start, advance, stuck, wrote, more, regrouped, some_bytes}
 use Rattle.whistle.proofs.playing.play.Goals as goal
 
 pub loop-frame-init : goal.loop-frame-init

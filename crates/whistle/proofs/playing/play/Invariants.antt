@@ -1,4 +1,4 @@
-use Rattle.std.proofs.Common.{◌≡◌, ◌≤◌, ◌<◌, ◌-◌, ◌+◌, ◌^◌, List, ℕ}
+use Rattle.std.proofs.Common.{◌≡◌, ◌≤◌, ◌-◌, ◌+◌, ◌^◌, List}
 use Rattle.wb_model.specs.declared.wire.ScriptFrame.{ScriptFrame}
 use Rattle.wb_model.specs.Scripts.{Place}
 use Rattle.wb_desk.specs.Standing.{hosts_of}

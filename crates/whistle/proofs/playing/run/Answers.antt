@@ -1,4 +1,4 @@
-use Rattle.std.proofs.Common.{◌≡◌, ◌⊎◌, List, ℕ, Some, Option, subst}
+use Rattle.std.proofs.Common.{List, ℕ, Option, subst}
 use Rattle.whistle.specs.Runs.{Ran, start}
 use Rattle.whistle.proofs.Completeness.{completed}
 use Rattle.whistle.proofs.Identities.{keeps}
