@@ -9,7 +9,7 @@ use Rattle.wb_model.specs.declared.event.What.{What}
 use Rattle.wb_model.specs.declared.event.What.TheVariants.{Did, Gap, Idle, Lost}
 use Rattle.wb_model.specs.Tables.{Registry}
 use Rattle.wb_model.specs.Requests.{outcome, outline}
-use Rattle.wb_model.specs.Rules.{At, Change, Nothing, Draws, Opens, dealt, deal_of}
+use Rattle.wb_model.specs.Rules.{At, Change, Opens, dealt, deal_of}
 use Rattle.wb_model.specs.Tenants.{tenant_of}
 use Rattle.wb_model.specs.Past.{Turn, turns, now, at_of as past_at, who_of, place_of, about, alone_in, alone_by, change_in, change_by, trail_of, registry, alone_at, last, grown, lives_at, trail}
 use Rattle.wb_model.specs.Pasts.{seen}
@@ -23,12 +23,6 @@ use Rattle.wb_plain.proofs.OwnPasts.{own_last, own_registry}
 
 pub done_alone : (at : At) (g : Registry) (asked : Asked) (by : Option Principal) → (tenant_of asked.command == 1) ≡ true → place_of asked.command by ≡ None → alone_in (seen 1 (Did asked by)) at g ≡ dealt (deal_of at g (option_map who_of by) (outcome g [] asked.command) (outline asked.command))
 done_alone at g asked by e f = rw (e, f) refl
-
-pub done_elsewhere : (at : At) (g : Registry) (asked : Asked) (by : Option Principal) → (tenant_of asked.command == 1) ≡ false → alone_in (seen 1 (Did asked by)) at g ≡ Nothing
-done_elsewhere at g asked by e = rw e refl
-
-pub done_placed : (at : At) (g : Registry) (asked : Asked) (by : Option Principal) (n : ℕ) → (tenant_of asked.command == 1) ≡ true → place_of asked.command by ≡ Some n → alone_in (seen 1 (Did asked by)) at g ≡ Nothing
-done_placed at g asked by n e f = rw (e, f) refl
 
 -- what it dealt
 abbrev dealt_by : Asked → Option Principal → At → Registry → Change
@@ -80,12 +74,3 @@ trail_after all past e r c same change =
 
 pub trail_opened : (all past : List Event) (e : Event) (r n : ℕ) (entry : Entry) → all ≡ past ++ e ∷ [] → alone_at (own past) (own_turn e) ≡ Opens entry → n ≡ last (own past) → (n + 1 == r) ≡ true → trail (own all) r ≡ entry ∷ []
 trail_opened all past e r n entry same change drawn here = trail_after all past e r (Opens entry) same change ∙ (ap (λ m. cond (m + 1 == r) (entry ∷ []) (trail (own past) r)) (sym drawn) ∙ rw here refl)
-
-pub trail_other : (all past : List Event) (e : Event) (r n : ℕ) (entry : Entry) → all ≡ past ++ e ∷ [] → alone_at (own past) (own_turn e) ≡ Opens entry → n ≡ last (own past) → (n + 1 == r) ≡ false → trail (own all) r ≡ trail (own past) r
-trail_other all past e r n entry same change drawn other = trail_after all past e r (Opens entry) same change ∙ (ap (λ m. cond (m + 1 == r) (entry ∷ []) (trail (own past) r)) (sym drawn) ∙ rw other refl)
-
-pub trail_drawn : (all past : List Event) (e : Event) (r : ℕ) → all ≡ past ++ e ∷ [] → alone_at (own past) (own_turn e) ≡ Draws → trail (own all) r ≡ trail (own past) r
-trail_drawn all past e r same change = trail_after all past e r Draws same change
-
-pub trail_same : (all past : List Event) (e : Event) (r : ℕ) → all ≡ past ++ e ∷ [] → alone_at (own past) (own_turn e) ≡ Nothing → trail (own all) r ≡ trail (own past) r
-trail_same all past e r same change = trail_after all past e r Nothing same change

@@ -46,9 +46,6 @@ taken p at id answers item e f g n =
 pub is_refused : (v : Verdict) (t : Told) (kept : KeptVerdict) → v ≡ Refused t → kept ≡ verdicts.Refused t → IsVerdict v kept
 is_refused v t kept e k = subst (IsVerdict v) (sym k) e
 
-pub is_closed : (p : Plain) (at : At) (id : ℕ) (answers : Answered) (kept : KeptVerdict) → is_open (context id p.registry.contexts) ≡ false → kept ≡ verdicts.Refused not_found → IsVerdict (submission_verdict p at id answers) kept
-is_closed p at id answers kept e k = is_refused (submission_verdict p at id answers) not_found kept (closed p at id answers e) k
-
 pub is_faulted : (p : Plain) (at : At) (id : ℕ) (answers : Answered) (item : FormItem) (fault : AnswerFault) (kept : KeptVerdict) → is_open (context id p.registry.contexts) ≡ true → form_at p id ≡ Some item → submission_fault item.form answers ≡ Some fault → kept ≡ verdicts.Refused (faulty fault) → IsVerdict (submission_verdict p at id answers) kept
 is_faulted p at id answers item fault kept e f g k = is_refused (submission_verdict p at id answers) (faulty fault) kept (faulted p at id answers item fault e f g) k
 

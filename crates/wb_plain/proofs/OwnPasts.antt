@@ -1,5 +1,5 @@
 -- The starter host's past, one turn after another.
-use Rattle.std.proofs.Common.{◌≡◌, ℕ, ◌≤◌, ◌+◌, ◌++◌, Bool, true, false, cond, List, [], ◌∷◌, length, refl, ap, ◌∙◌, subst, arith}
+use Rattle.std.proofs.Common.{◌≡◌, ℕ, ◌≤◌, ◌+◌, ◌++◌, Bool, true, false, List, [], ◌∷◌, length, refl, ap, ◌∙◌, subst, arith}
 use Rattle.std.specs.Prelude.{◌==◌, fold, filter, max, nat_lt}
 use Rattle.std.specs.List.{list_any}
 use Rattle.std.proofs.lemmas.List.Sums.{fold-append}
@@ -8,7 +8,7 @@ use Rattle.std.proofs.lemmas.Bool.Decides.{nat_tests}
 use Rattle.wb_model.specs.declared.event.Event.{Event}
 use Rattle.wb_model.specs.Tables.{Case, lasts}
 use Rattle.wb_model.specs.Rules.{Change, Nothing, Draws, Opens, Notes}
-use Rattle.wb_model.specs.Past.{Past, Opening, Turn, Opened, now, registry, numbers_after, numbers, sessions, standing_sessions, live_reports, alone_at, drew, last, trail}
+use Rattle.wb_model.specs.Past.{Past, Opening, Turn, Opened, now, registry, numbers_after, numbers, sessions, standing_sessions, live_reports, alone_at, last, trail}
 use Rattle.wb_model.specs.Pasts.{AllOpened, part, tenants}
 use Rattle.wb_model.specs.Starter.{starter_registry, starter_session, starter_opening}
 use Rattle.wb_plain.specs.Pasts.{past_of, own, own_turn, IsMade, AreMade}
@@ -84,9 +84,6 @@ own_stands : (events : List Event) → AreMade events → (now (own events) ≤ 
 unfolding starter_opening
 own_stands events made = stands_then (Opening starter_opening) events (omega arith) refl made
 
-pub own_now : (events : List Event) → AreMade events → now (own events) ≤ 99_999_999_999
-own_now events made = (own_stands events made).0
-
 pub one_session : (events : List Event) (time : ℕ) → AreMade events → time ≤ 99_999_999_999 → standing_sessions (own events) time ≡ starter_session ∷ []
 one_session events time made most =
     let cases : List Case = live_reports (own events) time in
@@ -114,15 +111,6 @@ unfolding starter_opening
 no_number_0 events = none_then (Opening starter_opening) events refl
 
 -- ---- facts after one more turn
-
-pub now_turn : (all rest : List Event) (e : Event) → all ≡ rest ++ e ∷ [] → now (own all) ≡ max (now (own rest)) e.moment
-now_turn all rest e same = ap now (own_last all rest e same)
-
-pub last_turn : (all rest : List Event) (e : Event) → all ≡ rest ++ e ∷ [] → last (own all) ≡ cond (drew (own rest) (own_turn e)) (last (own rest) + 1) (last (own rest))
-last_turn all rest e same = ap last (own_last all rest e same)
-
-pub numbers_turn : (all rest : List Event) (e : Event) → all ≡ rest ++ e ∷ [] → numbers (own all) ≡ numbers_after (alone_at (own rest) (own_turn e)) (last (own rest)) (numbers (own rest))
-numbers_turn all rest e same = ap numbers (own_last all rest e same)
 
 -- ---- and before the first
 

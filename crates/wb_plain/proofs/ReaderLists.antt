@@ -1,5 +1,5 @@
 -- Who reads a report, entry by entry.
-use Rattle.std.proofs.Common.{◌≡◌, ℕ, ◌++◌, Bool, true, false, cond, List, [], ◌∷◌, length, refl, ap, ◌∙◌, arith}
+use Rattle.std.proofs.Common.{◌≡◌, ℕ, ◌++◌, Bool, true, false, cond, List, [], ◌∷◌, refl, ap, ◌∙◌, arith}
 use Rattle.std.specs.Prelude.{◌==◌, ◌||◌, ◌&&◌, not, filter, nat_lt}
 use Rattle.std.specs.List.{list_any}
 use Rattle.std.proofs.lemmas.List.Sums.{fold-append}
@@ -23,10 +23,6 @@ any-without u v (x ∷ xs) = grind (arith, nat_tests, any-without u v xs)
 -- the last entry decides
 pub reads_last : (u : ℕ) (all rest : List Entry) (e : Entry) → all ≡ rest ++ e ∷ [] → reads u all ≡ list_any (λ x. x == u) (readers_by (readers rest) e.deed)
 reads_last u all rest e same = ap (reads u) same ∙ ap (list_any (λ x. x == u)) (fold-append (λ before entry. readers_by before entry.deed) [] rest (e ∷ []))
-
-pub no_readers : (u : ℕ) (all : List Entry) → length all ≡ 0 → reads u all ≡ false
-no_readers u [] e = refl
-no_readers u (x ∷ xs) e = absurd (omega (arith, e))
 
 pub reads_shared : (u v : ℕ) (all rest : List Entry) (e : Entry) → all ≡ rest ++ e ∷ [] → e.deed ≡ Shared v → reads u all ≡ (reads u rest || (v == u))
 reads_shared u v all rest e same deed = reads_last u all rest e same ∙ (ap (λ d. list_any (λ x. x == u) (readers_by (readers rest) d)) deed ∙ any-with_reader u v (readers rest))
