@@ -103,5 +103,8 @@ abbrev pub says_close : List ℕ → Bool
 says_close value = list_any is_close (slice_split (λ c. c == 44) value)
 
 -- the connection closes after a request of version 1.0, and where it asks for that
+abbrev pub closes_by : ℕ → Fields → Bool
+closes_by minor fields = (minor == 0) || list_any says_close (values (codes "connection") fields)
+
 abbrev pub closes : RequestHead → Bool
-closes h = (h.minor == 0) || list_any says_close (values (codes "connection") (fields_of h))
+closes h = closes_by h.minor (fields_of h)

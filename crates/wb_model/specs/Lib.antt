@@ -19,8 +19,10 @@ pub mod Fits
 pub mod Starter
 pub mod FrameTexts
 pub mod Heads
+pub mod Routes
 pub mod Bodies
 pub mod Readings
+pub mod Cuts
 pub mod Replies
 pub mod Scripts
 pub mod ScriptsAlike

@@ -1,82 +1,104 @@
--- What the bytes of a request are read as: what it asks, or why it is not read.
-use Rattle.std.specs.Prelude.{ℕ, ◌≡◌, ◌==◌, ◌&&◌, ◌⊎◌, nat_eq, Bool, true, false, if◌then◌else◌, List, length, drop, replicate, codes, Option, Some, None, Result, Ok, Err, option_map}
-use Rattle.std.specs.List.{starts_with}
-use Rattle.std.specs.Str.Parse.{digits_value}
+-- What the bytes of a request are read as: what it asks, or the first of eleven faults.
+use Rattle.std.specs.Prelude.{ℕ, ◌≡◌, ◌==◌, ◌||◌, ◌⊎◌, Bool, true, false, if◌then◌else◌, List, length, Option, Some, None, Result, Ok, Err, option_map, option_and_then, unwrap_or, ok_or}
 use Rattle.httparse.specs.Grammar.{RequestHead}
+use Rattle.serde_json.specs.Data.{Data}
 use Rattle.wb_base.specs.declared.callers.Presented.{Presented}
-use Rattle.wb_base.specs.declared.callers.Presented.TheVariants as presented
-use Rattle.wb_base.specs.AnswerList.{is_text}
-use Rattle.wb_base.specs.FormShape.{keep}
 use Rattle.wb_model.specs.declared.command.Asked.{Asked}
 use Rattle.wb_model.specs.declared.command.Command.{Command}
-use Rattle.wb_model.specs.declared.command.Command.TheVariants as commands
+use Rattle.wb_model.specs.declared.route.Route.{Route}
 use Rattle.wb_model.specs.declared.wire.WireFault.{WireFault}
 use Rattle.wb_model.specs.declared.wire.WireFault.TheVariants as faults
-use Rattle.wb_model.specs.Fits.{is_path_number}
-use Rattle.wb_model.specs.Heads.{Fields, fields_of, is_absent, path, declared_length, is_number, session, closes, BeginsWithHead, HasNoHead}
-use Rattle.wb_model.specs.Bodies.{submitted}
+use Rattle.wb_model.specs.Built.{is_built}
+use Rattle.wb_model.specs.Heads.{Fields, fields_of, path, declared_length, session, closes_by, closes, BeginsWithHead, HasNoHead}
+use Rattle.wb_model.specs.Routes.{Method, Path, number_of_path, row, segments, are_numbers, number_under, route}
+use Rattle.wb_model.specs.Bodies.{json, Numbers, bare, shaped}
 
 -- what is asked, or the fault, with whether the connection closes after it
 pub data Reading : Type 0 where
   Asks : Asked → Reading
   Refuses : WireFault → Bool → Reading
 
--- ---- the two requests that are built
+-- what comes next, where there is no fault
+abbrev pub and_then : {X Y : Type 0} → (X → Result Y WireFault) → Result X WireFault → Result Y WireFault
+and_then next (Ok x) = next x
+and_then next (Err fault) = Err fault
 
--- version 1.1, with nothing said of the connection
-abbrev pub is_plain : ℕ → Fields → Bool
-is_plain minor fields = (minor == 1) && is_absent (codes "connection") fields
+-- ---- the length (RFC 9112, section 6)
 
--- the length that is said is the number of bytes that follow
-abbrev pub is_length : ℕ → Result (Option ℕ) WireFault → Bool
-is_length size (Ok (Some said)) = said == size
-is_length size (Ok None) = false
-is_length size (Err fault) = false
+-- the length that is said, which is that of what follows the head; where none is said, nothing follows
+abbrev pub sized_by : List ℕ → Option ℕ → Result (Option ℕ) WireFault
+sized_by rest said = if length rest == unwrap_or said 0 then Ok said else Err faults.BadLength
 
--- no length is said
-abbrev pub is_no_length : Result (Option ℕ) WireFault → Bool
-is_no_length (Ok (Some said)) = false
-is_no_length (Ok None) = true
-is_no_length (Err fault) = false
+abbrev pub sized : Fields → List ℕ → Result (Option ℕ) WireFault
+sized fields rest = and_then (sized_by rest) (declared_length fields)
 
--- a submission to tenant 1, without a session
-abbrev pub is_submission : List ℕ → Fields → List ℕ → Bool
-is_submission path fields rest = is_text path (codes "/t/1/reports") && is_absent (codes "x-session") fields && is_length (length rest) (declared_length fields)
+-- ---- the path and the method
 
--- the starter host's standing session
-abbrev pub is_starter : Presented → Bool
-is_starter presented.None = false
-is_starter presented.Bad = false
-is_starter (presented.Token turn secret) = (turn == 0) && is_text secret (replicate 32 48)
+-- a path of the table: its number, its methods, and the numbers that stand in it
+pub record Place : Type 0 where
+  pub number : ℕ
+  pub methods : List Method
+  pub at : Numbers
 
--- the read of a report of tenant 1
-abbrev pub is_read : List ℕ → Fields → List ℕ → Bool
-is_read path fields rest = starts_with nat_eq path (codes "/t/1/reports/") && is_starter (session fields) && is_no_length (declared_length fields) && (length rest == 0)
+-- the path is this row's, where each of its numbers is one
+abbrev pub place_by : List ℕ → ℕ → Path → Option Place
+place_by text number p = if are_numbers (segments p.pattern) (segments text) then Some (record { number = number; methods = p.methods; at = number_under (segments p.pattern) (segments text) }) else None
 
--- a number of a path, without a leading zero
-abbrev pub path_number : List ℕ → Option ℕ
-path_number text = if is_number text then keep is_path_number (digits_value 10 text) else None
+abbrev pub place_of : List ℕ → Option Place
+place_of text = option_and_then (λ number. option_and_then (place_by text number) (row number)) (number_of_path text)
 
-abbrev pub report_read : List ℕ → Option Command
-report_read path = option_map (λ n. commands.ReadReport 1 n) (path_number (drop 13 path))
+abbrev pub placed : List ℕ → Result Place WireFault
+placed text = ok_or (place_of text) faults.NoRoute
 
--- the command that a method on a path asks
-abbrev pub command : List ℕ → List ℕ → Fields → List ℕ → Option Command
-command method path fields rest =
-    if is_text method (codes "POST") && is_submission path fields rest then submitted 1 rest
-    else if is_text method (codes "GET") && is_read path fields rest then report_read path
-    else None
+abbrev pub routed : List ℕ → Place → Result Route WireFault
+routed method place = ok_or (route method place.methods) (faults.NoMethod place.number)
+
+-- ---- the body
+
+-- the value of a body, which needs a length
+abbrev pub body_by : List ℕ → Option ℕ → Result Data WireFault
+body_by rest None = Err faults.NoLength
+body_by rest (Some said) = ok_or (json rest) faults.BadJson
+
+-- a route without a body needs none
+abbrev pub command_by : Route → Numbers → List ℕ → Option ℕ → Option Command → Result Command WireFault
+command_by route at rest said (Some command) = Ok command
+command_by route at rest said None = and_then (λ d. ok_or (shaped route at d) faults.BadShape) (body_by rest said)
+
+abbrev pub command : Numbers → List ℕ → Option ℕ → Route → Result Command WireFault
+command at rest said route = command_by route at rest said (bare route at)
+
+-- the route is built
+abbrev pub built : Command → Result Command WireFault
+built command = if is_built command then Ok command else Err faults.NotBuilt
 
 -- ---- the reading
 
--- what is asked leaves the connection open; each other request closes it
-abbrev pub reading_by : Fields → Option Command → Reading
-reading_by fields (Some command) = Asks (record { command = command; session = session fields; close = false })
-reading_by fields None = Refuses faults.NotBuilt true
+-- what a method on a path asks with these fields and what follows the head, or the first fault
+abbrev pub asks : List ℕ → List ℕ → Fields → List ℕ → Result Command WireFault
+asks method text fields rest =
+    and_then (λ said. and_then (λ place. and_then built (and_then (command place.at rest said) (routed method place))) (placed text)) (sized fields rest)
+
+-- the connection closes after these faults whatever the head asks for
+abbrev pub closes_always : WireFault → Bool
+closes_always faults.BadHead = true
+closes_always faults.BadLength = true
+closes_always faults.NoLength = true
+closes_always faults.TooLarge = true
+closes_always faults.NoRoute = false
+closes_always (faults.NoMethod path) = false
+closes_always faults.BadJson = false
+closes_always faults.BadShape = false
+closes_always faults.NotBuilt = true
+closes_always faults.Memory = false
+
+abbrev pub reading_by : Presented → Bool → Result Command WireFault → Reading
+reading_by session close (Ok command) = Asks (record { command = command; session = session; close = close })
+reading_by session close (Err fault) = Refuses fault (close || closes_always fault)
 
 -- of a method, a path, a version, fields and what follows the head
 abbrev pub reading_by_parts : List ℕ → List ℕ → ℕ → Fields → List ℕ → Reading
-reading_by_parts method path minor fields rest = reading_by fields (if is_plain minor fields then command method path fields rest else None)
+reading_by_parts method text minor fields rest = reading_by (session fields) (closes_by minor fields) (asks method text fields rest)
 
 -- of a head and what follows it
 abbrev pub reading_of : RequestHead → List ℕ → Reading

@@ -1,11 +1,11 @@
 -- The bytes of replies (RFC 9112, sections 4 to 6), and what a script's output has of each.
-use Rattle.std.specs.Prelude.{ℕ, ◌==◌, Bool, true, false, if◌then◌else◌, List, [], ◌∷◌, ◌++◌, length, decimal, codes, Option, Some, None}
-use Rattle.std.specs.List.{list_any}
+use Rattle.std.specs.Prelude.{ℕ, Bool, true, false, List, [], ◌∷◌, ◌++◌, length, decimal, codes, Option, Some, None}
 use Rattle.http.specs.StatusCode.{status_text}
 use Rattle.wb_model.specs.declared.body.Told.{Told}
 use Rattle.wb_model.specs.declared.wire.WireFault.{WireFault}
 use Rattle.wb_model.specs.declared.wire.WireFault.TheVariants as faults
 use Rattle.wb_model.specs.Refusals.{refused, not_found, not_built, no_memory}
+use Rattle.wb_model.specs.Routes.{methods, method_names}
 
 -- ---- the reply to a request that is not read
 
@@ -36,28 +36,15 @@ fault_allow faults.Memory = None
 
 -- ---- a reply's bytes
 
-abbrev pub is_one_of : List ℕ → ℕ → Bool
-is_one_of numbers n = list_any (λ k. k == n) numbers
-
--- the methods of a path by its number, in the order of the table of routes
-unfoldable pub methods : ℕ → List ℕ
-methods path =
-    if path == 4 then codes "POST, DELETE"
-    else if path == 5 then codes "POST, GET"
-    else if path == 17 then codes "DELETE"
-    else if is_one_of (8 ∷ 12 ∷ 13 ∷ 25 ∷ 26 ∷ 27 ∷ 28 ∷ []) path then codes "PUT"
-    else if is_one_of (1 ∷ 2 ∷ 3 ∷ 6 ∷ 9 ∷ 10 ∷ 21 ∷ 22 ∷ 24 ∷ []) path then codes "GET"
-    else codes "POST"
-
 abbrev pub allow_line : Option ℕ → List ℕ
 allow_line None = []
-allow_line (Some path) = codes "Allow: " ++ methods path ++ codes "\r\n"
+allow_line (Some path) = codes "Allow: " ++ method_names (methods path) ++ codes "\r\n"
 
 abbrev pub close_line : Bool → List ℕ
 close_line false = []
 close_line true = codes "Connection: close\r\n"
 
--- a reply's head: its status, the methods that a path has, its body's length, and whether the connection closes
+-- a reply's head: its status, the methods of a path by its number, its body's length, and whether the connection closes
 unfoldable pub head_text : ℕ → Option ℕ → ℕ → Bool → List ℕ
 head_text status allow size close =
     codes "HTTP/1.1 " ++ status_text status

@@ -3,7 +3,9 @@ use Rattle.std.specs.Prelude.{◌≡◌, ◌⊎◌, ℕ, ◌+◌, ◌==◌, ◌&
 use Rattle.wb_model.specs.declared.body.Told.{Told}
 use Rattle.wb_model.specs.declared.command.Command.{Command}
 use Rattle.wb_model.specs.declared.command.Command.TheVariants as commands
-use Rattle.wb_model.specs.Refusals.{not_found, not_built}
+use Rattle.wb_model.specs.Json.{told}
+use Rattle.wb_model.specs.Refusals.{not_found}
+use Rattle.wb_model.specs.Views.{health_view}
 use Rattle.wb_model.specs.Requests.{Frame}
 use Rattle.wb_model.specs.Host.{Tables, Host, purged, purge_at, ruling_at, reply_to, host_after}
 use Rattle.wb_model.specs.Alike.{TablesAlike, is_reader, LaterAlike, SubmissionsAlike, is_refused}
@@ -63,9 +65,13 @@ one turns now t = record { turns = turns; now = now; tables = t }
 abbrev pub has_id : ℕ → Tenancy → Bool
 has_id t x = x.id == t
 
--- the reply where the tenant of a number is not there, 0 standing for none that is named
+-- the host serves
+unfoldable pub healthy : Told
+healthy = told 200 health_view
+
+-- the reply where the tenant of a number is not there; 0 stands for none that is named, since the host's health is asked
 abbrev pub without_tenant : ℕ → Told
-without_tenant t = if t == 0 then not_built else not_found
+without_tenant t = if t == 0 then healthy else not_found
 
 abbrev pub reply_of : Hosts → Frame → Option Tenancy → Told
 reply_of h f None = without_tenant (tenant_at f)

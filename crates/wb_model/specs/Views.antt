@@ -26,6 +26,11 @@ state_name states.Denied = codes "denied"
 state_name states.Revoked = codes "revoked"
 state_name states.Ended = codes "ended"
 
+-- ---- the host's health
+
+unfoldable pub health_view : Data
+health_view = object_of ((codes "status", string (codes "ok")) ∷ [])
+
 -- ---- a submission
 
 unfoldable pub submission_view : ℕ → List ℕ → Data

@@ -10,6 +10,7 @@ mod event;
 mod laws;
 mod numbering;
 mod registry;
+mod route;
 mod trail;
 mod wire;
 
@@ -25,6 +26,7 @@ pub use laws::{
 };
 pub use numbering::Numbering;
 pub use registry::{ContextItem, FormItem, Lists, Rights, TenantItem, UserItem};
+pub use route::Route;
 pub use trail::Trail;
 pub use wire::{PathNo, ScriptFrame, WireFault};
 
