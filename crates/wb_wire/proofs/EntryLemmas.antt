@@ -64,7 +64,7 @@ nothing_before (Some es) = refl
 
 -- ---- a step over one member
 
-pub entries_step : (all : Option Answered) (answers new : Answered) (e : Entry) (left rest : List Entry) (given : Option Given) → left ≡ e ∷ rest → answer (string_bytes e.0) (view e.1) ≡ Some given
+pub entries_step : (all : Option Answered) (answers new : Answered) (e : Entry) (left rest : List Entry) (given : Option Given) → left ≡ e ∷ rest → answer (view e.1) ≡ Some given
     → new ≡ answers ++ with_entry (string_bytes e.0) given [] → all ≡ option_map (λ es. answers ++ es) (entries (members_view left)) → all ≡ option_map (λ es. new ++ es) (entries (members_view rest))
 entries_step all answers new e left rest given steps is grown so_far =
     let whole = so_far ∙ ap (λ l. option_map (λ es. answers ++ es) (entries (members_view l))) steps in

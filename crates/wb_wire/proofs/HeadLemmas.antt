@@ -1,15 +1,21 @@
 -- The head at the front of a request's bytes.
-use Rattle.std.proofs.Common.{◌≡◌, inl, ℕ, ◌+◌, ◌-◌, ◌≤◌, true, false, List, [], ◌++◌, length, take, drop, map, sym, ap, subst, ◌∙◌, arith, append-nil}
-use Rattle.std.proofs.lemmas.List.{take-append-drop, drop_at, length-take, length-map}
+use Rattle.std.proofs.Common.{◌≡◌, ◌<◌, inl, inr, ◌⊎◌, nat_lt, if◌then◌else◌, Bool, append_assoc, refl, ℕ, ◌+◌, ◌-◌, ◌≤◌, true, false, List, [], ◌++◌, length, take, drop, map, sym, ap, subst, ◌∙◌, arith, append-nil, Option, Result, Ok, Err, unwrap_or}
+use Rattle.std.proofs.lemmas.List.{take-append-drop, drop_at, length-take, length-map, take_all}
+use Rattle.std.proofs.lemmas.Bool.{cases_Bool, ltb-true, ltb-false}
 use Rattle.std.proofs.Math.Seq.{take-append-add}
 use Rattle.httparse.specs.declared.spans.HeaderSpan.{HeaderSpan}
 use Rattle.httparse.specs.declared.spans.RequestSpans.{RequestSpans}
-use Rattle.httparse.specs.Grammar.{RequestHead, ReadsRequest, print_request, HasNoRequest}
-use Rattle.httparse.specs.Spans.{RequestOverflows, IsRequestAt, IsRequestOf, IsRequestWithin, span_bytes, header_bytes, name_and_value}
+use Rattle.httparse.specs.Grammar.{RequestHead, ReadsRequest, print_request, HasNoRequest, NeverHasRequest, MayBecomeRequest}
+use Rattle.httparse.specs.Spans.{RequestOverflows, RequestExceeds, IsRequestAt, IsRequestOf, IsRequestWithin, span_bytes, header_bytes, name_and_value}
 use Rattle.httparse.proofs.GrammarLemmas.{ReadsRequest-append}
-use Rattle.wb_model.specs.Heads.{BeginsWithHead, HasNoHead, path_of}
-use Rattle.wb_model.specs.Readings.{Reading, Reads, Closes, reading_by_parts, reading_of, is_plain}
-use Rattle.wb_wire.proofs.RequestLemmas.{stays_open}
+use Rattle.wb_model.specs.declared.wire.WireFault.{WireFault}
+use Rattle.wb_model.specs.declared.wire.WireFault.TheVariants.{BadHead}
+use Rattle.wb_model.specs.Cuts.{MayHaveHead, NeverHasHead, EndsAt}
+use Rattle.wb_model.specs.Heads.{BeginsWithHead, HasNoHead, Fields, fields_of, declared_length, closes, closes_by, path_of}
+use Rattle.wb_model.specs.Readings.{Reading, Reads, Closes, reading_by_parts, reading_of}
+use Rattle.wb_wire.specs.declared.heads.HeadRead.{HeadRead}
+use Rattle.wb_wire.specs.declared.heads.HeadRead.TheVariants.{Whole, More, No}
+use Rattle.wb_wire.specs.HeadReading.{IsWhole, IsHeadRead}
 
 -- a head in the window is a head of the bytes
 reads_out : (bytes : List ℕ) (h : RequestHead) (rest : List ℕ) → ReadsRequest (take 8_192 bytes) h rest → ReadsRequest bytes h (rest ++ drop 8_192 bytes)
@@ -68,12 +74,59 @@ reads_as bytes front headers r method target rest reading is_front room within f
       sym here ∙ same_reading front headers r found.0 (drop r.len bytes) found.1,
     )
 
--- where they are plain, the head leaves the connection open
-pub closes_as : (bytes front : List ℕ) (headers : List HeaderSpan) (r : RequestSpans) → front ≡ take 8_192 bytes → length headers ≡ 64
-    → IsRequestWithin front headers r → IsRequestOf front headers r → is_plain r.version (map (header_bytes front) (take r.headers headers)) ≡ true → Closes bytes false
-closes_as bytes front headers r is_front room within found plain = (
+-- the closing that the head asks for
+pub closes_as : (bytes front : List ℕ) (headers : List HeaderSpan) (r : RequestSpans) (close : Bool) → front ≡ take 8_192 bytes → length headers ≡ 64
+    → IsRequestWithin front headers r → IsRequestOf front headers r → close ≡ closes_by r.version (map (header_bytes front) (take r.headers headers)) → Closes bytes close
+closes_as bytes front headers r close is_front room within found is = (
   found.0,
   drop r.len bytes,
   found_head bytes headers r found.0 room (rw is_front at within) (rw is_front at found.1),
-  stays_open found.0 (rw (found.1.version, found.1.fields) at plain),
+  rw (found.1.version, found.1.fields) at is,
 )
+
+-- ---- a connection's head
+
+-- the head of a connection, with what its fields say
+pub whole_as : (bytes front : List ℕ) (headers : List HeaderSpan) (r : RequestSpans) (said : Option ℕ) (body : ℕ) (close : Bool) → front ≡ take 8_192 bytes → length headers ≡ 64
+    → IsRequestWithin front headers r → IsRequestOf front headers r → declared_length (map (header_bytes front) (take r.headers headers)) ≡ Ok said → body ≡ unwrap_or said 0
+    → close ≡ closes_by r.version (map (header_bytes front) (take r.headers headers)) → IsWhole bytes r.len body close
+whole_as bytes front headers r said body close is_front room within found declares is closing = record {
+  head = found.0;
+  begins = found_head bytes headers r found.0 room (rw is_front at within) (rw is_front at found.1);
+  sized = found.1.len;
+  said = said;
+  declares = rw found.1.fields at declares;
+  has_body = is;
+  closing = rw (found.1.version, found.1.fields) at closing;
+}
+
+-- or a fault of them
+pub ends_as : (bytes front : List ℕ) (headers : List HeaderSpan) (r : RequestSpans) (fault : WireFault) → front ≡ take 8_192 bytes → length headers ≡ 64
+    → IsRequestWithin front headers r → IsRequestOf front headers r → declared_length (map (header_bytes front) (take r.headers headers)) ≡ Err fault → EndsAt bytes fault
+ends_as bytes front headers r fault is_front room within found declares = inr (
+  found.0,
+  drop r.len bytes,
+  found_head bytes headers r found.0 room (rw is_front at within) (rw is_front at found.1),
+  rw found.1.fields at declares,
+)
+
+-- no longer text has a head, whatever follows the window
+never_out : (bytes : List ℕ) → NeverHasRequest (take 8_192 bytes) → NeverHasRequest bytes
+never_out bytes never more h rest x =
+    let parts : bytes ++ more ≡ take 8_192 bytes ++ (drop 8_192 bytes ++ more) = ap (λ b. b ++ more) (sym (take-append-drop 8_192 bytes)) ∙ append_assoc (take 8_192 bytes) (drop 8_192 bytes) more in
+    never (drop 8_192 bytes ++ more) h rest (subst (λ b. ReadsRequest b h rest) parts x)
+
+pub never_as : (bytes front : List ℕ) → front ≡ take 8_192 bytes → RequestOverflows 64 front → NeverHasRequest front → EndsAt bytes BadHead
+never_as bytes front is over never = inl (record { none = none_fits bytes (rw is at over); never = inr (never_out bytes (rw is at never)) }, refl)
+
+-- without a head, more may come where there is room
+pub headless_as : (bytes front : List ℕ) → front ≡ take 8_192 bytes → HasNoHead bytes → MayBecomeRequest front ⊎ RequestExceeds 64 front → IsHeadRead bytes (if nat_lt (length front) 8_192 then More else No BadHead)
+headless_as bytes front is none may =
+    let size : length front ≡ length (take 8_192 bytes) = ap length is in
+    elim (cases_Bool (nat_lt (length front) 8_192)) [
+      | inl short ↦
+          let less : length bytes < 8_192 = omega (arith, ltb-true _ _ short, size, length-take 8_192 bytes) in
+          let whole : front ≡ bytes = is ∙ take_all 8_192 bytes (omega (arith, less)) in
+          rw short (record { none = none; short = less; may = rw whole at may })
+      | inr long ↦ rw long (inl (record { none = none; never = inl (omega (arith, ltb-false _ _ long, size, length-take 8_192 bytes)) }, refl))
+    ]

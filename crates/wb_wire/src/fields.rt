@@ -20,8 +20,8 @@ pub enum Values<'a> {
     Several,
 }
 
-// Whether a field has the name.
-fn has_name(bytes: &[u8], field: &HeaderSpan, name: &[u8]) -> bool
+/// Whether a field has the name.
+pub fn has_name(bytes: &[u8], field: &HeaderSpan, name: &[u8]) -> bool
     requires { IsHeaderWithin (length bytes.now) field.now }
     ensures { result ≡ is_named name.now (header_bytes bytes.now field.now) }
 {

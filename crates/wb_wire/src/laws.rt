@@ -1,10 +1,12 @@
-//! Laws of the wire's definitions, each a function with no body.
+//! Laws of the wire's definitions, each a function with no body of its own.
 ghost use Rattle.std.specs.Prelude.{◌≡◌, ◌++◌, ℕ, List, Bool, true};
 ghost use Rattle.wb_model.specs.declared.command.Asked.{Asked};
 ghost use Rattle.wb_model.specs.declared.wire.ScriptFrame.{ScriptFrame};
 ghost use Rattle.wb_model.specs.FrameTexts.{frame_text, IsFrame};
 ghost use Rattle.wb_model.specs.Fits.{fits};
 ghost use Rattle.wb_model.specs.Readings.{Reading, Asks, Reads, Closes};
+
+use wb_form::good_forms_are_those_that_are_read;
 
 /// No frame's text begins another's, so a text parts into frames in one way.
 pub fn one_frame()
@@ -20,4 +22,6 @@ pub fn one_reading()
 /// What is asked is in the ranges of requests.
 pub fn what_is_asked_fits()
     ensures { (bytes : List ℕ) (asked : Asked) → Reads bytes (Asks asked) → fits asked ≡ true }
-{}
+{
+    good_forms_are_those_that_are_read();
+}

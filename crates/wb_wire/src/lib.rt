@@ -1,25 +1,35 @@
 //! The wire: the frames of a script, requests read from their bytes, and the bytes of replies (RFC 9112).
 #![tactic(auto)]
 
-mod bodies;
+mod answers;
+mod closing;
+mod commands;
+mod cuts;
 mod faults;
 mod fields;
 mod frame_line;
 mod frames;
+mod heads;
+mod json_values;
 mod laws;
+mod members;
 mod numbers;
+mod paths;
 mod replies;
 mod requests;
+mod router;
+mod segments;
+mod sets;
+mod shapes;
 mod taking;
 mod written;
 
 pub use faults::{fault_body, fault_status};
 pub use frames::{FrameNo, FrameReader};
+pub use heads::{HeadRead, read_head};
 pub use laws::{one_frame, one_reading, what_is_asked_fits};
 pub use replies::{reply_head, reply_line};
 pub use requests::{WireNo, read_request};
+pub use router::Routes;
 pub use wb_model::{PathNo, ScriptFrame, WireFault};
 pub use written::{Head, Line, Written};
-
-#[cfg(test)]
-mod tests;

@@ -1,38 +1,46 @@
 //! The bytes of replies that need no memory.
 ghost use Rattle.std.specs.Prelude.{◌≡◌, ◌≤◌, ◌+◌, ◌++◌, length, codes, decimal, unwrap_or};
 ghost use Rattle.http.specs.StatusCode.{reason_phrase, status_text};
-ghost use Rattle.wb_model.specs.Replies.{head_text, output_line, methods as methods_of, is_one_of as is_among, allow_line, close_line};
+ghost use Rattle.std.specs.List.{flat_map};
+ghost use Rattle.wb_model.specs.Replies.{head_text, output_line, allow_line, close_line};
+ghost use Rattle.wb_model.specs.Routes.{methods as methods_by, method_names};
+ghost use Rattle.wb_wire.specs.Paths.{methods_of, more_name};
 
+use crate::paths::{Method, row};
 use crate::{Head, Line, PathNo};
 use http::StatusCode;
 use itoa::Buffer;
 
-// Whether a number is one of these.
-fn is_one_of(numbers: &[u8], n: u8) -> bool
-    ensures { result ≡ is_among numbers.now n }
+// The methods of a path.
+fn methods(path: PathNo) -> &'static [Method]
+    ensures methods { methods_of result.now ≡ methods_by path }
+    ensures short { length (method_names (methods_of result.now)) ≤ 12 }
 {
-    numbers.iter().any(|k| *k == n)
+    match row(path) {
+        Some(row) => row.methods,
+        None => &[],
+    }
 }
 
-// The methods of a path, parted by a comma and a space.
-#[tactic(auto, unfolding(wb_model::specs::Replies::methods))]
-fn methods(path: PathNo) -> &'static str
-    ensures text { result.now ≡ methods_of path }
-    ensures short { length result.now ≤ 12 }
+// The names of more methods, each after a comma and a space.
+fn put_more(head: &mut Head, methods: &[Method])
+    requires { length head.old + length (flat_map more_name (methods_of methods.now)) ≤ 256 }
+    ensures { head.new ≡ head.old ++ flat_map more_name (methods_of methods.now) }
 {
-    let number = path.number();
-    if number == 4 {
-        "POST, DELETE"
-    } else if number == 5 {
-        "POST, GET"
-    } else if number == 17 {
-        "DELETE"
-    } else if is_one_of(&[8, 12, 13, 25, 26, 27, 28], number) {
-        "PUT"
-    } else if is_one_of(&[1, 2, 3, 6, 9, 10, 21, 22, 24], number) {
-        "GET"
-    } else {
-        "POST"
+    for method in methods {
+        head.put(b", ");
+        head.put(method.name.as_bytes());
+    }
+}
+
+// The names of methods, parted by a comma and a space.
+fn put_methods(head: &mut Head, methods: &[Method])
+    requires { length head.old + length (method_names (methods_of methods.now)) ≤ 256 }
+    ensures { head.new ≡ head.old ++ method_names (methods_of methods.now) }
+{
+    if let [first, more @ ..] = methods {
+        head.put(first.name.as_bytes());
+        put_more(head, more);
     }
 }
 
@@ -71,7 +79,7 @@ fn put_allow(head: &mut Head, allow: Option<PathNo>)
     match allow {
         Some(path) => {
             head.put(b"Allow: ");
-            head.put(methods(path).as_bytes());
+            put_methods(head, methods(path));
             head.put(b"\r\n");
         }
         None => {}

@@ -1,128 +1,38 @@
 //! Requests read from their bytes (RFC 9112).
-ghost use Rattle.std.specs.Prelude.{◌≡◌, ◌≢◌, ◌==◌, ◌≤◌, length, map, take, drop, position, true, All, IfOk, IfErr, Err, Some, None};
+ghost use Rattle.std.specs.Prelude.{◌≡◌, ◌≢◌, ◌==◌, ◌||◌, ◌≤◌, length, map, take, drop, true, false, All, IfOk, IfErr, Ok, Err, Some, None, option_map};
 ghost use Rattle.httparse.specs.Spans.{header_bytes, IsHeaderWithin};
+ghost use Rattle.wb_model.specs.declared.command.Asked.{Asked as AskedOf};
+ghost use Rattle.wb_model.specs.declared.command.Command.{Command as CommandOf};
+ghost use Rattle.wb_model.specs.Built.{is_built as built_test};
+ghost use Rattle.wb_model.specs.Bodies.{bare as bare_of};
 ghost use Rattle.wb_model.specs.Fits.{fits};
-ghost use Rattle.wb_wire.specs.RequestParts.{fields_in, command_of, reading_of_parts};
-ghost use Rattle.wb_model.specs.Heads.{path_of as path_of_target};
-ghost use Rattle.wb_model.specs.Readings.{Reads, Closes, Asks, Refuses, is_plain as plain_test, is_submission as submission_test, is_read as read_test, is_starter as starter_test, report_read as report_read_of, path_number as path_number_of};
+ghost use Rattle.wb_model.specs.Readings.{Reads, Closes, Asks, Refuses, sized as sized_of, place_of, body_by, command as command_of, built as built_of, closes_always as closes_always_of};
+ghost use Rattle.wb_model.specs.Scripts.{is_health};
+ghost use Rattle.wb_wire.specs.Places.{place_value, at_place};
+ghost use Rattle.wb_wire.specs.RequestParts.{fields_in, asks_of, GivesOrWants, GivesBody};
 
 use crate::WireFault;
-use crate::bodies::{BodyNo, submission};
-use crate::fields::{declared_length, is_absent, session};
-use crate::numbers::number_of;
+use crate::closing::closes;
+use crate::commands::{Numbers, bare, shaped};
+use crate::fields::{declared_length, session};
+use crate::heads::{path_of, rest_after, window};
+use crate::json_values::{BodyNo, read_json};
+use crate::laws::what_is_asked_fits;
+use crate::paths::{Path, route, row};
+use crate::router::Routes;
+use crate::segments::are_numbers;
 use httparse::Status;
 use httparse::spans::{EMPTY_HEADER_SPAN, HeaderSpan, parse_request};
+use serde_json::Value;
 use std::alloc::Global;
-use wb_base::Presented;
-use wb_model::{Asked, Command};
+use wb_form::good_forms_are_those_that_are_read;
+use wb_model::{Asked, Command, PathNo, Route};
 
 /// Why a request is not read, and whether the connection closes after the reply.
 #[derive(Clone, Copy, Debug, PartialEq, Eq)]
 pub struct WireNo {
     pub fault: WireFault,
     pub close: bool,
-}
-
-// The first `?`.
-fn mark(target: &[u8]) -> Option<usize>
-    ensures { result ≡ position (λ c. c == 63) target.now }
-{
-    target.iter().position(|c| *c == b'?')
-}
-
-// The first bytes, as many as a head may have.
-fn window(bytes: &[u8]) -> &[u8]
-    ensures front { result.now ≡ take 8_192 bytes.now }
-    ensures short { length result.now ≤ length bytes.now }
-{
-    if bytes.len() < 8_192 {
-        bytes
-    } else {
-        &bytes[..8_192]
-    }
-}
-
-// What follows the first bytes.
-fn after(bytes: &[u8], at: usize) -> &[u8]
-    requires { at ≤ length bytes.now }
-    ensures { result.now ≡ drop at bytes.now }
-{
-    &bytes[at..]
-}
-
-// The target up to the first `?`.
-fn path_of(target: &[u8]) -> &[u8]
-    ensures { result.now ≡ path_of_target target.now }
-{
-    match mark(target) {
-        Some(at) => &target[..at],
-        None => target,
-    }
-}
-
-// Whether the request is of version 1.1 and says nothing of the connection.
-fn is_plain(minor: u8, bytes: &[u8], fields: &[HeaderSpan]) -> bool
-    requires { All (IsHeaderWithin (length bytes.now)) fields.now }
-    ensures { result ≡ plain_test minor (map (header_bytes bytes.now) fields.now) }
-{
-    minor == 1 && is_absent(bytes, fields, b"connection")
-}
-
-// Whether the request submits to tenant 1, without a session and with the length of what follows.
-fn is_submission(path: &[u8], bytes: &[u8], fields: &[HeaderSpan], rest: &[u8]) -> bool
-    requires { All (IsHeaderWithin (length bytes.now)) fields.now }
-    ensures { result ≡ submission_test path.now (map (header_bytes bytes.now) fields.now) rest.now }
-{
-    if path != b"/t/1/reports".as_slice() || !is_absent(bytes, fields, b"x-session") {
-        return false;
-    }
-    match declared_length(bytes, fields) {
-        Ok(Some(length)) => length == rest.len() as u64,
-        Ok(None) => false,
-        Err(_) => false,
-    }
-}
-
-// Whether it is the starter host's standing session.
-fn is_starter(session: &Presented) -> bool
-    ensures { result ≡ starter_test session.now }
-{
-    match session {
-        Presented::None => false,
-        Presented::Bad => false,
-        Presented::Token { turn, secret } => *turn == 0 && *secret == [b'0'; 32],
-    }
-}
-
-// Whether the request reads a report of tenant 1 with the standing session, and nothing follows it.
-fn is_read(path: &[u8], bytes: &[u8], fields: &[HeaderSpan], rest: &[u8]) -> bool
-    requires { All (IsHeaderWithin (length bytes.now)) fields.now }
-    ensures { result ≡ read_test path.now (map (header_bytes bytes.now) fields.now) rest.now }
-{
-    if !path.starts_with(b"/t/1/reports/") || !is_starter(&session(bytes, fields)) {
-        return false;
-    }
-    match declared_length(bytes, fields) {
-        Ok(Some(_)) => false,
-        Ok(None) => rest.is_empty(),
-        Err(_) => false,
-    }
-}
-
-// A number of a path.
-fn path_number(text: &[u8]) -> Option<u32>
-    ensures { result ≡ path_number_of text.now }
-{
-    match number_of(text) {
-        Some(number) => {
-            if 1 <= number && number <= 4_294_967_295 {
-                Some(number as u32)
-            } else {
-                None
-            }
-        }
-        None => None,
-    }
 }
 
 // The parts of a request: those of its head, whose fields stand in the bytes, and what follows it.
@@ -136,57 +46,182 @@ struct Parts<'a> {
     rest: &'a [u8],
 }
 
-// The command that the parts ask.
-fn read_command(alloc: Global, parts: &Parts) -> Result<Command, BodyNo>
-    requires { All (IsHeaderWithin (length parts.now.bytes.now)) parts.now.fields.now }
-    ensures ok { IfOk result (λ asked. command_of parts.now ≡ Some asked) }
-    ensures other { result ≡ Err BodyNo.Other → command_of parts.now ≡ None }
-{
-    let path = path_of(parts.target);
-    if parts.method == b"POST".as_slice()
-        && is_submission(path, parts.bytes, parts.fields, parts.rest)
+// A path of the table that a request is on.
+#[derive(Drop)]
+struct Place<'a> {
+    number: PathNo,
+    row: &'static Path,
+    path: &'a [u8],
+}
+
+impl<'a> Place<'a> {
+    // The numbers that stand in it.
+    fn numbers(&self) -> Numbers<'a>
+        ensures { at_place result ≡ (place_value self.now).at }
     {
-        return submission(alloc, 1, parts.rest);
+        Numbers {
+            pattern: self.row.pattern.as_bytes(),
+            path: self.path,
+        }
     }
-    if parts.method == b"GET".as_slice() && is_read(path, parts.bytes, parts.fields, parts.rest) {
-        return match path_number(&path[13..]) {
-            Some(n) => Ok(Command::ReadReport { t: 1, n }),
-            None => Err(BodyNo::Other),
-        };
-    }
-    Err(BodyNo::Other)
 }
 
-// What the parts ask.
-fn read_parts(alloc: Global, parts: &Parts) -> Result<Asked, BodyNo>
+// The length that is said, which is that of what follows the head.
+fn sized(parts: &Parts) -> Result<Option<u64>, WireFault>
     requires { All (IsHeaderWithin (length parts.now.bytes.now)) parts.now.fields.now }
-    ensures ok { IfOk result (λ asked. reading_of_parts parts.now ≡ Asks asked) }
-    ensures other { result ≡ Err BodyNo.Other → reading_of_parts parts.now ≡ Refuses WireFault.NotBuilt true }
-    ensures memory { result ≡ Err BodyNo.Memory → plain_test parts.now.minor (fields_in parts.now) ≡ true }
+    ensures { result ≡ sized_of (fields_in parts.now) parts.now.rest.now }
 {
-    if !is_plain(parts.minor, parts.bytes, parts.fields) {
-        return Err(BodyNo::Other);
+    match declared_length(parts.bytes, parts.fields) {
+        Ok(said) => if parts.rest.len() as u64 == said.unwrap_or(0) {
+            Ok(said)
+        } else {
+            Err(WireFault::BadLength)
+        },
+        Err(fault) => Err(fault),
     }
-    let command = read_command(alloc, parts)?;
-    Ok(Asked {
-        command,
-        session: session(parts.bytes, parts.fields),
-        close: false,
-    })
 }
 
-/// What a whole request asks, or why it is not read. The caller answers the fault by its status and body, and closes the
+// The path of the table that a path is, where its numbers are numbers.
+fn find_place<'a>(routes: &Routes, path: &'a [u8]) -> Option<Place<'a>>
+    ensures { option_map place_value result ≡ place_of path.now }
+{
+    let Some(number) = routes.number_of(path) else {
+        return None;
+    };
+    let Some(row) = row(number) else {
+        return None;
+    };
+    if are_numbers(row.pattern.as_bytes(), path) {
+        Some(Place { number, row, path })
+    } else {
+        None
+    }
+}
+
+// The value of a body, which needs a length.
+fn body(alloc: Global, said: Option<u64>, rest: &[u8]) -> Result<Value, WireFault>
+    ensures { GivesBody (body_by rest.now said) result }
+{
+    if said.is_none() {
+        return Err(WireFault::NoLength);
+    }
+    match read_json(alloc, rest) {
+        Ok(value) => Ok(value),
+        Err(BodyNo::Other) => Err(WireFault::BadJson),
+        Err(BodyNo::Memory) => Err(WireFault::Memory),
+    }
+}
+
+// The command of a route with a body.
+fn with_body(
+    alloc: Global,
+    numbers: &Numbers,
+    route: Route,
+    said: Option<u64>,
+    rest: &[u8],
+) -> Result<Command, WireFault>
+    requires { bare_of route (at_place numbers.now) ≡ None }
+    ensures { GivesOrWants (command_of (at_place numbers.now) rest.now said route) result }
+{
+    let value = body(alloc, said, rest)?;
+    match shaped(alloc, route, numbers, &value) {
+        Ok(command) => Ok(command),
+        Err(BodyNo::Other) => Err(WireFault::BadShape),
+        Err(BodyNo::Memory) => Err(WireFault::Memory),
+    }
+}
+
+// Whether the route is built.
+fn is_built(command: &Command) -> bool
+    ensures { result ≡ built_test command.now }
+{
+    match command {
+        Command::Health => true,
+        Command::Submit { .. } => true,
+        Command::ReadReport { .. } => true,
+        _ => false,
+    }
+}
+
+// The command, where its route is built.
+fn built(command: Command) -> Result<Command, WireFault>
+    ensures { result ≡ built_of command }
+{
+    if is_built(&command) {
+        Ok(command)
+    } else {
+        Err(WireFault::NotBuilt)
+    }
+}
+
+// What the parts ask. Only a route with a body wants memory.
+fn read_command(alloc: Global, routes: &Routes, parts: &Parts) -> Result<Command, WireFault>
+    requires { All (IsHeaderWithin (length parts.now.bytes.now)) parts.now.fields.now }
+    ensures asked { GivesOrWants (asks_of parts.now) result }
+    ensures health { result ≡ Err WireFault.Memory → (command : CommandOf) → asks_of parts.now ≡ Ok command → is_health command ≡ false }
+{
+    let said = sized(parts)?;
+    let Some(place) = find_place(routes, path_of(parts.target)) else {
+        return Err(WireFault::NoRoute);
+    };
+    let Some(route) = route(parts.method, place.row.methods) else {
+        return Err(WireFault::NoMethod(place.number));
+    };
+    good_forms_are_those_that_are_read();
+    let numbers = place.numbers();
+    if let Some(command) = bare(route, &numbers) {
+        return built(command);
+    }
+    match with_body(alloc, &numbers, route, said, parts.rest) {
+        Ok(command) => built(command),
+        Err(fault) => Err(fault),
+    }
+}
+
+// Whether the connection closes after a fault whatever the head asks for.
+fn closes_always(fault: &WireFault) -> bool
+    ensures { result ≡ closes_always_of fault.now }
+{
+    match fault {
+        WireFault::BadHead => true,
+        WireFault::BadLength => true,
+        WireFault::NoLength => true,
+        WireFault::TooLarge => true,
+        WireFault::NoRoute => false,
+        WireFault::NoMethod(_) => false,
+        WireFault::BadJson => false,
+        WireFault::BadShape => false,
+        WireFault::NotBuilt => true,
+        WireFault::Memory => false,
+    }
+}
+
+// The refusal for a fault, of a request whose head asks for this closing.
+fn refusal(close: bool, fault: WireFault) -> WireNo
+    ensures fault { result.fault ≡ fault }
+    ensures close { result.close ≡ (close || closes_always_of fault) }
+{
+    WireNo {
+        fault,
+        close: close || closes_always(&fault),
+    }
+}
+
+/// What a whole request asks, or the first fault. The caller answers the fault by its status and body, and closes the
 /// connection where it says so; for want of memory the closing is the one that the head asks for.
-pub fn read_request(alloc: Global, bytes: &[u8]) -> Result<Asked, WireNo>
+pub fn read_request(alloc: Global, routes: &Routes, bytes: &[u8]) -> Result<Asked, WireNo>
     ensures ok { IfOk result (λ asked. Reads bytes.now (Asks asked)) }
     ensures fits { IfOk result (λ asked. fits asked ≡ true) }
     ensures refused { IfErr result (λ no. no.fault ≢ WireFault.Memory → Reads bytes.now (Refuses no.fault no.close)) }
     ensures memory { IfErr result (λ no. no.fault ≡ WireFault.Memory → Closes bytes.now no.close) }
+    // A request for the host's health takes no memory.
+    ensures health { IfErr result (λ no. no.fault ≡ WireFault.Memory → (asked : AskedOf) → Reads bytes.now (Asks asked) → is_health asked.command ≡ false) }
 {
     let bad_head = WireNo {
         fault: WireFault::BadHead,
         close: true,
     };
+    what_is_asked_fits();
     let front = window(bytes);
     let mut spans = [EMPTY_HEADER_SPAN; 64];
     let head = match parse_request(front, &mut spans) {
@@ -200,17 +235,15 @@ pub fn read_request(alloc: Global, bytes: &[u8]) -> Result<Asked, WireNo>
         minor: head.version,
         bytes: front,
         fields: &spans[..head.headers],
-        rest: after(bytes, head.len),
+        rest: rest_after(bytes, head.len),
     };
-    match read_parts(alloc, &parts) {
-        Ok(asked) => Ok(asked),
-        Err(BodyNo::Other) => Err(WireNo {
-            fault: WireFault::NotBuilt,
-            close: true,
+    let close = closes(parts.minor, parts.bytes, parts.fields);
+    match read_command(alloc, routes, &parts) {
+        Ok(command) => Ok(Asked {
+            command,
+            session: session(parts.bytes, parts.fields),
+            close,
         }),
-        Err(BodyNo::Memory) => Err(WireNo {
-            fault: WireFault::Memory,
-            close: false,
-        }),
+        Err(fault) => Err(refusal(close, fault)),
     }
 }
