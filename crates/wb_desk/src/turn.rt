@@ -4,7 +4,7 @@ ghost use Rattle.wb_custody.specs.SealedAnswers.{answers_of};
 ghost use Rattle.wb_model.specs.Host.{reply_by, ruling, tables_after};
 ghost use Rattle.wb_desk.specs.Plans.{at_of};
 ghost use Rattle.wb_model.specs.Requests.{Frame};
-ghost use Rattle.wb_model.specs.Tenants.{hosts_reply, hosts_after, without_tenant as told_without};
+ghost use Rattle.wb_model.specs.Tenants.{healthy as healthy_told, hosts_reply, hosts_after, tenant_of as tenant_of_command, without_tenant as told_without};
 ghost use Rattle.wb_desk.specs.Places.{IsPlace, ArePlaces, is_tenant, IsAt};
 ghost use Rattle.wb_desk.specs.Standing.{place_of, tables_of, tenancy_of, hosts_of, sessions_at};
 ghost use Rattle.wb_desk.specs.Turns.{standing, IsFrameAt};
@@ -18,7 +18,7 @@ use std::alloc::Global;
 use wb_base::Memory;
 use wb_custody::SealedTable;
 use wb_list::Sorted;
-use wb_model::{Asked, Told, Trail};
+use wb_model::{Asked, Body, Told, Trail};
 
 // Makes room for a report: in a new trail, in the table of reports, and among the identity answers.
 fn make_room(
@@ -82,12 +82,23 @@ fn place_at(tenancies: &[Tenancy], t: u32) -> Option<usize>
     None
 }
 
+// The reply that tells that the host serves. It takes no memory.
+fn healthy() -> Told
+    ensures { result ≡ healthy_told }
+{
+    Told {
+        status: 200,
+        body: Body::short(b"{\"status\":\"ok\"}"),
+    }
+}
+
 // The reply where the tenant of a number is not there, 0 standing for none that is named.
 fn without_tenant(alloc: Global, t: u32) -> Result<Told, Memory>
-    ensures { IfOk result (λ told. told ≡ told_without t) }
+    ensures reply { IfOk result (λ told. told ≡ told_without t) }
+    ensures health { t ≡ 0 → result ≡ Ok healthy_told }
 {
     if t == 0 {
-        refuse(alloc, Refusal::NotBuilt)
+        Ok(healthy())
     } else {
         refuse(alloc, Refusal::NotFound)
     }
@@ -108,6 +119,8 @@ pub fn turn(
     ensures sessions { sessions_at (map place_of tenancies.new) ≤ sessions_at (map place_of tenancies.old) + 1 }
     ensures tenants_left { OnErr result (map place_of tenancies.new ≡ map place_of tenancies.old) }
     ensures sealed_left { OnErr result (sealed.new.items ≡ sealed.old.items) }
+    // Where no tenant is named, the host's health is told, which takes no memory.
+    ensures health { tenant_of_command asked.now.command ≡ 0 → result ≡ Ok healthy_told }
 {
     let t = tenant_of(&asked.command);
     match place_at(tenancies, t) {
