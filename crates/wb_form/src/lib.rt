@@ -16,5 +16,5 @@ mod show;
 mod tests;
 
 pub use form_text::FormText;
-pub use look::{flag_at, has_only, size};
 pub use laws::{good_forms_are_those_that_are_read, reading_back};
+pub use look::{flag_at, has_only, size};

@@ -1,6 +1,7 @@
 -- A reply is 503 or 507 exactly where something was lost.
-use Rattle.std.proofs.Common.{◌≡◌, ◌≢◌, inl, inr, ℕ, Bool, true, false, cond, eqb, List, [], ◌∷◌, Option, Some, None, refl, sym, ap, ◌∙◌, subst, arith}
-use Rattle.std.specs.Prelude.{nat_lt}
+use Rattle.std.proofs.Common.{◌≡◌, ◌≢◌, ◌==◌, inl, inr, ℕ, nat_le, length, codes, unwrap_or, Bool, true, false, cond, eqb, List, [], ◌∷◌, Option, Some, None, Result, Ok, Err, refl, sym, ap, ◌∙◌, subst, arith}
+use Rattle.std.specs.Prelude.{nat_lt, ok_or}
+use Rattle.std.specs.Str.Parse.{digits_value}
 use Rattle.wb_base.specs.declared.callers.Presented.{Presented}
 use Rattle.wb_base.specs.declared.callers.Role.{Role}
 use Rattle.wb_model.specs.declared.body.Told.{Told}
@@ -13,17 +14,21 @@ use Rattle.wb_model.specs.Host.{Sealed, said, reply_by}
 use Rattle.wb_model.specs.Past.{Past, Opened, plain, tables, at_frame, target_at, reply_at}
 use Rattle.wb_model.specs.Pasts.{AllOpened, part, has_tenant, reply_in}
 use Rattle.wb_model.specs.declared.wire.ScriptFrame.{ScriptFrame}
-use Rattle.wb_model.specs.Readings.{Reading, Asks, Refuses, Reads, is_plain, command, reading_by}
+use Rattle.wb_model.specs.Readings.{Reading, Asks, Refuses, Reads, and_then, sized_by, sized, place_of, placed, routed, body_by, command_by, command, built, asks, reading_by}
+use Rattle.wb_model.specs.Routes.{route}
+use Rattle.wb_model.specs.Bodies.{json, Numbers, bare, shaped}
+use Rattle.wb_model.specs.Built.{is_built}
+use Rattle.wb_model.specs.declared.route.Route.{Route}
 use Rattle.wb_model.specs.Refusals.{keeper_failed, no_memory, not_found, no_session, wrong_role, wrong_right, numbers_spent, not_built, faulty}
 use Rattle.wb_model.specs.Replies.{fault_told}
 use Rattle.wb_model.specs.Requests.{Frame, Outcome, Unchecked, Checked, Request, outline, plain_part}
 use Rattle.wb_model.specs.Rules.{At, Change, Answer, Says, Shows_own, Shows_identity, judged, unless, if_faulty, is_open, refusal_alone, refusal_on, answer_alone, answer_on, read_by, acted, act_of, dealt, deal_of, verdict_on}
-use Rattle.wb_model.specs.Heads.{Fields, fields_of, path}
+use Rattle.wb_model.specs.Heads.{Fields, fields_of, is_absent, values, is_digits, length_said, declared_length, session as session_said, closes_by, path}
 use Rattle.wb_model.specs.Playing.{IsPlaceOf, ArePlacesOf}
 use Rattle.wb_model.specs.Scripts.{Loss, NotLost, ByKeeper, ByMemory, Unread, Place, IsPossible, ArePossible, frame_of, play_asked, play_by, refusing, play}
 use Rattle.wb_model.specs.Tables.{Registry, Plain, Case, Session, Who, TheUser, TheReporter, user, report, session, context}
 use Rattle.wb_model.specs.Targets.{Need, Anyone, Any_session, Own, Staff, Names, need, Target, Nobody, Alone, On, same_role, has_right, finds, named_case, user_target, own_case, reporter_target, some_user_target, who_target, session_target, needed_target}
-use Rattle.wb_model.specs.Tenants.{tenant_at}
+use Rattle.wb_model.specs.Tenants.{healthy, tenant_at}
 use Rattle.whistle.specs.Runs.{is_loss, AreLossesTold}
 
 -- the reply tells no loss
@@ -51,6 +56,10 @@ served_right = refl
 served_not_built : Served not_built
 unfolding not_built
 served_not_built = refl
+
+served_healthy : Served healthy
+unfolding healthy
+served_healthy = refl
 
 abbrev TargetServed : Target → Type 0
 TargetServed (Nobody refusal) = Served refusal
@@ -171,9 +180,9 @@ reply_served past f =
 turn_served : (past : Past AllOpened) (f : Frame) → Served (reply_in past f)
 turn_served past f = by (has_tenant past (tenant_at f)) (eqb (tenant_at f) 0)
   where
-    by : (b d : Bool) → Served (cond b (reply_at (part (tenant_at f) past) f) (cond d not_built not_found))
+    by : (b d : Bool) → Served (cond b (reply_at (part (tenant_at f) past) f) (cond d healthy not_found))
     by true d = reply_served (part (tenant_at f) past) f
-    by false true = served_not_built
+    by false true = served_healthy
     by false false = served_not_found
 
 -- ---- places
@@ -202,12 +211,49 @@ refused_told past p fault close ByMemory ne may = absurd may
 refused_told past p fault close (Unread asks) ne may = refl
 
 -- bytes are not read as want of memory
-not_read : (fields : Fields) (o : Option Command) (fault : WireFault) (close : Bool) → Refuses fault close ≡ reading_by fields o → fault ≢ faults.Memory
-not_read fields None fault close e = λ is. grind (arith, e, is)
-not_read fields (Some command) fault close e = λ is. grind (arith, e, is)
+-- the fault is not want of memory
+abbrev Wanting : {X : Type 0} → Result X WireFault → Type 0
+Wanting r = (r ≡ Err faults.Memory) → ⊥
+
+then_wants : {X Y : Type 0} (next : X → Result Y WireFault) (r : Result X WireFault) → Wanting r → ((x : X) → Wanting (next x)) → Wanting (and_then next r)
+then_wants next (Ok x) first rest = rest x
+then_wants next (Err fault) first rest = λ e. first (let same : fault ≡ faults.Memory = cc in ap Err same)
+
+given_wants : {X : Type 0} (o : Option X) (fault : WireFault) → fault ≢ faults.Memory → Wanting (ok_or o fault)
+given_wants None fault other = λ e. other cc
+given_wants (Some x) fault other = λ e. cc
+
+test_wants : {X : Type 0} (test : Bool) (r s : Result X WireFault) → Wanting r → Wanting s → Wanting (cond test r s)
+test_wants true r s a b = a
+test_wants false r s a b = b
+
+said_wants : (vs : List (List ℕ)) → Wanting (length_said vs)
+said_wants [] = λ e. cc
+said_wants (text ∷ []) = test_wants (is_digits text) _ _ (test_wants (nat_le (digits_value 10 text) 262_144) _ _ (λ e. cc) (λ e. cc)) (λ e. cc)
+said_wants (text ∷ second ∷ more) = λ e. cc
+
+body_wants : (rest : List ℕ) (said : Option ℕ) → Wanting (body_by rest said)
+body_wants rest None = λ e. cc
+body_wants rest (Some said) = given_wants (json rest) faults.BadJson (λ e. cc)
+
+command_wants : (at : Numbers) (rest : List ℕ) (said : Option ℕ) (r : Route) (o : Option Command) → Wanting (command_by r at rest said o)
+command_wants at rest said r None = then_wants _ (body_by rest said) (body_wants rest said) (λ d. given_wants (shaped r at d) faults.BadShape (λ e. cc))
+command_wants at rest said r (Some c) = λ e. cc
+
+asks_wants : (method text : List ℕ) (fields : Fields) (rest : List ℕ) → Wanting (asks method text fields rest)
+asks_wants method text fields rest =
+    then_wants _ (sized fields rest) (then_wants (sized_by rest) (declared_length fields) (test_wants (is_absent (codes "transfer-encoding") fields) _ _ (said_wants (values (codes "content-length") fields)) (λ e. cc))
+    (λ said. test_wants (length rest == unwrap_or said 0) _ _ (λ e. cc) (λ e. cc)))
+    (λ said. then_wants _ (placed text) (given_wants (place_of text) faults.NoRoute (λ e. cc))
+    (λ place. then_wants built _ (then_wants (command place.at rest said) (routed method place) (given_wants (route method place.methods) (faults.NoMethod place.number) (λ e. cc)) (λ r. command_wants place.at rest said r (bare r place.at)))
+    (λ c. test_wants (is_built c) _ _ (λ e. cc) (λ e. cc))))
+
+refused_by : (presented : Presented) (closing : Bool) (r : Result Command WireFault) (fault : WireFault) (close : Bool) → Refuses fault close ≡ reading_by presented closing r → Wanting r → fault ≢ faults.Memory
+refused_by presented closing (Ok c) fault close is wants = λ e. cc
+refused_by presented closing (Err other) fault close is wants = λ e. wants (let same : fault ≡ other = cc in let memory : other ≡ faults.Memory = sym same ∙ e in ap Err memory)
 
 read_fault : (bytes : List ℕ) (fault : WireFault) (close : Bool) → Reads bytes (Refuses fault close) → fault ≢ faults.Memory
-read_fault bytes fault close (inl h) = not_read (fields_of h.0) (cond (is_plain h.0.minor (fields_of h.0)) (command h.0.method (path h.0) (fields_of h.0) h.1) None) fault close h.3
+read_fault bytes fault close (inl h) = refused_by (session_said (fields_of h.0)) (closes_by h.0.minor (fields_of h.0)) (asks h.0.method (path h.0) (fields_of h.0) h.1) fault close h.3 (asks_wants h.0.method (path h.0) (fields_of h.0) h.1)
 read_fault bytes fault close (inr h) = λ is. grind (arith, h.1, is)
 
 place_told : (past : Past AllOpened) (frame : ScriptFrame) (p : Place) (reading : Reading) → p.reading ≡ reading → IsPlaceOf frame p → IsPossible past p p.reading p.loss → is_loss (play past p).reply.told.status ≡ told_loss p.loss

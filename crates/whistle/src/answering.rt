@@ -16,8 +16,8 @@ use wb_base::{Failed, Keeper, Sink};
 use wb_desk::Desk;
 use wb_model::{Body, Told};
 use wb_wire::{
-    PathNo, ScriptFrame, WireFault, WireNo, fault_body, fault_status, read_request, reply_head,
-    reply_line,
+    PathNo, Routes, ScriptFrame, WireFault, WireNo, fault_body, fault_status, read_request,
+    reply_head, reply_line,
 };
 
 /// A reply: what is told, the path whose methods it lists, and whether the connection closes after it.
@@ -63,6 +63,7 @@ fn refusal(no: &WireNo) -> Answer
 /// Answers one frame, which is a turn of the host where it is read.
 pub fn answer_frame<K: Keeper>(
     alloc: Global,
+    routes: &Routes,
     desk: &mut Desk,
     keeper: &mut K,
     frame: &ScriptFrame,
@@ -72,7 +73,7 @@ pub fn answer_frame<K: Keeper>(
     ensures turns { desk.new.turns ≤ desk.old.turns + 1 }
     ensures keeper { keeper.new ≡ keeper.old }
 {
-    match read_request(alloc, frame.bytes.as_slice()) {
+    match read_request(alloc, routes, frame.bytes.as_slice()) {
         Ok(asked) => Answer {
             told: desk.step(keeper, &asked, frame.moment, &frame.words),
             allow: None,

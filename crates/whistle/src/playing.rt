@@ -1,5 +1,5 @@
 //! The top call.
-ghost use Rattle.std.specs.Prelude.{List, Some, ◌≡◌, ◌≢◌, ◌⊎◌, ◌<◌, ◌^◌, ◌↔◌, ◌∷◌, [], codes, length, IsTrue};
+ghost use Rattle.std.specs.Prelude.{List, Some, ◌≡◌, ◌≢◌, ◌⊎◌, ◌<◌, ◌^◌, ◌↔◌, ◌∷◌, [], codes, length, IsTrue, IfOk};
 ghost use Rattle.std.specs.List.{AllByRecursion};
 ghost use Rattle.wb_base.specs.Outside.{Rose};
 ghost use Rattle.wb_model.specs.declared.wire.ScriptFrame.{ScriptFrame};
@@ -16,7 +16,7 @@ use std::alloc::Global;
 use wb_base::{Keeper, Memory, Sink, Source, Text};
 use wb_desk::Desk;
 use wb_model::alike_scripts_get_the_same_replies;
-use wb_wire::{FrameNo, FrameReader, one_frame, one_reading};
+use wb_wire::{FrameNo, FrameReader, Routes, one_frame, one_reading};
 
 // Whether the word is `play`.
 fn is_play_word(word: &Text) -> bool
@@ -32,9 +32,19 @@ fn is_play(words: &[Text]) -> bool
     words.len() == 1 && is_play_word(&words[0])
 }
 
+// The paths, and the host before its first turn.
+fn open(alloc: Global) -> Result<(Routes, Desk), Memory>
+    ensures { IfOk result (λ opened. StandsFor (hosts_of opened.1) start) }
+{
+    let routes = Routes::new(alloc)?;
+    let desk = Desk::starter(alloc)?;
+    Ok((routes, desk))
+}
+
 // Plays frame after frame.
 fn play<S: Source, W: Sink, K: Keeper>(
     alloc: Global,
+    routes: &Routes,
     desk: &mut Desk,
     source: &mut S,
     sink: &mut W,
@@ -49,7 +59,7 @@ fn play<S: Source, W: Sink, K: Keeper>(
     loop {
         match reader.next(alloc, source) {
             Ok(Some(frame)) => {
-                let answer = answer_frame(alloc, desk, keeper, &frame);
+                let answer = answer_frame(alloc, routes, desk, keeper, &frame);
                 match write_answer(sink, &answer) {
                     Ok(()) => {}
                     Err(_) => return Status::WriteFault,
@@ -88,8 +98,8 @@ pub fn run<S: Source, W: Sink, K: Keeper>(
     if !is_play(words) {
         return Status::Usage;
     }
-    match Desk::starter(alloc) {
-        Ok(mut desk) => play(alloc, &mut desk, source, sink, keeper),
+    match open(alloc) {
+        Ok((routes, mut desk)) => play(alloc, &routes, &mut desk, source, sink, keeper),
         Err(Memory) => Status::NoMemory,
     }
 }
