@@ -21,14 +21,19 @@ struct Ends<'a> {
     writes: &'a [u64],
 }
 
-// One request of a script, and the reply that it gets.
+// A reply: its status and phrase, its body, and the lines that its head has besides.
+type Reply<'a> = (u16, &'a str, &'a str, &'a str);
+
+// One request of a script, and the reply that it gets. Without fields of its own it has a length where it is a `POST`, and
+// else the standing session.
 #[derive(Clone, Copy)]
 struct Row<'a> {
     moment: u64,
     method: &'a str,
     path: &'a str,
+    fields: &'a str,
     body: &'a str,
-    reply: (u16, &'a str, &'a str),
+    reply: Reply<'a>,
 }
 
 fn push(text: &mut Vec<u8>, bytes: &[u8]) -> Result<(), Fail> {
@@ -36,15 +41,19 @@ fn push(text: &mut Vec<u8>, bytes: &[u8]) -> Result<(), Fail> {
     Ok(())
 }
 
-// The request: with the standing session where it has no body.
+const CLOSE: &str = "Connection: close\r\n";
+
+// The bytes of a request.
 fn request(alloc: Global, row: &Row) -> Result<String, Fail> {
     let (method, path, body) = (row.method, row.path, row.body);
-    let fields = if method == "POST" {
-        format!(in alloc; "Content-Length: {}", body.len())?
+    let fields = if row.fields != "" {
+        String::from_str(alloc, row.fields)?
+    } else if method == "POST" {
+        format!(in alloc; "Content-Length: {}\r\n", body.len())?
     } else {
-        format!(in alloc; "X-Session: 0-00000000000000000000000000000000")?
+        format!(in alloc; "X-Session: 0-00000000000000000000000000000000\r\n")?
     };
-    Ok(format!(in alloc; "{method} {path} HTTP/1.1\r\nHost: h\r\n{fields}\r\n\r\n{body}")?)
+    Ok(format!(in alloc; "{method} {path} HTTP/1.1\r\nHost: h\r\n{fields}\r\n{body}")?)
 }
 
 // A frame with the words 0, 42, 0, 0.
@@ -59,16 +68,11 @@ fn push_frame(alloc: Global, script: &mut Vec<u8>, moment: u64, bytes: &[u8]) ->
 }
 
 // What the output has of a reply: the line, the head and the body.
-fn push_reply(alloc: Global, output: &mut Vec<u8>, reply: (u16, &str, &str)) -> Result<(), Fail> {
-    let (status, phrase, body) = reply;
-    let close = if status == 501 || status == 400 {
-        "Connection: close\r\n"
-    } else {
-        ""
-    };
+fn push_reply(alloc: Global, output: &mut Vec<u8>, reply: Reply) -> Result<(), Fail> {
+    let (status, phrase, body, lines) = reply;
     let size = body.len();
     let text = format!(in alloc;
-        "HTTP/1.1 {status} {phrase}\r\nContent-Type: application/json\r\nCache-Control: no-store\r\nContent-Length: {size}\r\n{close}\r\n{body}"
+        "HTTP/1.1 {status} {phrase}\r\nContent-Type: application/json\r\nCache-Control: no-store\r\nContent-Length: {size}\r\n{lines}\r\n{body}"
     )?;
     let line = format!(in alloc; "@{status} {}\n", text.len())?;
     push(output, line.as_bytes())?;
@@ -104,67 +108,61 @@ fn play(alloc: Global, script: &[u8], ends: &Ends) -> Result<(Status, Vec<u8>), 
 const VIEW: &str =
     "{\"ack_due\":\"2025-01-08\",\"acknowledged\":null,\"answers\":{\"what\":\"Bribe\"},\"context\":1,\"dialogue\":[],\"expires\":\"2025-01-31\",\"feedback_due\":\"2025-04-08\",\"feedback_given\":false,\"form\":1,\"identity\":\"sealed\",\"label\":\"\",\"number\":1,\"readers\":[1],\"received\":\"2025-01-01\",\"requests\":[],\"status\":\"new\",\"version\":1}";
 
-fn post<'a>(body: &'a str, reply: (u16, &'a str, &'a str)) -> Row<'a> {
+fn post<'a>(body: &'a str, reply: Reply<'a>) -> Row<'a> {
     Row {
         moment: 1_735_689_600,
         method: "POST",
         path: "/t/1/reports",
+        fields: "",
         body,
         reply,
     }
 }
 
-fn get<'a>(path: &'a str, reply: (u16, &'a str, &'a str)) -> Row<'a> {
+fn get<'a>(path: &'a str, reply: Reply<'a>) -> Row<'a> {
     Row {
         moment: 1_735_689_620,
         method: "GET",
         path,
+        fields: "",
         body: "",
         reply,
     }
 }
 
+const NOT_FOUND: Reply = (404, "Not Found", "{\"code\":\"not_found\"}", "");
+
+fn created(body: &str) -> Reply {
+    (201, "Created", body, "")
+}
+
+fn faulty(body: &str) -> Reply {
+    (422, "Unprocessable Entity", body, "")
+}
+
 // The first requests of a host, the first of them a submission with this body.
 fn rows<'a>(body: &'a str) -> [Row<'a>; 8] {
-    let missing = "Unprocessable Entity";
     [
         post(
             body,
-            (
-                201,
-                "Created",
-                "{\"number\":1,\"receipt\":\"0000000000000042\"}",
-            ),
+            created("{\"number\":1,\"receipt\":\"0000000000000042\"}"),
         ),
-        get("/t/1/reports/1", (200, "OK", VIEW)),
+        get("/t/1/reports/1", (200, "OK", VIEW, "")),
         post(
             "{\"context\":1,\"answers\":{}}",
-            (422, missing, "{\"code\":\"missing\",\"field\":\"what\"}"),
+            faulty("{\"code\":\"missing\",\"field\":\"what\"}"),
         ),
         post(
             "{\"context\":1,\"answers\":{\"what\":\"x\",\"phone\":\"5\"}}",
-            (422, missing, "{\"code\":\"missing\",\"field\":\"name\"}"),
+            faulty("{\"code\":\"missing\",\"field\":\"name\"}"),
         ),
         post(
             "{\"context\":2,\"answers\":{\"what\":\"x\"}}",
-            (
-                201,
-                "Created",
-                "{\"number\":2,\"receipt\":\"0000000000000042\"}",
-            ),
+            created("{\"number\":2,\"receipt\":\"0000000000000042\"}"),
         ),
-        get(
-            "/t/1/reports/2?why",
-            (404, "Not Found", "{\"code\":\"not_found\"}"),
-        ),
-        get(
-            "/t/1/reports/99",
-            (404, "Not Found", "{\"code\":\"not_found\"}"),
-        ),
-        get(
-            "/health",
-            (501, "Not Implemented", "{\"code\":\"not_built\"}"),
-        ),
+        get("/t/1/reports/2?why", NOT_FOUND),
+        get("/t/1/reports/99", NOT_FOUND),
+        get("/health", (200, "OK", "{\"status\":\"ok\"}", "")),
     ]
 }
 
@@ -185,7 +183,7 @@ fn script_of(alloc: Global, rows: &[Row]) -> Result<(Vec<u8>, Vec<u8>), Fail> {
     push_reply(
         alloc,
         &mut output,
-        (400, "Bad Request", "{\"code\":\"bad_head\"}"),
+        (400, "Bad Request", "{\"code\":\"bad_head\"}", CLOSE),
     )?;
     Ok((script, output))
 }
@@ -211,9 +209,137 @@ fn each_request_gets_its_reply_whatever_the_name_and_the_pieces(
     Ok(())
 }
 
+const FILE_FIELDS: &str =
+    "User-Agent: curl/8.5.0\r\nAccept: */*\r\nContent-Type: application/json\r\nContent-Length: 30000\r\nExpect: 100-continue\r\n";
+
+const CHUNKED_FIELDS: &str =
+    "User-Agent: curl/8.5.0\r\nAccept: */*\r\nContent-Type: application/json\r\nTransfer-Encoding: chunked\r\nExpect: 100-continue\r\n";
+
+// The start and the end of a text with so many letters `A` between them.
+fn letters(alloc: Global, start: &str, count: usize, end: &str) -> Result<String, Fail> {
+    let mut text = String::from_str(alloc, start)?;
+    for _ in 0..count {
+        text.push('A')?;
+    }
+    text.push_str(end)?;
+    Ok(text)
+}
+
+// A row with fields of its own.
+fn with_fields<'a>(row: Row<'a>, fields: &'a str) -> Row<'a> {
+    Row { fields, ..row }
+}
+
+const BAD_LENGTH: Reply = (400, "Bad Request", "{\"code\":\"bad_length\"}", CLOSE);
+
+const NOT_BUILT: Reply = (501, "Not Implemented", "{\"code\":\"not_built\"}", CLOSE);
+
+// Requests as they come over the wire: with these texts of 4,096 and 4,097 bytes, with this body of 30,000 bytes, and
+// with it cut short.
+fn wire_rows<'a>(
+    longest: &'a str,
+    too_long: &'a str,
+    file: &'a str,
+    cut: &'a str,
+) -> [Row<'a>; 18] {
+    let first = created("{\"number\":1,\"receipt\":\"0000000000000042\"}");
+    let second = created("{\"number\":2,\"receipt\":\"0000000000000042\"}");
+    let third = created("{\"number\":3,\"receipt\":\"0000000000000042\"}");
+    let other_session = "X-Session: 1-00000000000000000000000000000000\r\n";
+    let no_session: Reply = (401, "Unauthorized", "{\"code\":\"no_session\"}", "");
+    [
+        post(
+            "{\"context\":1,\"answers\":{\"what\":\"x\",\"cat\":\"other\",\"amount\":5}}",
+            faulty("{\"code\":\"hidden\",\"field\":\"amount\"}"),
+        ),
+        post(
+            "{\"context\":1,\"answers\":{\"what\":\"x\",\"cat\":\"fraud\",\"amount\":5}}",
+            first,
+        ),
+        post(longest, second),
+        post(
+            too_long,
+            faulty("{\"code\":\"too_long\",\"field\":\"what\"}"),
+        ),
+        with_fields(
+            post(
+                "",
+                (413, "Payload Too Large", "{\"code\":\"too_large\"}", CLOSE),
+            ),
+            "Content-Length: 262145\r\n",
+        ),
+        post(
+            "{\"context\":1.0}",
+            (400, "Bad Request", "{\"code\":\"bad_json\"}", ""),
+        ),
+        post(
+            "{\"context\":\"1\"}",
+            (400, "Bad Request", "{\"code\":\"bad_shape\"}", ""),
+        ),
+        with_fields(post(file, third), FILE_FIELDS),
+        with_fields(post(cut, BAD_LENGTH), FILE_FIELDS),
+        with_fields(
+            post(
+                file,
+                (411, "Length Required", "{\"code\":\"no_length\"}", CLOSE),
+            ),
+            CHUNKED_FIELDS,
+        ),
+        Row {
+            method: "PUT",
+            ..get(
+                "/health",
+                (
+                    405,
+                    "Method Not Allowed",
+                    "{\"code\":\"no_method\"}",
+                    "Allow: GET\r\n",
+                ),
+            )
+        },
+        get("/t/1/nothing", NOT_FOUND),
+        with_fields(get("/t/1/reports/1", no_session), other_session),
+        with_fields(get("/t/1/reports/1", no_session), "Accept: */*\r\n"),
+        get("/t/2/reports/1", NOT_FOUND),
+        get("/t/1/reports", NOT_BUILT),
+        with_fields(
+            get("/health", (200, "OK", "{\"status\":\"ok\"}", CLOSE)),
+            "Connection: Keep-Alive, Close\r\n",
+        ),
+        Row {
+            method: "POST",
+            ..get("/t/1/reports/1/acknowledgement", NOT_BUILT)
+        },
+    ]
+}
+
+#[test]
+fn each_request_of_the_wire_gets_its_reply(rt: HostRuntime) -> Result<(), Fail> {
+    let alloc = rt.alloc();
+    let start = "{\"context\":1,\"answers\":{\"what\":\"";
+    let longest = letters(alloc, start, 4_096, "\"}}")?;
+    let too_long = letters(alloc, start, 4_097, "\"}}")?;
+    let file_start =
+        "{\"context\":1,\"answers\":{\"what\":\"Scan\",\"doc\":{\"name\":\"a.bin\",\"data\":\"";
+    let file = letters(alloc, file_start, 29_928, "\"}}}")?;
+    let cut = letters(alloc, file_start, 29_928, "\"}}")?;
+    assert!(rt; file.len() == 30_000 && cut.len() == 29_999);
+    let rows = wire_rows(&longest, &too_long, &file, &cut);
+    let (script, output) = script_of(alloc, &rows)?;
+    let ends = Ends {
+        size: 4_096,
+        reads: &[],
+        writes: &[],
+    };
+    let (status, held) = play(alloc, &script, &ends)?;
+    assert!(rt; status == Status::Done);
+    assert!(rt; held == output);
+    Ok(())
+}
+
 // The script of one submission, with so many more or fewer bytes said than there are.
 fn misread(alloc: Global, said: &str) -> Result<Vec<u8>, Fail> {
-    let request = request(alloc, &post(BRIBE, (201, "", "")))?;
+    let request = request(alloc, &post(BRIBE, (201, "", "", "")))?;
     let line = format!(in alloc;
         "@1735689600 0000000000000000 000000000000002a 0000000000000000 0000000000000000 {said}\n"
     )?;
@@ -297,13 +423,13 @@ fn a_body_may_have_262_144_bytes(rt: HostRuntime) -> Result<(), Fail> {
         reads: &[],
         writes: &[],
     };
-    for (size, status) in [(262_144, b"@201 ".as_slice()), (262_145, b"@501 ")] {
+    for (size, status) in [(262_144, b"@201 ".as_slice()), (262_145, b"@413 ")] {
         let mut body = String::from_str(alloc, BRIBE)?;
         for _ in BRIBE.len()..size {
             body.push(' ')?;
         }
         let mut script = Vec::new(alloc);
-        let request = request(alloc, &post(&body, (201, "", "")))?;
+        let request = request(alloc, &post(&body, (201, "", "", "")))?;
         push_frame(alloc, &mut script, 0, request.as_bytes())?;
         assert!(rt; play(alloc, &script, &ends)?.1.starts_with(status));
     }
