@@ -1,7 +1,7 @@
 //! The host.
 ghost use Rattle.std.specs.Prelude.{◌≡◌, [], IfOk, OnOk, OnErr};
 ghost use Rattle.wb_model.specs.Pasts.{reply_in, what_in, with_turn};
-ghost use Rattle.wb_model.specs.Tenants.{without_tenant as told_without};
+ghost use Rattle.wb_model.specs.Tenants.{healthy as healthy_told, without_tenant as told_without};
 ghost use Rattle.wb_plain.specs.Pasts.{past_of, fault_done, AreMade};
 ghost use Rattle.wb_plain.specs.Setups.{IsSetup};
 
@@ -15,7 +15,7 @@ use std::alloc::Global;
 use std::marker::Model;
 use wb_base::{Memory, Moment, Words};
 use wb_list::Items;
-use wb_model::{Asked, Event, Told, What};
+use wb_model::{Asked, Body, Event, Told, What};
 
 /// A host that keeps nothing but its past turns, the oldest first, and computes each reply from them.
 #[derive(Drop)]
@@ -37,12 +37,22 @@ impl Model for PlainHost {
     ghost invariant = { λ host. IsSetup host.setup × AreMade host.events };
 }
 
+// The reply that tells that the host serves.
+fn healthy() -> Told
+    ensures { result ≡ healthy_told }
+{
+    Told {
+        status: 200,
+        body: Body::short(b"{\"status\":\"ok\"}"),
+    }
+}
+
 // The reply where the tenant of a number is not there, 0 standing for none that is named.
 fn without_tenant(alloc: Global, t: u32) -> Result<Told, Memory>
     ensures { IfOk result (λ told. told ≡ told_without t) }
 {
     if t == 0 {
-        refuse(alloc, Refusal::NotBuilt)
+        Ok(healthy())
     } else {
         refuse(alloc, Refusal::NotFound)
     }

@@ -80,6 +80,7 @@ const ROWS: &[(Request, u64, u16, &str)] = &[
         201,
         r#"{"number":1,"receipt":"0000000000000042"}"#,
     ),
+    (Request::Health, 10, 200, r#"{"status":"ok"}"#),
     (
         Request::Read(1),
         20,
@@ -105,7 +106,6 @@ const ROWS: &[(Request, u64, u16, &str)] = &[
         r#"{"number":2,"receipt":"0000000000000042"}"#,
     ),
     (Request::Read(2), 60, 404, r#"{"code":"not_found"}"#),
-    (Request::Health, 70, 501, r#"{"code":"not_built"}"#),
 ];
 
 fn asked(alloc: Global, request: Request) -> Result<Asked, Fail> {
@@ -210,7 +210,7 @@ fn any_answers(alloc: Global, random: &mut Random) -> Result<Answers, Fail> {
     Ok(answers)
 }
 
-// A route that is not built.
+// A route that is not built, or the host's health.
 fn other_route(alloc: Global, random: &mut Random, t: u32) -> Result<Command, Fail> {
     let n = random.below(3);
     Ok(match random.below(12) {
