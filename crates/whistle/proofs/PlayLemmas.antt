@@ -16,9 +16,8 @@ use Rattle.wb_desk.specs.Turns.{StandsFor}
 use Rattle.whistle.specs.declared.answering.Answer.{Answer}
 use Rattle.whistle.specs.Answered.{reply_of, IsAnswer}
 use Rattle.whistle.specs.Submissions.{AreWellAnswered}
-use Rattle.whistle.specs.Runs.{start, output_of, AreLossesTold, Played, Wrote}
+use Rattle.whistle.specs.Runs.{start, output_of, AreLossesTold, Played, Wrote, BrokeOff}
 use Rattle.whistle.proofs.Statuses.{all_told}
-use Rattle.whistle.proofs.SinkLemmas.{front_after}
 use Rattle.whistle.proofs.SubmissionLemmas.{all_well}
 
 -- one more at the end
@@ -134,7 +133,7 @@ module _ (left held : Option (List ℕ)) (keeper : ℕ) where
   pub stuck : (left' held' : Option (List ℕ)) (keeper' : ℕ) (hosts : Hosts) (reader : Progress) (frames : List ScriptFrame) (places : List Place) → Standing left' held' keeper' hosts reader frames places
       → (left'' held'' : Option (List ℕ)) (keeper'' : ℕ) (after : Hosts) (frame : ScriptFrame) (answer : Answer) (place : Place) → IsFrame frame → Consumes left' left'' (frame_text frame)
       → IsAnswer (past_after start places) frame answer after keeper' keeper'' place → AppendsFront held' held'' (written (reply_of answer)) → (source source' sink sink' : ℕ)
-      → Played left left'' held held'' source source' sink sink' keeper keeper'' (more frames frame) (more places place) × AppendsFront held held'' (output_of (more places place))
+      → Played left left'' held held'' source source' sink sink' keeper keeper'' (more frames frame) (more places place) × Consumes left left'' (texts (more frames frame)) × BrokeOff left left'' held held'' source source' sink sink' keeper keeper'' (more places place)
   stuck left' held' keeper' hosts reader frames places so_far left'' held'' keeper'' after frame answer place is_frame taken is told source source' sink sink' =
       let consumed : Consumes left left'' (texts (more frames frame)) = subst (Consumes left left'') (sym (texts_more frames frame)) (Consumes-trans left left' left'' _ _ so_far.taken taken) in (
         record {
@@ -146,7 +145,8 @@ module _ (left held : Option (List ℕ)) (keeper : ℕ) where
           losses = all_told start (more frames frame) (more places place) (placed_more frames places frame place so_far.placed is.of_frame) (possible_more start places place so_far.possible is.possible);
           submissions = all_well start (more places place);
         },
-        subst (AppendsFront held held'') (sym (output_more start places place)) (front_after held held' held'' _ _ so_far.told (subst (λ r. AppendsFront held' held'' (written r)) is.reply told)),
+        consumed,
+        record { before = places; last = place; order = refl; front = told.0; rest = told.1; cut = ap written (sym is.reply) ∙ told.2; told = Appends-trans held held' held'' _ _ so_far.told told.3 },
       )
 
   -- what is so far was played and written

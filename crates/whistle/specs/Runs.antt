@@ -2,13 +2,13 @@
 use Rattle.std.specs.Prelude.{Bool, false, ◌==◌, ◌||◌, ◌↔◌, ℕ, ◌≡◌, ◌+◌, ◌^◌, ◌⊎◌, List, [], ◌∷◌, ◌++◌, length, codes, decimal, Option, IfSome}
 use Rattle.std.specs.List.{AllByRecursion}
 use Rattle.std.specs.Io.KnownBytes.{Appends, Consumes, Keeps}
-use Rattle.wb_base.specs.Outside.{Rose, AppendsFront}
+use Rattle.wb_base.specs.Outside.{Rose}
 use Rattle.wb_model.specs.declared.wire.ScriptFrame.{ScriptFrame}
 use Rattle.wb_model.specs.FrameTexts.{texts, IsFrame, IsBroken, NoFrame}
 use Rattle.wb_model.specs.Past.{Past, Opening}
 use Rattle.wb_model.specs.Pasts.{AllOpened}
-use Rattle.wb_model.specs.Playing.{ArePlacesOf, output, keeper_losses, RoseBy}
-use Rattle.wb_model.specs.Scripts.{Place, NotLost, ArePossible, play, answers}
+use Rattle.wb_model.specs.Playing.{ArePlacesOf, written, output, keeper_losses, RoseBy}
+use Rattle.wb_model.specs.Scripts.{Place, NotLost, ArePossible, play, answers, past_after}
 use Rattle.wb_model.specs.Starter.{starter_opening}
 use Rattle.whistle.specs.Submissions.{AreWellAnswered}
 use Rattle.whistle.specs.declared.status.Status.{Status}
@@ -50,6 +50,16 @@ module _ (left left' held held' : Option (List ℕ)) (source source' sink sink' 
     pub played : Played frames places
     pub written : Appends held held' (output_of places)
 
+  -- and wrote each reply but the last whole, and of the last a part that begins at its front
+  pub record BrokeOff (places : List Place) : Type 0 where
+    pub before : List Place
+    pub last : Place
+    pub order : places ≡ before ++ last ∷ []
+    pub front : List ℕ
+    pub rest : List ℕ
+    pub cut : written (play (past_after start before) last).reply ≡ front ++ rest
+    pub told : Appends held held' (output_of before ++ front)
+
   -- these frames were taken, and then bytes that no whole frame begins
   abbrev pub TookThen : List ScriptFrame → Type 0
   TookThen frames = (part : List ℕ) × Consumes left left' (texts frames ++ part) × NoFrame part
@@ -68,7 +78,7 @@ module _ (left left' held held' : Option (List ℕ)) (source source' sink sink' 
   Ran Done = (frames : List ScriptFrame) × (places : List Place) × Wrote frames places × IfSome left (λ text. text ≡ texts frames)
   Ran Usage = IsUntouched
   Ran ReadFault = (frames : List ScriptFrame) × (places : List Place) × Wrote frames places × Rose source source' × TookThen frames
-  Ran WriteFault = (frames : List ScriptFrame) × (places : List Place) × Played frames places × Rose sink sink' × AppendsFront held held' (output_of places)
+  Ran WriteFault = (frames : List ScriptFrame) × (places : List Place) × Played frames places × Rose sink sink' × Consumes left left' (texts frames) × BrokeOff places
   Ran NoMemory = IsUntouched ⊎ ((frames : List ScriptFrame) × (places : List Place) × Wrote frames places × TookThen frames)
   Ran (BadFrame n) = (frames : List ScriptFrame) × (places : List Place) × Wrote frames places × TookThen frames × (n ≡ length frames + 1)
       × IfSome left (λ text. (rest : List ℕ) × (text ≡ texts frames ++ rest) × IsBroken rest)

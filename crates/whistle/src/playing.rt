@@ -8,7 +8,7 @@ ghost use Rattle.wb_desk.specs.Standing.{hosts_of};
 ghost use Rattle.wb_desk.specs.Turns.{StandsFor};
 ghost use Rattle.wb_model.specs.Scripts.{Place};
 ghost use Rattle.whistle.specs.Headline.{KeepsIdentities};
-ghost use Rattle.whistle.specs.Runs.{Ran, Wrote, start};
+ghost use Rattle.whistle.specs.Runs.{Ran, Played, start};
 
 use crate::answering::{answer_frame, write_answer};
 use crate::status::Status;
@@ -86,9 +86,9 @@ pub fn run<S: Source, W: Sink, K: Keeper>(
     ensures usage { (result ≡ Status.Usage) ↔ (words.now ≢ codes "play" ∷ []) }
     ensures ran { Ran (S.left source.old) (S.left source.new) (W.held sink.old) (W.held sink.new) (S.count source.old) (S.count source.new) (W.count sink.old) (W.count sink.new) (K.count keeper.old) (K.count keeper.new) result }
     ensures keeper { keeper.new ≡ keeper.old }
-    // The replies that were written, of which none is 503 or 507, are byte for byte those of each script that differs in one
-    // report's valid identity answers alone, but at the places where one of that report's readers asks.
-    ensures identities { (frames : List ScriptFrame) (places : List Place) → Wrote (S.left source.old) (S.left source.new) (W.held sink.old) (W.held sink.new) (S.count source.old) (S.count source.new) (W.count sink.old) (W.count sink.new) (K.count keeper.old) (K.count keeper.new) frames places → KeepsIdentities start frames places }
+    // The replies to the frames that were played, of which none is 503 or 507, are byte for byte those of each script that
+    // differs in one report's valid identity answers alone, but at the places where one of that report's readers asks.
+    ensures identities { (frames : List ScriptFrame) (places : List Place) → Played (S.left source.old) (S.left source.new) (W.held sink.old) (W.held sink.new) (S.count source.old) (S.count source.new) (W.count sink.old) (W.count sink.new) (K.count keeper.old) (K.count keeper.new) frames places → KeepsIdentities start frames places }
     // A whole script is played to its end where nothing failed, or there was no memory.
     ensures complete { (frames : List ScriptFrame) → AllByRecursion IsFrame frames → S.left source.old ≡ Some (texts frames) → length (texts frames) < 2 ^ 40 → words.now ≡ codes "play" ∷ [] → (Rose (S.count source.old) (S.count source.new) → ⊥) → (Rose (W.count sink.old) (W.count sink.new) → ⊥) → (result ≡ Status.Done) ⊎ (result ≡ Status.NoMemory) }
 {

@@ -1,7 +1,7 @@
 //! How a run ends.
-ghost use Rattle.std.specs.Prelude.{◌≡◌, ◌++◌, codes, decimal, OnOk};
+ghost use Rattle.std.specs.Prelude.{◌≡◌, ◌++◌, codes, decimal, OnOk, OnErr};
 ghost use Rattle.std.specs.Io.KnownBytes.{Appends};
-ghost use Rattle.wb_base.specs.Outside.{HasCause};
+ghost use Rattle.wb_base.specs.Outside.{AppendsFront, HasCause};
 ghost use Rattle.whistle.specs.Runs.{status_text, status_number};
 
 use itoa::Buffer;
@@ -46,6 +46,7 @@ impl Status {
 // Writes the number of a frame and a line feed.
 fn write_number<W: Sink>(sink: &mut W, n: u64) -> Result<(), Failed>
     ensures ok { OnOk result (Appends (W.held sink.old) (W.held sink.new) (decimal n ++ codes "\n")) }
+    ensures err { OnErr result (AppendsFront (W.held sink.old) (W.held sink.new) (decimal n ++ codes "\n")) }
     ensures cause { HasCause (W.count sink.old) (W.count sink.new) result }
 {
     let mut digits = Buffer::new();
@@ -59,6 +60,7 @@ fn write_number<W: Sink>(sink: &mut W, n: u64) -> Result<(), Failed>
 /// Writes the line of a status, which standard error gets; nothing where all was done. It takes no memory.
 pub fn exit_line<W: Sink>(status: &Status, sink: &mut W) -> Result<(), Failed>
     ensures ok { OnOk result (Appends (W.held sink.old) (W.held sink.new) (status_text status.now)) }
+    ensures err { OnErr result (AppendsFront (W.held sink.old) (W.held sink.new) (status_text status.now)) }
     ensures cause { HasCause (W.count sink.old) (W.count sink.new) result }
 {
     match status {

@@ -55,7 +55,7 @@ returns-in-Err-clause-ran g c =
     let is = c.answer_frame-answer.ensures.answer (past_after start places) so_far.stands in
     let took = rw c.in-Ok-Some.field-0-is at c.in-Ok-Some.ensures.ok in
     let both = stuck _ _ _ _ _ _ _ c.loop-frame.reader frames places so_far _ _ _ (hosts_of c.answer_frame-answer.new.desk) frame c.answer_frame-answer.result is.0 took.0 took.1 is.1 c.in-Err.ensures.err _ _ _ _ in
-    (more frames frame, more places is.0, both.0, omega (arith, c.loop-frame.invariant.written_later, c.in-Err.ensures.cause.failed), both.1)
+    (more frames frame, more places is.0, both.0, omega (arith, c.loop-frame.invariant.written_later, c.in-Err.ensures.cause.failed), both.1, both.2)
 
 pub returns-in-Err-TooLong-clause-ran : goal.returns-in-Err-TooLong-clause-ran
 returns-in-Err-TooLong-clause-ran g c =

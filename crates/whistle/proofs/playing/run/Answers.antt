@@ -11,10 +11,10 @@ returns-in-Ok-clause-complete g c = λ frames all tells short words read wrote.
     (subst (λ (left : Option (List ℕ)). Ran left (g.S.Source.left c.play.new.source) (g.W.Sink.held c.args.sink.now) (g.W.Sink.held c.play.new.sink) (g.S.Source.count c.args.source.now) (g.S.Source.count c.play.new.source) (g.W.Sink.count c.args.sink.now) (g.W.Sink.count c.play.new.sink) (g.K.Keeper.count c.args.keeper.now) (g.K.Keeper.count c.play.new.keeper) c.play.result) tells c.play.ensures.ran)
 
 pub returns-then-not-is_play-clause-identities : goal.returns-then-not-is_play-clause-identities
-returns-then-not-is_play-clause-identities g c = λ frames places wrote. keeps c.one_reading.ensures.reading c.alike_scripts_get_the_same_replies.ensures start frames places wrote.played.placed wrote.played.possible
+returns-then-not-is_play-clause-identities g c = λ frames places played. keeps c.one_reading.ensures.reading c.alike_scripts_get_the_same_replies.ensures start frames places played.placed played.possible
 
 pub returns-in-Ok-clause-identities : goal.returns-in-Ok-clause-identities
-returns-in-Ok-clause-identities g c = λ frames places wrote. keeps c.one_reading.ensures.reading c.alike_scripts_get_the_same_replies.ensures start frames places wrote.played.placed wrote.played.possible
+returns-in-Ok-clause-identities g c = λ frames places played. keeps c.one_reading.ensures.reading c.alike_scripts_get_the_same_replies.ensures start frames places played.placed played.possible
 
 pub returns-in-Err-clause-identities : goal.returns-in-Err-clause-identities
-returns-in-Err-clause-identities g c = λ frames places wrote. keeps c.one_reading.ensures.reading c.alike_scripts_get_the_same_replies.ensures start frames places wrote.played.placed wrote.played.possible
+returns-in-Err-clause-identities g c = λ frames places played. keeps c.one_reading.ensures.reading c.alike_scripts_get_the_same_replies.ensures start frames places played.placed played.possible

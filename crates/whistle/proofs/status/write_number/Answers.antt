@@ -1,0 +1,15 @@
+use Rattle.std.proofs.Common.{[], ◌∷◌, decimal, ◌∙◌, subst}
+use Rattle.std.specs.Io.KnownBytes.{Appends}
+use Rattle.wb_base.specs.Outside.{AppendsFront}
+use Rattle.whistle.proofs.SinkLemmas.{front_more, front_if_err}
+use Rattle.whistle.proofs.status.write_number.Goals as goal
+
+pub returns-in-Err-clause-err : goal.returns-in-Err-clause-err
+returns-in-Err-clause-err g c =
+    front_more (g.W.Sink.held c.args.sink.now) (g.W.Sink.held c.write_all.new.self) (decimal c.args.n) (10 ∷ [])
+    (subst (AppendsFront (g.W.Sink.held c.args.sink.now) (g.W.Sink.held c.write_all.new.self)) (c.as_bytes.ensures.value ∙ c.format.ensures.text) c.in-Err.ensures.err)
+
+pub returns-clause-err : goal.returns-clause-err
+returns-clause-err g c =
+    front_if_err c.write_all-2.result (g.W.Sink.held c.args.sink.now) (g.W.Sink.held c.write_all.new.self) (g.W.Sink.held c.write_all-2.new.self) (decimal c.args.n) (10 ∷ [])
+    (subst (Appends (g.W.Sink.held c.args.sink.now) (g.W.Sink.held c.write_all.new.self)) (c.as_bytes.ensures.value ∙ c.format.ensures.text) c.in-Ok.ensures.ok) c.write_all-2.ensures.err
