@@ -1,5 +1,5 @@
 -- The head at the front of a request's bytes.
-use Rattle.std.proofs.Common.{◌≡◌, ◌<◌, inl, inr, ◌⊎◌, nat_lt, if◌then◌else◌, Bool, append_assoc, refl, ℕ, ◌+◌, ◌-◌, ◌≤◌, true, false, List, [], ◌++◌, length, take, drop, map, sym, ap, subst, ◌∙◌, arith, append-nil, Option, Result, Ok, Err, unwrap_or}
+use Rattle.std.proofs.Common.{◌≡◌, ◌<◌, inl, inr, ◌⊎◌, nat_lt, if◌then◌else◌, Bool, append_assoc, refl, ℕ, ◌+◌, ◌-◌, ◌≤◌, List, [], ◌++◌, length, take, drop, map, sym, ap, subst, ◌∙◌, arith, append-nil, Option, Ok, Err, unwrap_or}
 use Rattle.std.proofs.lemmas.List.{take-append-drop, drop_at, length-take, length-map, take_all}
 use Rattle.std.proofs.lemmas.Bool.{cases_Bool, ltb-true, ltb-false}
 use Rattle.std.proofs.Math.Seq.{take-append-add}
@@ -10,11 +10,10 @@ use Rattle.httparse.specs.Spans.{RequestOverflows, RequestExceeds, IsRequestAt, 
 use Rattle.httparse.proofs.GrammarLemmas.{ReadsRequest-append}
 use Rattle.wb_model.specs.declared.wire.WireFault.{WireFault}
 use Rattle.wb_model.specs.declared.wire.WireFault.TheVariants.{BadHead}
-use Rattle.wb_model.specs.Cuts.{MayHaveHead, NeverHasHead, EndsAt}
-use Rattle.wb_model.specs.Heads.{BeginsWithHead, HasNoHead, Fields, fields_of, declared_length, closes, closes_by, path_of}
+use Rattle.wb_model.specs.Cuts.{EndsAt}
+use Rattle.wb_model.specs.Heads.{BeginsWithHead, HasNoHead, declared_length, closes_by, path_of}
 use Rattle.wb_model.specs.Readings.{Reading, Reads, Closes, reading_by_parts, reading_of}
-use Rattle.wb_wire.specs.declared.heads.HeadRead.{HeadRead}
-use Rattle.wb_wire.specs.declared.heads.HeadRead.TheVariants.{Whole, More, No}
+use Rattle.wb_wire.specs.declared.heads.HeadRead.TheVariants.{More, No}
 use Rattle.wb_wire.specs.HeadReading.{IsWhole, IsHeadRead}
 
 -- a head in the window is a head of the bytes

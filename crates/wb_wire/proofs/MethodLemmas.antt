@@ -1,5 +1,5 @@
 -- The names of a path's methods are short.
-use Rattle.std.proofs.Common.{◌≡◌, ◌≤◌, ◌<◌, ◌+◌, ◌++◌, ◌-◌, get_or, drop, codes, ap, arith, length-append, ℕ, zero, suc, nat_le, Bool, true, List, [], ◌∷◌, length, Option, Some, None, refl}
+use Rattle.std.proofs.Common.{◌≡◌, ◌≤◌, ◌<◌, ◌+◌, ◌++◌, ◌-◌, get_or, drop, codes, ap, arith, length-append, ℕ, zero, suc, nat_le, Bool, true, List, [], ◌∷◌, length, refl}
 use Rattle.std.specs.Prelude.{slice_get}
 use Rattle.std.specs.List.{list_all, flat_map}
 use Rattle.std.proofs.Math.Seq.{drop-cons}
@@ -8,7 +8,7 @@ use Rattle.std.proofs.lemmas.Bool.{and_parts, leb-true}
 use Rattle.wb_model.specs.declared.route.Route.TheVariants as routes
 use Rattle.wb_wire.specs.declared.paths.Method as rust
 use Rattle.wb_wire.specs.Paths.{method_of, methods_of, more_name}
-use Rattle.wb_model.specs.Routes.{Path, paths, row, methods, method_names}
+use Rattle.wb_model.specs.Routes.{Path, paths, methods, method_names}
 
 abbrev is_short : Path → Bool
 is_short p = nat_le (length (method_names p.methods)) 12

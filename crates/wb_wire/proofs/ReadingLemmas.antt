@@ -1,9 +1,8 @@
 -- Bytes have one head, and are read in one way, as something that fits.
-use Rattle.std.proofs.Common.{◌≡◌, ◌≢◌, List, ℕ, ◌||◌, ◌&&◌, ◌==◌, Bool, true, false, [], ◌∷◌, Option, Some, None, Result, Ok, Err, IfSome, take, drop, length, ◌-◌, is_some, unwrap_or, codes, refl, sym, ap, ◌∙◌, inl, inr, cond, option_and_then, subst}
-use Rattle.std.specs.Prelude.{slice_index, ok_or, slice_get}
+use Rattle.std.proofs.Common.{◌≡◌, List, ℕ, ◌&&◌, ◌==◌, Bool, true, false, [], ◌∷◌, Option, Some, None, Result, Ok, Err, IfSome, take, drop, length, ◌-◌, unwrap_or, codes, refl, sym, ap, ◌∙◌, inl, inr, cond, option_and_then, subst}
+use Rattle.std.specs.Prelude.{slice_index, ok_or}
 use Rattle.std.specs.Str.Parse.{digits_value}
 use Rattle.std.proofs.lemmas.Bool.{cases_Bool, and_parts, and_from}
-use Rattle.serde_json.specs.Data.{Data}
 use Rattle.httparse.specs.Grammar.{RequestHead}
 use Rattle.httparse.proofs.GrammarLemmas.{request_unique}
 use Rattle.wb_base.specs.declared.callers.Presented.{Presented}
@@ -19,7 +18,7 @@ use Rattle.wb_model.specs.Built.{is_built}
 use Rattle.wb_model.specs.Bodies.{Numbers, bare, shaped}
 use Rattle.wb_model.specs.Fits.{fits, fits_command, fits_session, is_path_number}
 use Rattle.wb_model.specs.Heads.{Fields, BeginsWithHead, closes, closes_by, path, fields_of, values, is_number, is_token, token, presented_by, session}
-use Rattle.wb_model.specs.Readings.{Reading, Asks, Refuses, Reads, Closes, and_then, sized, Place, place_by, place_of, placed, routed, body_by, command_by, command, built, asks, closes_always, reading_by, reading_by_parts, reading_of}
+use Rattle.wb_model.specs.Readings.{Reading, Asks, Reads, Closes, and_then, sized, Place, place_by, place_of, placed, routed, body_by, command_by, command, built, asks, reading_by, reading_of}
 use Rattle.wb_model.specs.Routes.{Path, number_of_path, row, segments, path_number, are_numbers, number_under, route}
 use Rattle.wb_model.specs.Scripts.{is_health}
 use Rattle.wb_wire.proofs.ShapeLemmas.{GoodForms, AreNumbers, IsOfBody, shaped_of, bare_fits}

@@ -1,5 +1,5 @@
 -- The router's rows, computed, and the number that a path has by them.
-use Rattle.std.proofs.Common.{◌≡◌, ℕ, List, [], Bool, true, false, if◌then◌else◌, drop, codes, Option, Some, None, option_map, IsUtf8, refl, ap, sym, ◌∙◌, inl, inr}
+use Rattle.std.proofs.Common.{◌≡◌, ℕ, List, [], true, false, drop, codes, None, option_map, IsUtf8, refl, inl, inr}
 use Rattle.std.specs.Str.{is_utf8}
 use Rattle.std.proofs.lemmas.Bool.{cases_Bool}
 use Rattle.std.proofs.lemmas.Str.{IsUtf8-from_is_utf8, is_utf8-from_IsUtf8}
@@ -7,7 +7,7 @@ use Rattle.matchit.specs.Router.{RouteOf}
 use Rattle.matchit.specs.Seek.{first}
 use Rattle.matchit.proofs.OnLiterals.{matchit_on_literals}
 use Rattle.wb_base.specs.AnswerList.{is_text}
-use Rattle.wb_model.specs.Routes.{Rows, paths, patterns, router, number_of_path}
+use Rattle.wb_model.specs.Routes.{paths, patterns, router, number_of_path}
 use Rattle.wb_wire.specs.Fitting.{all_fit}
 
 pub patterns_fit : all_fit (drop 1 patterns) 2 [] ≡ true

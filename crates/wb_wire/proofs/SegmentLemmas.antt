@@ -1,5 +1,5 @@
 -- The numbers of a path that ends before its pattern.
-use Rattle.std.proofs.Common.{◌≡◌, ◌||◌, not, is_some, ℕ, List, [], ◌∷◌, Bool, true, false, refl}
+use Rattle.std.proofs.Common.{◌≡◌, ◌||◌, not, is_some, ℕ, List, [], ◌∷◌, true, false, refl}
 use Rattle.wb_base.specs.AnswerList.{is_text}
 use Rattle.wb_model.specs.Routes.{is_name, path_number, are_numbers, number_under}
 

@@ -1,8 +1,8 @@
 -- What the body of a route asks fits, and it never asks for the host's health.
-use Rattle.std.proofs.Common.{◌≡◌, ◌≢◌, ℕ, ◌==◌, ◌&&◌, not, nat_le, Bool, true, false, List, [], ◌∷◌, length, Option, Some, None, IfSome, option_map, option_and_then, Result, Ok, Err, refl, sym, ap, subst, ◌∙◌, arith, codes, if◌then◌else◌, inl, inr}
+use Rattle.std.proofs.Common.{◌≡◌, ℕ, ◌==◌, ◌&&◌, not, nat_le, Bool, true, false, List, [], ◌∷◌, length, Option, Some, None, IfSome, option_map, option_and_then, refl, sym, ap, subst, ◌∙◌, arith, codes, if◌then◌else◌, inl, inr}
 use Rattle.std.proofs.lemmas.Bool.{cases_Bool, and_parts, and_from, ne_eqb}
-use Rattle.serde_json.specs.Data.{Data, null, boolean, number, string, array, object, Items, Members, no_members, member}
-use Rattle.serde_json.specs.Find.{get, as_str, as_bool, as_number, as_u64, as_i64, as_array, as_object}
+use Rattle.serde_json.specs.Data.{Data, null, boolean, number, string, array, object, Members, no_members, member}
+use Rattle.serde_json.specs.Find.{get, as_str, as_bool, as_number, as_u64, as_i64, as_object}
 use Rattle.wb_base.specs.declared.answers.Given.{Given}
 use Rattle.wb_base.specs.declared.answers.Given.TheVariants as given
 use Rattle.wb_base.specs.declared.callers.Role.{Role}
@@ -10,7 +10,7 @@ use Rattle.wb_base.specs.declared.callers.Role.TheVariants as roles
 use Rattle.wb_base.specs.declared.faults.FormFault.{FormFault}
 use Rattle.wb_base.specs.declared.form.Form.{Form}
 use Rattle.wb_base.specs.AnswerList.{Answered, is_text}
-use Rattle.wb_base.specs.FormShape.{size, has_only, keep, optional, list_of, form_of}
+use Rattle.wb_base.specs.FormShape.{size, keep, optional, list_of, form_of}
 use Rattle.wb_base.specs.FormFaults.{fault_of, or_else, first_by, is_double, is_late, is_sealed, lacks_option, is_too_many, is_good}
 use Rattle.wb_base.specs.FormFields.{fields_of}
 use Rattle.wb_model.specs.declared.command.Command.{Command}

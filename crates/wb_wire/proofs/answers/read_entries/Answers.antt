@@ -1,4 +1,4 @@
-use Rattle.std.proofs.Common.{◌≡◌, ◌++◌, [], Some, ◌∙◌, ap, string_bytes}
+use Rattle.std.proofs.Common.{◌≡◌, ◌++◌, [], ◌∙◌, ap, string_bytes}
 use Rattle.wb_model.specs.Bodies.{with_entry}
 use Rattle.wb_wire.proofs.EntryLemmas.{entries_step, below_step, ordered_step}
 use Rattle.wb_wire.proofs.answers.read_entries.Goals as goal

@@ -1,8 +1,7 @@
 -- Each answer of the parser, carried from the window to all bytes.
-use Rattle.std.proofs.Common.{◌≡◌, rules, length, inl, inr, sym, ◌∙◌, ap}
+use Rattle.std.proofs.Common.{◌≡◌, rules, length, inl, inr, sym}
 use Rattle.httparse.specs.Grammar.{HasNoRequest, MayBecomeRequest, NeverHasRequest}
 use Rattle.httparse.specs.Spans.{IsRequestOf, IsRequestWithin, RequestOverflows, RequestExceeds}
-use Rattle.wb_wire.specs.HeadReading.{IsHeadRead}
 use Rattle.wb_wire.proofs.HeadLemmas.{none_yet, none_fits, headless_as, never_as, whole_as, ends_as}
 use Rattle.wb_wire.proofs.heads.read_head.Goals as goal
 

@@ -1,5 +1,5 @@
 -- The table's names are short.
-use Rattle.std.proofs.Common.{◌≤◌, [], length, ap, subst, sym}
+use Rattle.std.proofs.Common.{◌≤◌, [], length, subst, sym}
 use Rattle.std.specs.Option.{option_map_or}
 use Rattle.wb_model.specs.Routes.{Path, method_names}
 use Rattle.wb_wire.proofs.MethodLemmas.{short_methods}

@@ -1,5 +1,5 @@
 -- There is room for what is left.
-use Rattle.std.proofs.Common.{◌≡◌, ◌+◌, ◌≤◌, ◌<◌, [], ◌∷◌, length, arith, ap, length-append, lit<}
+use Rattle.std.proofs.Common.{◌+◌, ◌≤◌, [], ◌∷◌, length, arith, ap, length-append, lit<}
 use Rattle.wb_wire.proofs.MethodLemmas.{one_fits, no_method}
 use Rattle.wb_wire.proofs.replies.put_more.Goals as goal
 

@@ -1,5 +1,5 @@
 -- The parser's answers, carried from the window to all bytes, and what the parts ask.
-use Rattle.std.proofs.Common.{◌≡◌, ◌≢◌, ◌||◌, false, rules, inr, refl, sym, ap, ◌∙◌, Ok, Err, map, take, length}
+use Rattle.std.proofs.Common.{◌≡◌, ◌||◌, rules, inr, refl, sym, ap, ◌∙◌, Err, map, take, length}
 use Rattle.httparse.specs.Grammar.{HasNoRequest}
 use Rattle.httparse.specs.Spans.{IsRequestOf, IsRequestWithin, RequestOverflows, header_bytes}
 use Rattle.std.proofs.Math.Bool.{or-false}

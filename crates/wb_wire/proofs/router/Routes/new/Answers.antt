@@ -1,6 +1,6 @@
 -- All patterns fit, one after another, and the rows are then the definition's.
-use Rattle.std.proofs.Common.{[], ap, ◌∙◌, refl}
-use Rattle.wb_model.specs.Routes.{router as router_of, with_patterns}
+use Rattle.std.proofs.Common.{◌∙◌, refl}
+use Rattle.wb_model.specs.Routes.{router as router_of}
 use Rattle.wb_wire.proofs.RouterRows.{patterns_fit}
 use Rattle.wb_wire.proofs.router.Routes.new.Goals as goal
 

@@ -1,5 +1,5 @@
 -- A text's row is the router's, and what is no text has none.
-use Rattle.std.proofs.Common.{refl, sym, ap, ◌∙◌, ℕ, List, option_map}
+use Rattle.std.proofs.Common.{sym, ap, ◌∙◌, ℕ, List, option_map}
 use Rattle.matchit.specs.Router.{RouteOf}
 use Rattle.matchit.specs.Seek.{first}
 use Rattle.wb_model.specs.Routes.{Rows, router}
