@@ -15,6 +15,8 @@ mod turn;
 
 pub use counts::Counts;
 pub use desk::Desk;
+pub use refused::{Refusal, refuse, refuse_answers};
+pub use routes::{Need, Right, needed, tenant_of};
 
 #[cfg(test)]
 mod tests;

@@ -14,7 +14,7 @@ ghost use Rattle.wb_desk.specs.Plans.{at_of, PlansSubmission, PlansOn, Plans, Is
 ghost use Rattle.wb_desk.specs.Standing.{registry_of, plain_of, case_of, who_of};
 ghost use Rattle.wb_desk.specs.Targeted.{told_of};
 
-use crate::refused::{Refusal, refuse};
+use crate::refused::{Refusal, refuse, refuse_answers};
 use crate::target::{Target, find_target};
 use crate::tenancy::{Case, Tenancy, Who};
 use std::alloc::Global;
@@ -146,7 +146,7 @@ fn faulty(alloc: Global, fault: AnswerFault) -> Result<Plan, Memory>
     if fault.code == AnswerFault::MEMORY {
         Err(Memory)
     } else {
-        refusing(alloc, Refusal::Faulty(fault))
+        Ok(answering(refuse_answers(alloc, fault)?))
     }
 }
 

@@ -1,28 +1,18 @@
--- What the code's words for refusals, targets and verdicts stand for.
+-- What the code's words for targets and verdicts stand for.
 use Rattle.std.specs.Prelude.{◌≡◌, ℕ, [], option_map, None}
 use Rattle.wb_base.specs.AnswerList.{Answered}
 use Rattle.wb_model.specs.declared.body.Told.{Told}
 use Rattle.wb_model.specs.declared.command.Command.TheVariants as commands
-use Rattle.wb_model.specs.Refusals.{not_found, no_session, wrong_role, wrong_right, numbers_spent, not_built}
 use Rattle.wb_model.specs.Tables.{Plain, TheUser, context}
 use Rattle.wb_model.specs.Targets.{Target, Nobody, Alone, On}
 use Rattle.wb_model.specs.Requests.{asking_form, submission_outcome}
 use Rattle.wb_model.specs.Rules.{At, Change, Says, Verdict, Refused, Accepted, judged, refusal_alone, dealt, deal_of, answer_alone}
+use Rattle.wb_desk.specs.Targeted.{told_of}
 use Rattle.wb_plain.specs.Facts.{case_of}
-use Rattle.wb_plain.specs.declared.refused.Refusal.{Refusal}
-use Rattle.wb_plain.specs.declared.refused.Refusal.TheVariants as refusals
 use Rattle.wb_plain.specs.declared.target.Target.{Target as KeptTarget}
 use Rattle.wb_plain.specs.declared.target.Target.TheVariants as targets
 use Rattle.wb_plain.specs.declared.verdict.Verdict.{Verdict as KeptVerdict}
 use Rattle.wb_plain.specs.declared.verdict.Verdict.TheVariants as verdicts
-
-abbrev pub told_of : Refusal → Told
-told_of refusals.NotFound = not_found
-told_of refusals.NoSession = no_session
-told_of refusals.WrongRole = wrong_role
-told_of refusals.WrongRight = wrong_right
-told_of refusals.NumbersSpent = numbers_spent
-told_of refusals.NotBuilt = not_built
 
 abbrev pub target_of : KeptTarget → Target
 target_of (targets.Nobody refusal) = Nobody (told_of refusal)

@@ -6,14 +6,13 @@ ghost use Rattle.wb_plain.specs.Pasts.{past_of, fault_done, AreMade};
 ghost use Rattle.wb_plain.specs.Setups.{IsSetup};
 
 use crate::past::as_of;
-use crate::refused::{Refusal, refuse};
-use crate::routes::tenant_of;
 use crate::setup::{Setup, starter_setup};
 use crate::target::find_target;
 use crate::verdict::{judge, reply, what};
 use std::alloc::Global;
 use std::marker::Model;
 use wb_base::{Memory, Moment, Words};
+use wb_desk::{Refusal, refuse, tenant_of};
 use wb_list::Items;
 use wb_model::{Asked, Body, Event, Told, What};
 

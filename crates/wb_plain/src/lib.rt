@@ -3,7 +3,6 @@
 
 mod host;
 mod past;
-mod refused;
 mod reports;
 mod routes;
 mod setup;

@@ -9,11 +9,12 @@ ghost use Rattle.wb_plain.specs.Facts.{change_of};
 ghost use Rattle.wb_plain.specs.Pasts.{own, own_turn, fault_in, IsMade, AreMade};
 ghost use Rattle.wb_plain.specs.Setups.{registry_of, at_of, IsSetup, IsAsking, IsAsOf};
 
-use crate::routes::{place_of, tenant_of};
+use crate::routes::place_of;
 use crate::setup::Setup;
 use std::alloc::Global;
 use wb_access::{digest, draw};
 use wb_base::{AnswerFault, Answers, Memory, Moment, Words};
+use wb_desk::tenant_of;
 use wb_list::TryClone;
 use wb_model::{
     Actor, Command, ContextItem, Deed, Entry, Event, FormItem, What, the_starter_form_is_good,

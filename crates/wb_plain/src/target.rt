@@ -5,20 +5,19 @@ ghost use Rattle.wb_model.specs.Past.{live_reports};
 ghost use Rattle.wb_model.specs.Tables.{user as user_by, report as report_by, session as session_by};
 ghost use Rattle.wb_model.specs.Targets.{has_right as has_right_by, finds as finds_by, target as target_by, named_case, user_target as user_target_by};
 ghost use Rattle.wb_model.specs.Trails.{reads as reads_by};
+ghost use Rattle.wb_desk.specs.Needs.{need_of, right_of};
 ghost use Rattle.wb_plain.specs.Facts.{case_of};
-ghost use Rattle.wb_plain.specs.Needs.{need_of, right_of};
 ghost use Rattle.wb_plain.specs.Pasts.{own};
 ghost use Rattle.wb_plain.specs.Setups.{session_of, plain_of, IsAsOf};
 ghost use Rattle.wb_plain.specs.Verdicts.{target_of};
 
 use crate::past::AsOf;
-use crate::refused::Refusal;
 use crate::reports::{Case, report};
-use crate::routes::{Need, Right, needed};
 use crate::setup::Setup;
 use std::alloc::Global;
 use wb_access::digest;
 use wb_base::{Memory, Presented, Role, UserId};
+use wb_desk::{Need, Refusal, Right, needed};
 use wb_model::{Command, Deed, Entry, Rights, UserItem};
 
 /// What a request is about.
