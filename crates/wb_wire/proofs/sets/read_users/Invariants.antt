@@ -3,7 +3,7 @@ use Rattle.std.proofs.Common.{◌≡◌, drop}
 use Rattle.serde_json.specs.View.{items_view}
 use Rattle.wb_base.specs.FormShape.{all_of}
 use Rattle.wb_model.specs.Bodies.{whole}
-use Rattle.wb_wire.proofs.Walks.{then_rest}
+use Rattle.wb_form.proofs.Walks.{then_rest}
 use Rattle.wb_wire.proofs.sets.read_users.Given as goal
 
 abbrev pub invariant-loop-value : goal.invariant-loop-value
