@@ -9,7 +9,6 @@ pub mod FieldLemmas
 pub mod RouterRows
 pub mod CutLemmas
 pub mod SegmentLemmas
-pub mod EntryLemmas
 pub mod ShapeLemmas
 pub mod ReadingLemmas
 pub mod HeadLemmas

@@ -1,10 +1,8 @@
 pub mod FrameReading
 pub mod FieldValues
-pub mod Entries
 pub mod Paths
 pub mod Fitting
 pub mod Cuts
-pub mod Gives
 pub mod Places
 pub mod HeadReading
 pub mod RequestParts

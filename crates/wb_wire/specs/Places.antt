@@ -1,4 +1,5 @@
 -- A path of the table that a request is on.
+use Rattle.std.specs.Prelude.{ℕ, List}
 use Rattle.wb_model.specs.Routes.{segments, number_under}
 use Rattle.wb_model.specs.Bodies as bodies
 use Rattle.wb_model.specs.Readings as readings
@@ -7,8 +8,11 @@ use Rattle.wb_wire.specs.declared.requests.Place.{Place}
 use Rattle.wb_wire.specs.Paths.{path_of}
 
 -- the numbers of a path, by the names of its pattern
+abbrev pub numbers_in : List ℕ → List ℕ → bodies.Numbers
+numbers_in pattern path = number_under (segments pattern) (segments path)
+
 abbrev pub at_place : Numbers → bodies.Numbers
-at_place n = number_under (segments n.pattern.now) (segments n.path.now)
+at_place n = numbers_in n.pattern.now n.path.now
 
 abbrev pub place_value : Place → readings.Place
-place_value p = record { number = p.number; methods = (path_of p.row.now).methods; at = number_under (segments p.row.now.pattern.now) (segments p.path.now) }
+place_value p = record { number = p.number; methods = (path_of p.row.now).methods; at = numbers_in p.row.now.pattern.now p.path.now }

@@ -2,18 +2,16 @@
 ghost use Rattle.std.specs.Prelude.{◌≡◌};
 ghost use Rattle.serde_json.specs.View.{view};
 ghost use Rattle.wb_model.specs.Bodies.{bare as bare_of, shaped as shaped_of};
-ghost use Rattle.wb_wire.specs.Gives.{Gives};
+ghost use Rattle.wb_bodies.specs.Gives.{Gives};
 ghost use Rattle.wb_wire.specs.Places.{at_place};
 
-use crate::json_values::BodyNo;
 use crate::segments::number_under;
-use crate::sets::{context_set, new_form, settings_set, user_set};
-use crate::shapes::{
-    ask, comment, decide, feedback, identity, label, login, new_status, own_comment, share,
-    submission, transfer,
-};
 use serde_json::Value;
 use std::alloc::Global;
+use wb_bodies::{
+    BodyNo, ask, comment, context_set, decide, feedback, identity, label, login, new_form,
+    new_status, own_comment, settings_set, share, submission, transfer, user_set,
+};
 use wb_model::{Command, Route};
 
 /// A path and its pattern, by which the numbers in it have names.

@@ -1,7 +1,6 @@
 //! The wire: the frames of a script, requests read from their bytes, and the bytes of replies (RFC 9112).
 #![tactic(auto)]
 
-mod answers;
 mod closing;
 mod commands;
 mod cuts;
@@ -10,17 +9,13 @@ mod fields;
 mod frame_line;
 mod frames;
 mod heads;
-mod json_values;
 mod laws;
-mod members;
 mod numbers;
 mod paths;
 mod replies;
 mod requests;
 mod router;
 mod segments;
-mod sets;
-mod shapes;
 mod taking;
 mod written;
 

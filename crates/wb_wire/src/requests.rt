@@ -16,7 +16,6 @@ use crate::closing::closes;
 use crate::commands::{Numbers, bare, shaped};
 use crate::fields::{declared_length, session};
 use crate::heads::{path_of, rest_after, window};
-use crate::json_values::{BodyNo, read_json};
 use crate::laws::what_is_asked_fits;
 use crate::paths::{Path, route, row};
 use crate::router::Routes;
@@ -25,6 +24,7 @@ use httparse::Status;
 use httparse::spans::{EMPTY_HEADER_SPAN, HeaderSpan, parse_request};
 use serde_json::Value;
 use std::alloc::Global;
+use wb_bodies::{BodyNo, read_json};
 use wb_form::good_forms_are_those_that_are_read;
 use wb_model::{Asked, Command, PathNo, Route};
 
