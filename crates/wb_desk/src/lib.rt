@@ -17,6 +17,7 @@ pub use counts::Counts;
 pub use desk::Desk;
 pub use refused::{Refusal, refuse, refuse_answers};
 pub use routes::{Need, Right, needed, tenant_of};
+pub use turn::without_tenant;
 
 #[cfg(test)]
 mod tests;

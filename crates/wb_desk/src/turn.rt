@@ -92,8 +92,9 @@ fn healthy() -> Told
     }
 }
 
-// The reply where the tenant of a number is not there, 0 standing for none that is named.
-fn without_tenant(alloc: Global, t: u32) -> Result<Told, Memory>
+/// The reply where the tenant of a number is not there, 0 standing for none that is named: the host's health, which takes no
+/// memory, or that nothing is found.
+pub fn without_tenant(alloc: Global, t: u32) -> Result<Told, Memory>
     ensures reply { IfOk result (λ told. told ≡ told_without t) }
     ensures health { t ≡ 0 → result ≡ Ok healthy_told }
 {

@@ -1,7 +1,6 @@
 //! The host.
 ghost use Rattle.std.specs.Prelude.{◌≡◌, [], IfOk, OnOk, OnErr};
 ghost use Rattle.wb_model.specs.Pasts.{reply_in, what_in, with_turn};
-ghost use Rattle.wb_model.specs.Tenants.{healthy as healthy_told, without_tenant as told_without};
 ghost use Rattle.wb_plain.specs.Pasts.{past_of, fault_done, AreMade};
 ghost use Rattle.wb_plain.specs.Setups.{IsSetup};
 
@@ -12,9 +11,9 @@ use crate::verdict::{judge, reply, what};
 use std::alloc::Global;
 use std::marker::Model;
 use wb_base::{Memory, Moment, Words};
-use wb_desk::{Refusal, refuse, tenant_of};
+use wb_desk::{tenant_of, without_tenant};
 use wb_list::Items;
-use wb_model::{Asked, Body, Event, Told, What};
+use wb_model::{Asked, Event, Told, What};
 
 /// A host that keeps nothing but its past turns, the oldest first, and computes each reply from them.
 #[derive(Drop)]
@@ -34,27 +33,6 @@ impl Model for PlainHost {
     ghost view = { λ host. host.events };
 
     ghost invariant = { λ host. IsSetup host.setup × AreMade host.events };
-}
-
-// The reply that tells that the host serves.
-fn healthy() -> Told
-    ensures { result ≡ healthy_told }
-{
-    Told {
-        status: 200,
-        body: Body::short(b"{\"status\":\"ok\"}"),
-    }
-}
-
-// The reply where the tenant of a number is not there, 0 standing for none that is named.
-fn without_tenant(alloc: Global, t: u32) -> Result<Told, Memory>
-    ensures { IfOk result (λ told. told ≡ told_without t) }
-{
-    if t == 0 {
-        Ok(healthy())
-    } else {
-        refuse(alloc, Refusal::NotFound)
-    }
 }
 
 // The reply to a request, and what its turn was.

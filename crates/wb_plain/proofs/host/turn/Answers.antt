@@ -9,7 +9,7 @@ use Rattle.wb_plain.proofs.host.turn.Goals as goal
 pub returns-then-t-ne1-clause-reply : goal.returns-then-t-ne1-clause-reply
 returns-then-t-ne1-clause-reply c =
     let f : Frame = record { moment = c.args.moment; words = c.args.words.now; asked = c.args.asked } in
-    c.in_ok-without_tenant.ensures ∙ reply_elsewhere c.args.events.now f c.tenant_of-t.result c.tenant_of-t.ensures c.if-t-ne1.true
+    c.in_ok-without_tenant.ensures.reply ∙ reply_elsewhere c.args.events.now f c.tenant_of-t.result c.tenant_of-t.ensures c.if-t-ne1.true
 
 pub returns-then-t-ne1-clause-what : goal.returns-then-t-ne1-clause-what
 returns-then-t-ne1-clause-what c =
