@@ -1,0 +1,3 @@
+mod OneOfKey
+mod Ties
+mod Logins

@@ -1,13 +1,13 @@
 //! Digests of secrets under a tenant's salt (FIPS 180-4).
 ghost use Rattle.std.specs.Prelude.{◌≡◌, ◌↔◌, IsOk, IfErr};
-ghost use Rattle.wb_model.specs.Secrets.{digest as digest_of};
+ghost use Rattle.wb_base.specs.Secrets.{digest as digest_of};
 
 use crate::AccessFault;
 use sha2::{Digest as _, Sha256};
 use wb_base::{Digest, Salt};
 
 /// The SHA-256 digest of a tenant's salt followed by a text.
-#[tactic(auto, unfolding(wb_model::specs::Secrets::digest))]
+#[tactic(auto, unfolding(wb_base::specs::Secrets::digest))]
 pub fn digest(salt: &Salt, text: &[u8]) -> Digest
     ensures { result ≡ digest_of salt.now text.now }
 {

@@ -1,4 +1,8 @@
 //! Why access was refused.
+ghost use Rattle.std.specs.Prelude.{◌≡◌};
+ghost use Rattle.wb_access.specs.declared.faults.AccessFault.TheVariants.{Memory as NoMemory};
+
+use wb_list::Memory;
 
 /// Why access was refused.
 #[derive(Clone, Copy, Debug, PartialEq, Eq)]
@@ -11,4 +15,12 @@ pub enum AccessFault {
     ReceiptTaken,
     /// There was no memory.
     Memory,
+}
+
+impl From<Memory> for AccessFault {
+    ghost from_gives = { λ _ fault. fault ≡ NoMemory };
+
+    fn from(_: Memory) -> AccessFault {
+        AccessFault::Memory
+    }
 }

@@ -1,13 +1,17 @@
-//! Receipts, session secrets and digests.
+//! Receipts, session secrets and digests, and the tables of receipts and sessions.
 #![tactic(auto)]
 
 mod digests;
 mod faults;
+mod receipts;
 mod secrets;
+mod sessions;
 
 pub use digests::{check_secret, digest};
 pub use faults::AccessFault;
+pub use receipts::{Receipt, ReceiptBox};
 pub use secrets::{draw, secret};
+pub use sessions::{Session, SessionTable};
 
 #[cfg(test)]
 mod tests;

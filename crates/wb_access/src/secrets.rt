@@ -1,7 +1,7 @@
 //! Receipts and session secrets, from the random words of a turn.
 ghost use Rattle.std.specs.Prelude.{◌≡◌, ◌<◌, ◌^◌, ◌+◌, ◌*◌, ◌%◌};
 ghost use Rattle.hex.specs.Hex.{encode_lower};
-ghost use Rattle.wb_model.specs.Secrets.{receipt_text, secret_text, last_digits, both as both_of};
+ghost use Rattle.wb_base.specs.Secrets.{receipt_text, secret_text, last_digits, both as both_of};
 
 use wb_base::Words;
 
@@ -31,7 +31,7 @@ fn digits(number: u64) -> [u8; 16]
 }
 
 /// A receipt: 16 decimal digits, of the first two words.
-#[tactic(auto, unfolding(wb_model::specs::Secrets::receipt_text))]
+#[tactic(auto, unfolding(wb_base::specs::Secrets::receipt_text))]
 pub fn draw(words: &Words) -> [u8; 16]
     ensures { result ≡ receipt_text words.now }
 {

@@ -1,5 +1,13 @@
+ghost use Rattle.std.specs.Prelude.{◌≡◌};
+
 use super::*;
-use wb_base::{Digest, Salt, Words};
+use std::process::Abort;
+use std::test::Fail;
+use wb_base::{Digest, Moment, Number, Presented, Principal, Role, Salt, Tenant, UserId, Words};
+
+const SALT: Salt = Salt([7; 16]);
+
+const SECRET: [u8; 32] = [b'5'; 32];
 
 #[test]
 fn receipts_and_secrets_are_drawn_from_the_words(rt: HostRuntime) {
@@ -43,4 +51,137 @@ fn a_secret_is_checked_by_its_digest(rt: HostRuntime) {
         check_secret(&kept, &Salt([0; 16]), b"ada-pass"),
         Err(AccessFault::BadLogin)
     );
+}
+
+// A login of the user with an id, or of the reporter of the report with a number.
+fn login(rt: &impl Abort, turn: u64, tenant: u32, user: u16, number: u32, at: u64) -> Session
+    ensures { result.turn ≡ turn }
+{
+    let tenant = Tenant::try_new(tenant).expect(rt, "a tenant");
+    let principal = if user > 0 {
+        Principal::User(tenant, UserId::try_new(user).expect(rt, "a user"))
+    } else {
+        Principal::Report(tenant, Number::try_new(number).expect(rt, "a number"))
+    };
+    Session {
+        turn,
+        tenant,
+        principal,
+        role: Role::Recipient,
+        digest: digest(&SALT, &SECRET),
+        at: Moment::try_new(at).expect(rt, "a moment"),
+    }
+}
+
+// Adds a login where its turn is above all.
+fn open(rt: &impl Abort, table: &mut SessionTable, session: Session) {
+    for other in table.as_slice() {
+        assert!(rt; other.turn < session.turn);
+    }
+    table.reserve().expect(rt, "memory");
+    table.open(session);
+}
+
+// Whether a session of the tenant is found by its turn and secret.
+fn finds(
+    rt: &impl Abort,
+    table: &SessionTable,
+    tenant: u32,
+    turn: u64,
+    secret: [u8; 32],
+    now: u64,
+) -> bool {
+    let tenant = Tenant::try_new(tenant).expect(rt, "a tenant");
+    let now = Moment::try_new(now).expect(rt, "a moment");
+    table
+        .find(tenant, &SALT, &Presented::Token { turn, secret }, now)
+        .is_ok()
+}
+
+#[test]
+fn of_nine_sessions_of_a_principal_the_oldest_goes(rt: HostRuntime) -> Result<(), Fail> {
+    let mut table = SessionTable::new(rt.alloc());
+    open(&rt, &mut table, login(&rt, 1, 1, 4, 0, 0));
+    open(&rt, &mut table, login(&rt, 2, 1, 0, 4, 0));
+    open(&rt, &mut table, login(&rt, 3, 2, 4, 0, 0));
+    for turn in 4..11 {
+        open(&rt, &mut table, login(&rt, turn, 1, 4, 0, 0));
+    }
+    assert!(rt; finds(&rt, &table, 1, 1, SECRET, 0));
+    open(&rt, &mut table, login(&rt, 11, 1, 4, 0, 0));
+    let rows = [
+        (1, 1, false),
+        (1, 2, true),
+        (2, 3, true),
+        (1, 4, true),
+        (1, 11, true),
+    ];
+    for (tenant, turn, stands) in rows {
+        assert_eq!(rt;
+            finds(&rt, &table, tenant, turn, SECRET, 0),
+            stands,
+            "turn {turn}"
+        );
+    }
+    assert_eq!(rt; table.as_slice().len(), 10);
+    table.drop_of(login(&rt, 0, 1, 4, 0, 0).principal);
+    assert_eq!(rt; table.as_slice().len(), 2);
+    Ok(())
+}
+
+#[test]
+fn a_session_is_shown_by_turn_and_secret_until_it_ends(rt: HostRuntime) -> Result<(), Fail> {
+    let mut table = SessionTable::new(rt.alloc());
+    open(&rt, &mut table, login(&rt, 5, 1, 4, 0, 100));
+    open(&rt, &mut table, login(&rt, 6, 1, 0, 3, 101));
+    let other = [b'6'; 32];
+    let rows = [
+        (1, 5, SECRET, 0, true),
+        (1, 5, SECRET, 14_499, true),
+        (1, 5, SECRET, 14_500, false),
+        (1, 6, SECRET, 14_500, true),
+        (2, 5, SECRET, 0, false),
+        (1, 4, SECRET, 0, false),
+        (1, 5, other, 0, false),
+    ];
+    for (tenant, turn, secret, now, stands) in rows {
+        assert_eq!(rt;
+            finds(&rt, &table, tenant, turn, secret, now),
+            stands,
+            "turn {turn} at {now}"
+        );
+    }
+    table.drop_ended(Moment::try_new(14_500).ok_or("a moment")?);
+    assert_eq!(rt; table.as_slice().len(), 1);
+    table.close(6);
+    assert_eq!(rt; table.as_slice().len(), 0);
+    Ok(())
+}
+
+#[test]
+fn tenants_have_their_own_receipts(rt: HostRuntime) -> Result<(), Fail> {
+    let mut receipts = ReceiptBox::new(rt.alloc());
+    let code = digest(&SALT, b"0000000000000042");
+    let other = digest(&SALT, b"0000000000000043");
+    for (tenant, code, number) in [(2, code, 1), (1, code, 3), (1, other, 1)] {
+        let tenant = Tenant::try_new(tenant).ok_or("a tenant")?;
+        let number = Number::try_new(number).ok_or("a number")?;
+        receipts.reserve().expect(&rt, "memory");
+        assert_eq!(rt; receipts.free(tenant, &code), Ok(()));
+        receipts.add(tenant, code, number);
+        assert_eq!(rt;
+            receipts.free(tenant, &code),
+            Err(AccessFault::ReceiptTaken)
+        );
+    }
+    let one = Tenant::try_new(1).ok_or("a tenant")?;
+    let two = Tenant::try_new(2).ok_or("a tenant")?;
+    let first = Number::try_new(1).ok_or("a number")?;
+    assert_eq!(rt; receipts.find(one, &other), Some(first));
+    receipts.remove(one, first);
+    assert_eq!(rt; receipts.find(one, &other), None);
+    assert_eq!(rt; receipts.find(one, &code), Number::try_new(3));
+    assert_eq!(rt; receipts.find(two, &code), Some(first));
+    assert_eq!(rt; receipts.find(two, &other), None);
+    Ok(())
 }

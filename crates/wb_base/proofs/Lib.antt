@@ -1,3 +1,4 @@
 pub mod AnswerLemmas
 pub mod GoodForms
 pub mod Sealing
+pub mod StdEnds

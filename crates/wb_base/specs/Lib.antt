@@ -2,6 +2,7 @@ pub mod AnswerList
 pub mod Days
 pub mod DateTexts
 pub mod Terms
+pub mod Secrets
 pub mod FormFields
 pub mod FormRanges
 pub mod FormShape
@@ -13,3 +14,4 @@ pub mod Sealing
 pub mod Outside
 pub mod KeptRows
 pub mod MemoryEnds
+pub mod StdEnds

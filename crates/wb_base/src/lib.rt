@@ -7,6 +7,7 @@ mod callers;
 mod calls;
 mod faults;
 mod form;
+mod kind;
 mod laws;
 mod memory_keeper;
 mod memory_sink;
@@ -22,6 +23,7 @@ pub use answers::{Answers, Given};
 pub use callers::{Presented, Principal, Role};
 pub use faults::{AnswerFault, Failed, FormFault, KeepErr, TextFault};
 pub use form::{Choice, Cond, Field, FieldKind, Form, Step, Trigger};
+pub use kind::Kind;
 pub use laws::good_forms;
 pub use memory_keeper::MemKeeper;
 pub use memory_sink::MemSink;
@@ -33,6 +35,3 @@ pub use std_ends::{StdSink, StdSource};
 pub use text::Text;
 pub use wb_list::Memory;
 pub use words::{Digest, Salt, Words};
-
-#[cfg(test)]
-mod tests;

@@ -1,8 +1,9 @@
-//! A source over a reader of std and a sink over a writer of std, which tell no bytes. They are trusted to be what
-//! std's contracts say of them.
-ghost use Rattle.std.specs.Prelude.{◌≡◌, ◌<◌, length, None, is_err, if◌then◌else◌, OnOk, OnErr};
+//! A source over a reader of std and a sink over a writer of std. They tell what the reader or the writer tells: nothing of
+//! a real end, and all of an end in memory.
+ghost use Rattle.std.specs.Prelude.{◌≡◌, ◌<◌, length, is_err, if◌then◌else◌, OnOk, OnErr};
 ghost use Rattle.std.specs.Io.{ReadsAtMost};
-ghost use Rattle.wb_base.specs.Outside.{HasCause, one_more};
+ghost use Rattle.std.specs.Io.KnownBytes.{Appends, ReadConsumes};
+ghost use Rattle.wb_base.specs.Outside.{AppendsFront, HasCause, one_more};
 
 use crate::{Failed, Sink, Source};
 use std::io::{Read, Write};
@@ -10,32 +11,32 @@ use std::marker::Model;
 
 /// A source over a reader, as over standard input, seen as the count of its faults.
 #[derive(Drop)]
-pub struct StdSource<R> {
+pub struct StdSource<R: Read> {
     inner: R,
     faults: u64,
 }
 
-impl<R> Model for StdSource<R> {
-    ghost use Rattle.std.specs.Prelude.{ℕ};
+impl<R: Read> Model for StdSource<R> {
+    ghost use Rattle.wb_base.specs.StdEnds.{StdEnd};
 
-    ghost Value = { ℕ };
+    ghost Value = { StdEnd };
 
-    ghost view = { λ s. s.faults };
+    ghost view = { λ s. record { told = R.remaining s.inner; faults = s.faults } };
 }
 
-impl<R> StdSource<R> {
+impl<R: Read> StdSource<R> {
     /// A source over a reader, with no fault so far.
     pub fn new(inner: R) -> StdSource<R>
-        ensures { result ≡ 0 }
+        ensures { result ≡ record { told = R.remaining inner; faults = 0 } }
     {
         StdSource { inner, faults: 0 }
     }
 }
 
 impl<R: Read> Source for StdSource<R> {
-    ghost left = { λ _. None };
+    ghost left = { λ s. s.told };
 
-    ghost count = { λ faults. faults };
+    ghost count = { λ s. s.faults };
 
     fn faults(&self) -> u64 {
         self.faults
@@ -44,8 +45,9 @@ impl<R: Read> Source for StdSource<R> {
     fn read(&mut self, into: &mut [u8]) -> Result<usize, Failed>
         requires { 0 < length into.old }
         ensures bound { ReadsAtMost result into.new }
-        ensures cause { HasCause self.old self.new result }
-        ensures count { self.new ≡ (if is_err result then one_more self.old else self.old) }
+        ensures bytes { ReadConsumes self.old.told self.new.told result into.new }
+        ensures cause { HasCause self.old.faults self.new.faults result }
+        ensures count { self.new.faults ≡ (if is_err result then one_more self.old.faults else self.old.faults) }
     {
         match self.inner.read(into) {
             Ok(count) => Ok(count),
@@ -59,32 +61,32 @@ impl<R: Read> Source for StdSource<R> {
 
 /// A sink over a writer, as over standard output, seen as the count of its faults.
 #[derive(Drop)]
-pub struct StdSink<W> {
+pub struct StdSink<W: Write> {
     inner: W,
     faults: u64,
 }
 
-impl<W> Model for StdSink<W> {
-    ghost use Rattle.std.specs.Prelude.{ℕ};
+impl<W: Write> Model for StdSink<W> {
+    ghost use Rattle.wb_base.specs.StdEnds.{StdEnd};
 
-    ghost Value = { ℕ };
+    ghost Value = { StdEnd };
 
-    ghost view = { λ s. s.faults };
+    ghost view = { λ s. record { told = W.contents s.inner; faults = s.faults } };
 }
 
-impl<W> StdSink<W> {
+impl<W: Write> StdSink<W> {
     /// A sink over a writer, with no fault so far.
     pub fn new(inner: W) -> StdSink<W>
-        ensures { result ≡ 0 }
+        ensures { result ≡ record { told = W.contents inner; faults = 0 } }
     {
         StdSink { inner, faults: 0 }
     }
 }
 
 impl<W: Write> Sink for StdSink<W> {
-    ghost held = { λ _. None };
+    ghost held = { λ s. s.told };
 
-    ghost count = { λ faults. faults };
+    ghost count = { λ s. s.faults };
 
     fn faults(&self) -> u64 {
         self.faults
@@ -92,8 +94,10 @@ impl<W: Write> Sink for StdSink<W> {
 
     /// A write that takes nothing of some bytes is a fault.
     fn write_all(&mut self, bytes: &[u8]) -> Result<(), Failed>
-        ensures cause { HasCause self.old self.new result }
-        ensures count { self.new ≡ (if is_err result then one_more self.old else self.old) }
+        ensures ok { OnOk result (Appends self.old.told self.new.told bytes.now) }
+        ensures err { OnErr result (AppendsFront self.old.told self.new.told bytes.now) }
+        ensures cause { HasCause self.old.faults self.new.faults result }
+        ensures count { self.new.faults ≡ (if is_err result then one_more self.old.faults else self.old.faults) }
     {
         let mut rest = bytes;
         while !rest.is_empty() {

@@ -1,6 +1,4 @@
-pub mod Needs
-pub mod Places
-pub mod Plans
-pub mod Standing
-pub mod Targeted
+pub mod Kept
+pub mod Puts
+pub mod Ready
 pub mod Turns

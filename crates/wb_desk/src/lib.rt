@@ -1,23 +1,11 @@
-//! The host: one turn after another over its tables.
+//! The host: one turn after another over its tables, each kept before it is made.
 #![tactic(auto)]
 
-mod counts;
+mod batch;
 mod desk;
-mod plan;
-mod readers;
-mod refused;
-mod routes;
+mod ready;
 mod starter;
 mod take;
-mod target;
-mod tenancy;
 mod turn;
 
-pub use counts::Counts;
 pub use desk::Desk;
-pub use refused::{Refusal, refuse, refuse_answers};
-pub use routes::{Need, Right, needed, tenant_of};
-pub use turn::without_tenant;
-
-#[cfg(test)]
-mod tests;

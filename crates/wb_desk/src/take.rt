@@ -2,21 +2,22 @@
 ghost use Rattle.std.specs.Prelude.{◌≡◌, ◌≢◌, ◌<◌, ◌≤◌, ◌+◌, ◌++◌, ◌∷◌, [], ℕ, map};
 ghost use Rattle.wb_base.specs.Days.{IsOffset};
 ghost use Rattle.wb_custody.specs.SealedAnswers.{answers_of};
+ghost use Rattle.wb_model.specs.Changes.{Begins};
 ghost use Rattle.wb_model.specs.Host.{plain_after, drawn, sealed_under};
-ghost use Rattle.wb_model.specs.Rules.{Opens};
-ghost use Rattle.wb_desk.specs.Standing.{case_of, plain_of, place_of, sealed_of};
-ghost use Rattle.wb_desk.specs.Places.{AreCases, IsPlace};
+ghost use Rattle.wb_model.specs.Opened.{AtMost};
+ghost use Rattle.wb_tables.specs.Kept.{case_of, plain_of, place_of, sealed_of};
+ghost use Rattle.wb_tables.specs.Places.{IsPlace};
 
-use crate::plan::Opening;
-use crate::tenancy::{Case, Tenancy};
 use wb_base::{Answers, Moment, Number, Tenant};
 use wb_custody::SealedTable;
 use wb_list::Sorted;
 use wb_model::{Numbering, TenantItem, Trail};
+use wb_plan::Opening;
+use wb_tables::{Case, Tenancy};
 use wb_terms::day_of;
 
-// The numbering after a draw.
-fn draw_number(settings: &TenantItem, numbering: Numbering, time: Moment) -> Numbering
+/// The numbering after a draw.
+pub fn draw_number(settings: &TenantItem, numbering: Numbering, time: Moment) -> Numbering
     requires offset { IsOffset settings.now.offset }
     requires last { numbering.last < 4_294_967_295 }
     requires drawn { numbering.drawn ≤ numbering.last }
@@ -37,7 +38,7 @@ fn draw_number(settings: &TenantItem, numbering: Numbering, time: Moment) -> Num
 // Puts a report with the greatest number into the table, into room that was made.
 fn add_case(cases: &mut Sorted<Case>, number: Number, trail: Trail)
     requires room { 0 < cases.old.spare }
-    requires above { (last : ℕ) × (AreCases last (map case_of cases.old.items) × (last < number)) }
+    requires above { (last : ℕ) × (AtMost last (map case_of cases.old.items) × (last < number)) }
     ensures { cases.new.items ≡ cases.old.items ++ record { number = number; trail = trail } ∷ [] }
 {
     cases.add(Case { number, trail });
@@ -54,7 +55,7 @@ fn put_secret(sealed: &mut SealedTable, tenant: Tenant, number: Number, secret: 
     }
 }
 
-/// Opens a report: its number is drawn, and its trail and its identity answers are put into room that was made.
+/// A report begins: its number is drawn, and its trail and its identity answers are put into room that was made.
 pub fn open_case(
     tenancy: &mut Tenancy,
     sealed: &mut SealedTable,
@@ -62,14 +63,14 @@ pub fn open_case(
     time: Moment,
     opening: Opening,
 )
-    requires place { IsPlace sealed.old.items (place_of tenancy.old) }
+    requires place { (turns : ℕ) × IsPlace turns sealed.old.items (place_of tenancy.old) }
     requires number { tenancy.old.numbering.last < 4_294_967_295 }
     requires room { 0 < tenancy.old.cases.spare }
     requires sealed_room { 0 < sealed.old.spare }
     requires trail_room { 0 < trail.spare }
     requires empty { trail.items ≡ [] }
     ensures id { (place_of tenancy.new).id ≡ (place_of tenancy.old).id }
-    ensures plain { plain_of tenancy.new ≡ plain_after time (Opens opening.entry) (plain_of tenancy.old) }
+    ensures plain { plain_of tenancy.new ≡ plain_after time (Begins opening.entry) (plain_of tenancy.old) }
     ensures here { (n : ℕ) → answers_of sealed.new.items (place_of tenancy.old).id n ≡ sealed_under (tenancy.old.numbering.last + 1) opening.secret (sealed_of sealed.old.items (place_of tenancy.old).id) n }
     ensures others { (t n : ℕ) → t ≢ (place_of tenancy.old).id → answers_of sealed.new.items t n ≡ answers_of sealed.old.items t n }
 {

@@ -1,134 +1,151 @@
-//! One turn over the tables of all tenants.
-ghost use Rattle.std.specs.Prelude.{◌≡◌, ◌≢◌, ◌<◌, ◌≤◌, ◌+◌, ℕ, [], None, find, map, length, MatchOption, IfOk, OnOk, OnErr};
+//! One turn over the tables of all tenants: what it has to keep is kept in one call, and then it purges and changes.
+ghost use Rattle.std.specs.Prelude.{◌≡◌, ◌≢◌, ◌<◌, ◌≤◌, ◌+◌, ℕ, None, Err, true, find, map, length, slice_index_or, IfSome};
+ghost use Rattle.wb_base.specs.Outside.{Rose};
 ghost use Rattle.wb_custody.specs.SealedAnswers.{answers_of};
-ghost use Rattle.wb_model.specs.Host.{reply_by, ruling, tables_after};
-ghost use Rattle.wb_desk.specs.Plans.{at_of};
-ghost use Rattle.wb_model.specs.Requests.{Frame};
-ghost use Rattle.wb_model.specs.Tenants.{healthy as healthy_told, hosts_reply, hosts_after, tenant_of as tenant_of_command, without_tenant as told_without};
-ghost use Rattle.wb_desk.specs.Places.{IsPlace, ArePlaces, is_tenant, IsAt};
-ghost use Rattle.wb_desk.specs.Standing.{place_of, tables_of, tenancy_of, hosts_of, sessions_at};
-ghost use Rattle.wb_desk.specs.Turns.{standing, IsFrameAt};
+ghost use Rattle.wb_model.specs.Built.{is_built};
+ghost use Rattle.wb_model.specs.Commands.{tenant_of as tenant_of_command};
+ghost use Rattle.wb_model.specs.Fits.{fits};
+ghost use Rattle.wb_model.specs.Host.{changed};
+ghost use Rattle.wb_model.specs.Rows.{rows_of};
+ghost use Rattle.wb_plan.specs.Plans.{change_of, given_of};
+ghost use Rattle.wb_tables.specs.Kept.{place_of, plain_of, tables_of, tenancy_of, sessions_at};
+ghost use Rattle.wb_tables.specs.Places.{IsPlace, ArePlaces, is_tenant, IsAt};
+ghost use Rattle.wb_tables.specs.declared.tenancy.Tenancy.{Tenancy as KeptTenancy};
+ghost use Rattle.wb_desk.specs.Ready.{planned_of, IsRoom, IsOwn, IsMadeAt};
+ghost use Rattle.wb_desk.specs.Turns.{IsTurnAt};
 
-use crate::plan::{At, Plan, plan_turn};
-use crate::refused::{Refusal, refuse};
-use crate::routes::tenant_of;
+use crate::batch::{Lost, keep};
+use crate::ready::{Opened, prepare_at, prepare_without};
 use crate::take::open_case;
-use crate::tenancy::{Case, Tenancy};
 use std::alloc::Global;
-use wb_base::Memory;
+use wb_base::{Keeper, Moment};
 use wb_custody::SealedTable;
-use wb_list::Sorted;
-use wb_model::{Asked, Body, Told, Trail};
+use wb_model::{Asked, Told};
+use wb_plan::{At, tenant_of};
+use wb_tables::{Tenancy, place_at, purge_all};
 
-// Makes room for a report: in a new trail, in the table of reports, and among the identity answers.
-fn make_room(
-    alloc: Global,
-    cases: &mut Sorted<Case>,
-    sealed: &mut SealedTable,
-) -> Result<Trail, Memory>
-    ensures cases { cases.new.items ≡ cases.old.items }
-    ensures sealed { sealed.new.items ≡ sealed.old.items }
-    ensures empty { IfOk result (λ trail. trail.items ≡ []) }
-    ensures trail_room { IfOk result (λ trail. 0 < trail.spare) }
-    ensures room { OnOk result (0 < cases.new.spare) }
-    ensures sealed_room { OnOk result (0 < sealed.new.spare) }
-{
-    let mut trail = Trail::new(alloc);
-    trail.reserve()?;
-    cases.reserve(1)?;
-    sealed.reserve()?;
-    Ok(trail)
-}
-
-/// A turn of one tenant: all memory is taken first, and then the change made. Where there is none, all stays.
-pub fn turn_of(
-    alloc: Global,
-    tenancy: &mut Tenancy,
-    sealed: &mut SealedTable,
-    at: &At,
-    asked: &Asked,
-) -> Result<Told, Memory>
-    requires place { IsPlace sealed.old.items (place_of tenancy.old) }
-    ensures reply { IfOk result (λ told. told ≡ reply_by (ruling (tables_of sealed.old.items (place_of tenancy.old)) (at_of at.now) asked.now) (tables_of sealed.old.items (place_of tenancy.old)).sealed) }
-    ensures tables { OnOk result (tables_of sealed.new.items (place_of tenancy.new) ≡ tables_after (tables_of sealed.old.items (place_of tenancy.old)) (at_of at.now) asked.now) }
+// Makes the change of a turn that is ready, over purged tables. It takes no memory and cannot fail.
+fn make(tenancy: &mut Tenancy, sealed: &mut SealedTable, time: Moment, opened: Option<Opened>)
+    requires place { (turns : ℕ) × IsPlace turns sealed.old.items (place_of tenancy.old) }
+    requires room { IfSome opened (λ o. IsRoom tenancy.old sealed.old.spare o) }
+    requires own { IsOwn (plain_of tenancy.old) opened }
+    ensures tables { tables_of sealed.new.items (place_of tenancy.new) ≡ changed time (change_of (planned_of opened)) (given_of (planned_of opened)) (tables_of sealed.old.items (place_of tenancy.old)) }
     ensures id { (place_of tenancy.new).id ≡ (place_of tenancy.old).id }
     ensures others { (t n : ℕ) → t ≢ (place_of tenancy.old).id → answers_of sealed.new.items t n ≡ answers_of sealed.old.items t n }
-    ensures place { IsPlace sealed.new.items (place_of tenancy.new) }
+    ensures place { (turns : ℕ) → IsPlace turns sealed.old.items (place_of tenancy.old) → IsPlace turns sealed.new.items (place_of tenancy.new) }
     // A turn makes one session at most.
     ensures sessions { length (place_of tenancy.new).plain.sessions ≤ length (place_of tenancy.old).plain.sessions + 1 }
-    ensures tenancy_left { OnErr result (place_of tenancy.new ≡ place_of tenancy.old) }
-    ensures sealed_left { OnErr result (sealed.new.items ≡ sealed.old.items) }
 {
-    let Plan { told, opening } = plan_turn(alloc, tenancy, at, asked)?;
-    match opening {
-        None => Ok(told),
-        Some(opening) => {
-            let trail = make_room(alloc, &mut tenancy.cases, sealed)?;
-            open_case(tenancy, sealed, trail, at.time, opening);
-            Ok(told)
-        }
+    if let Some(Opened { opening, trail }) = opened {
+        open_case(tenancy, sealed, trail, time, opening);
     }
 }
 
-// Where the tenant is.
-fn place_at(tenancies: &[Tenancy], t: u32) -> Option<usize>
-    ensures { MatchOption result (find (is_tenant t) (map place_of tenancies.now) ≡ None) (λ i. IsAt t tenancies.now i) }
+// Makes the change of the tenant at a place.
+fn make_at(
+    tenancies: &mut [Tenancy],
+    place: usize,
+    sealed: &mut SealedTable,
+    time: Moment,
+    opened: Option<Opened>,
+)
+    requires places { (turns : ℕ) × ArePlaces turns 0 sealed.old.items (map place_of tenancies.old) }
+    requires within { place < length tenancies.old }
+    requires room { IfSome opened (λ o. (d : KeptTenancy) → IsRoom (slice_index_or tenancies.old place d) sealed.old.spare o) }
+    requires own { (d : KeptTenancy) → IsOwn (plain_of (slice_index_or tenancies.old place d)) opened }
+    ensures made { IsMadeAt place time (planned_of opened) sealed.old.items sealed.new.items tenancies.old tenancies.new }
+    ensures places { (turns : ℕ) → ArePlaces turns 0 sealed.old.items (map place_of tenancies.old) → ArePlaces turns 0 sealed.new.items (map place_of tenancies.new) }
+    ensures sessions { sessions_at (map place_of tenancies.new) ≤ sessions_at (map place_of tenancies.old) + 1 }
 {
-    for (at, tenancy) in tenancies.iter().enumerate() {
-        if tenancy.settings.tenant.id() == t {
-            return Some(at);
-        }
-    }
-    None
+    let tenancy = &mut tenancies[place];
+    make(tenancy, sealed, time, opened)
 }
 
-// The reply that tells that the host serves. It takes no memory.
-fn healthy() -> Told
-    ensures { result ≡ healthy_told }
+// A turn of the tenant at a place.
+fn turn_at<K: Keeper>(
+    alloc: Global,
+    tenancies: &mut [Tenancy],
+    place: usize,
+    sealed: &mut SealedTable,
+    keeper: &mut K,
+    at: &At,
+    asked: &Asked,
+) -> Result<Told, Lost>
+    requires places { ArePlaces at.now.turn 0 sealed.old.items (map place_of tenancies.old) }
+    requires place { IsAt (tenant_of_command asked.now.command) tenancies.old place }
+    requires built { is_built asked.now.command ≡ true }
+    requires fits { fits asked.now ≡ true }
+    ensures turn { IsTurnAt (map place_of tenancies.old) sealed.old.items at.now asked.now result (map place_of tenancies.new) sealed.new.items }
+    ensures kept { K.honest keeper.new → K.holds keeper.old (rows_of (map (tenancy_of sealed.old.items) (map place_of tenancies.old))) → K.holds keeper.new (rows_of (map (tenancy_of sealed.new.items) (map place_of tenancies.new))) }
+    ensures back { K.honest keeper.new → K.honest keeper.old }
+    ensures later { K.count keeper.old ≤ K.count keeper.new }
+    ensures fault { result ≡ Err Lost.Keeper → Rose (K.count keeper.old) (K.count keeper.new) }
 {
-    Told {
-        status: 200,
-        body: Body::short(b"{\"status\":\"ok\"}"),
+    let Ok(batched) = prepare_at(alloc, tenancies, place, sealed, at, asked) else {
+        return Err(Lost::Memory);
+    };
+    match keep(keeper, batched.batch.as_slice()) {
+        Ok(()) => {}
+        Err(lost) => return Err(lost),
     }
+    purge_all(tenancies, sealed, at.time);
+    make_at(tenancies, place, sealed, at.time, batched.ready.opened);
+    Ok(batched.ready.told)
 }
 
-/// The reply where the tenant of a number is not there, 0 standing for none that is named: the host's health, which takes no
-/// memory, or that nothing is found.
-pub fn without_tenant(alloc: Global, t: u32) -> Result<Told, Memory>
-    ensures reply { IfOk result (λ told. told ≡ told_without t) }
-    ensures health { t ≡ 0 → result ≡ Ok healthy_told }
+// A turn that names no tenant that is there.
+fn turn_without<K: Keeper>(
+    alloc: Global,
+    tenancies: &mut [Tenancy],
+    t: u32,
+    sealed: &mut SealedTable,
+    keeper: &mut K,
+    at: &At,
+    asked: &Asked,
+) -> Result<Told, Lost>
+    requires places { ArePlaces at.now.turn 0 sealed.old.items (map place_of tenancies.old) }
+    requires tenant { t ≡ tenant_of_command asked.now.command }
+    requires absent { find (is_tenant t) (map place_of tenancies.old) ≡ None }
+    ensures turn { IsTurnAt (map place_of tenancies.old) sealed.old.items at.now asked.now result (map place_of tenancies.new) sealed.new.items }
+    ensures kept { K.honest keeper.new → K.holds keeper.old (rows_of (map (tenancy_of sealed.old.items) (map place_of tenancies.old))) → K.holds keeper.new (rows_of (map (tenancy_of sealed.new.items) (map place_of tenancies.new))) }
+    ensures back { K.honest keeper.new → K.honest keeper.old }
+    ensures later { K.count keeper.old ≤ K.count keeper.new }
+    ensures fault { result ≡ Err Lost.Keeper → Rose (K.count keeper.old) (K.count keeper.new) }
 {
-    if t == 0 {
-        Ok(healthy())
-    } else {
-        refuse(alloc, Refusal::NotFound)
+    let Ok(unnamed) = prepare_without(alloc, tenancies, t, at.time) else {
+        return Err(Lost::Memory);
+    };
+    match keep(keeper, unnamed.batch.as_slice()) {
+        Ok(()) => {}
+        Err(lost) => return Err(lost),
     }
+    purge_all(tenancies, sealed, at.time);
+    Ok(unnamed.told)
 }
 
-/// A turn over the tables of all tenants.
-pub fn turn(
+/// A turn over the tables of all tenants. Where it is lost they are as they were, and so are the keeper's rows.
+pub fn turn<K: Keeper>(
     alloc: Global,
     tenancies: &mut [Tenancy],
     sealed: &mut SealedTable,
+    keeper: &mut K,
     at: &At,
     asked: &Asked,
-) -> Result<Told, Memory>
-    requires places { ArePlaces 0 sealed.old.items (map place_of tenancies.old) }
-    ensures reply { IfOk result (λ told. (turns now : ℕ) (f : Frame) → IsFrameAt turns now f at.now asked.now → told ≡ hosts_reply (hosts_of (standing turns now (map place_of tenancies.old) sealed.old.items)) f) }
-    ensures hosts { OnOk result ((turns now : ℕ) (f : Frame) → IsFrameAt turns now f at.now asked.now → map (tenancy_of sealed.new.items) (map place_of tenancies.new) ≡ (hosts_after (hosts_of (standing turns now (map place_of tenancies.old) sealed.old.items)) f).list) }
-    ensures places { ArePlaces 0 sealed.new.items (map place_of tenancies.new) }
+) -> Result<Told, Lost>
+    requires places { ArePlaces at.now.turn 0 sealed.old.items (map place_of tenancies.old) }
+    requires built { is_built asked.now.command ≡ true }
+    requires fits { fits asked.now ≡ true }
+    ensures turn { IsTurnAt (map place_of tenancies.old) sealed.old.items at.now asked.now result (map place_of tenancies.new) sealed.new.items }
+    ensures places { ArePlaces at.now.turn 0 sealed.new.items (map place_of tenancies.new) }
     ensures sessions { sessions_at (map place_of tenancies.new) ≤ sessions_at (map place_of tenancies.old) + 1 }
-    ensures tenants_left { OnErr result (map place_of tenancies.new ≡ map place_of tenancies.old) }
-    ensures sealed_left { OnErr result (sealed.new.items ≡ sealed.old.items) }
-    // Where no tenant is named, the host's health is told, which takes no memory.
-    ensures health { tenant_of_command asked.now.command ≡ 0 → result ≡ Ok healthy_told }
+    ensures kept { K.honest keeper.new → K.holds keeper.old (rows_of (map (tenancy_of sealed.old.items) (map place_of tenancies.old))) → K.holds keeper.new (rows_of (map (tenancy_of sealed.new.items) (map place_of tenancies.new))) }
+    ensures back { K.honest keeper.new → K.honest keeper.old }
+    ensures later { K.count keeper.old ≤ K.count keeper.new }
+    ensures fault { result ≡ Err Lost.Keeper → Rose (K.count keeper.old) (K.count keeper.new) }
 {
     let t = tenant_of(&asked.command);
     match place_at(tenancies, t) {
-        Some(place) => {
-            let tenancy = &mut tenancies[place];
-            turn_of(alloc, tenancy, sealed, at, asked)
-        }
-        None => without_tenant(alloc, t),
+        Some(place) => turn_at(alloc, tenancies, place, sealed, keeper, at, asked),
+        None => turn_without(alloc, tenancies, t, sealed, keeper, at, asked),
     }
 }

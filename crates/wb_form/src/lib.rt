@@ -12,8 +12,6 @@ mod rules;
 mod shape;
 mod shaped;
 mod show;
-#[cfg(test)]
-mod tests;
 
 pub use form_text::FormText;
 pub use laws::{good_forms_are_those_that_are_read, reading_back};

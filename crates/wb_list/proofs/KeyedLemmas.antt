@@ -1,15 +1,15 @@
 -- Items that ascend by their keys: what a search finds, and what an edit at that place does.
-use Rattle.std.proofs.Common.{◌≡◌, ℕ, zero, suc, ◌+◌, ◌<◌, Bool, List, [], ◌∷◌, length, get_or, set, map, cond, true, false, Some, None, Result, Ok, Err, IfOk, IfErr, refl, sym, ap, ◌∙◌, arith}
+use Rattle.std.proofs.Common.{◌≡◌, ℕ, zero, suc, ◌+◌, ◌<◌, Bool, List, [], ◌∷◌, ◌++◌, length, get_or, set, map, All, cond, true, false, Some, None, Result, Ok, Err, IfOk, IfErr, refl, sym, ap, ◌∙◌, arith}
 use Rattle.std.specs.declared.cmp.Ordering.{Ordering}
 use Rattle.std.specs.declared.cmp.Ordering.TheVariants.{Less, Equal, Greater}
 use Rattle.std.specs.Ordering.{ordering_reverse, is_lt, match_ordering}
 use Rattle.std.specs.Cmp.{IsTotalOrder}
 use Rattle.std.specs.List.{insert, remove, AllByRecursion, find, filter}
 use Rattle.std.specs.List.Sorted.{IsStrictlySortedBy, IsSortedBy, IsSearchInRange, IsBinarySearchResult}
-use Rattle.std.proofs.lemmas.Cmp.{alike_right}
+use Rattle.std.proofs.lemmas.Cmp.{alike_right, tied_itself}
 use Rattle.std.proofs.lemmas.List.{get_or-map, length-map}
 use Rattle.std.proofs.lemmas.Map.Keys.{sorted_head, sorted_tail, Less-from_sorted}
-use Rattle.std.proofs.lemmas.List.Elements.{All-from_recursion}
+use Rattle.std.proofs.lemmas.List.Elements.{All-from_recursion, All-head, All-tail}
 use Rattle.std.proofs.lemmas.List.Sorted.{searchable_from_sorted}
 use Rattle.wb_list.specs.Keyed.{IsAscending, has_key, insert_item, IsPlace, IsGap, without_first}
 
@@ -87,12 +87,31 @@ module _ {K T : Type 0} {R : K → K → Ordering} (o : IsTotalOrder R) (key : T
         | Greater ↦ λ above. let less = flip_Greater o _ _ above in ((less, all_weaker (λ k. R (key y) k ≡ Less) (λ k. R (key x) k ≡ Less) (λ k below. o.trans _ _ k less below) (map key ys) sorted.0), sorted)
       ] refl
 
+  all-push : (P : K → Type 0) (xs : List T) (x : T) → AllByRecursion P (map key xs) → P (key x) → AllByRecursion P (map key (xs ++ x ∷ []))
+  all-push P [] x all p = (p, tt)
+  all-push P (y ∷ ys) x all p = (all.0, all-push P ys x all.1 p)
+
+  -- an item above all others keeps the order at the end
+  pub ascending-push : (xs : List T) (x : T) → IsAscending R key xs → All (λ y. R (key y) (key x) ≡ Less) xs → IsAscending R key (xs ++ x ∷ [])
+  unfolding IsStrictlySortedBy
+  ascending-push [] x sorted last = (tt, tt)
+  ascending-push (y ∷ ys) x sorted last = (all-push (λ k. R (key y) k ≡ Less) ys x sorted.0 (All-head (λ z. R (key z) (key x) ≡ Less) y ys last), ascending-push ys x sorted.1 (All-tail (λ z. R (key z) (key x) ≡ Less) y ys last))
+
   pub set_at_place : (xs : List T) (x : T) (i : ℕ) → IsAscending R key xs → IsPlace R key xs (key x) i → insert_item R key xs x ≡ set xs i x
   set_at_place [] x i sorted place = absurd (omega (arith, place.in_range))
   set_at_place (y ∷ ys) x zero sorted place = rw (place.has_key y)
   set_at_place (y ∷ ys) x (suc i) sorted place =
       let within : i < length ys = omega (arith, place.in_range) in
       rw (below_later y ys (key x) i x sorted within (place.has_key x)) (ap (λ t. y ∷ t) (set_at_place ys x i (sorted_tail R (key y) (map key ys) sorted) (record { in_range = within; has_key = place.has_key })))
+
+  -- an item with the same key in its place
+  pub change_at_place : (xs : List T) (q : K) (i : ℕ) (x y : T) → IsAscending R key xs → IsPlace R key xs q i → x ≡ get_or xs i x → key y ≡ key x → insert_item R key xs y ≡ set xs i y
+  change_at_place xs q i x y sorted place is same =
+      let found : R (key x) q ≡ Equal = ap (λ z. R (key z) q) is ∙ place.has_key x in
+      set_at_place xs y i sorted (record {
+        in_range = place.in_range;
+        has_key = λ d. o.congr (key (get_or xs i d)) q (key y) (place.has_key d) ∙ (ap (λ k. R q k) same ∙ (sym (o.congr (key x) q (key x) found) ∙ tied_itself o (key x)));
+      })
 
   pub remove_at_place : (xs : List T) (q : K) (i : ℕ) → IsAscending R key xs → IsPlace R key xs q i → without_first (has_key R key q) xs ≡ remove xs i
   remove_at_place [] q i sorted place = absurd (omega (arith, place.in_range))

@@ -1,5 +1,5 @@
 -- What look-ups find after an edit of a table.
-use Rattle.std.proofs.Common.{◌≡◌, ◌≢◌, Bool, true, false, List, [], ◌∷◌, map, cond, find, Option, Some, None, refl, sym, ap, ◌∙◌}
+use Rattle.std.proofs.Common.{◌≡◌, ◌≢◌, false, List, [], ◌∷◌, map, cond, find, filter, not, Some, None, refl, sym, ap, ◌∙◌}
 use Rattle.std.specs.declared.cmp.Ordering.{Ordering}
 use Rattle.std.specs.declared.cmp.Ordering.TheVariants.{Less, Equal, Greater}
 use Rattle.std.specs.Ordering.{is_eq, match_ordering}
@@ -35,12 +35,44 @@ module _ {K T : Type 0} {R : K → K → Ordering} (o : IsTotalOrder R) (key : T
         | Greater ↦ λ _. rw (not_equal (R (key x) k) other) refl
       ] refl
 
+  -- so a look-up finds the item that was put under its key, and else what it found
+  pub find-after : (xs : List T) (x : T) (k : K) → find (has_key R key k) (insert_item R key xs x) ≡ cond (has_key R key k x) (Some x) (find (has_key R key k) xs)
+  find-after xs x k =
+      elim (R (key x) k) as (λ r. R (key x) k ≡ r → find (has_key R key k) (insert_item R key xs x) ≡ cond (is_eq r) (Some x) (find (has_key R key k) xs)) [
+        | Less ↦ λ less. find-beside xs x k (λ same. cc (less, same))
+        | Equal ↦ λ same. find-inserted xs x k same
+        | Greater ↦ λ above. find-beside xs x k (λ same. cc (above, same))
+      ] refl
+
   none_below : (xs : List T) (k : K) → AllByRecursion (λ q. R k q ≡ Less) (map key xs) → find (has_key R key k) xs ≡ None
   none_below [] k all = refl
   none_below (y ∷ ys) k all = rw (not_equal (R (key y) k) (λ e. not_both e all.0)) (none_below ys k all.1)
     where
       not_both : R (key y) k ≡ Equal → R k (key y) ≡ Less → ⊥
       not_both e less = cc (o.antisymm (key y) k, e, less)
+
+  -- keys above a key are above one that ties with it
+  moved : (y : T) (k : K) → R (key y) k ≡ Equal → (zs : List T) → AllByRecursion (λ q. R (key y) q ≡ Less) (map key zs) → AllByRecursion (λ q. R k q ≡ Less) (map key zs)
+  moved y k same [] all = tt
+  moved y k same (z ∷ zs) all = (sym (o.congr _ _ (key z) same) ∙ all.0, moved y k same zs all.1)
+
+  kept_above : (xs : List T) (k : K) → AllByRecursion (λ q. R k q ≡ Less) (map key xs) → filter (λ x. not (has_key R key k x)) xs ≡ xs
+  kept_above [] k all = refl
+  kept_above (y ∷ ys) k all = rw (not_equal (R (key y) k) (λ e. not_both e all.0)) (ap (λ t. y ∷ t) (kept_above ys k all.1))
+    where
+      not_both : R (key y) k ≡ Equal → R k (key y) ≡ Less → ⊥
+      not_both e less = cc (o.antisymm (key y) k, e, less)
+
+  -- the one item of a key is all that goes
+  pub filter-others : (xs : List T) (k : K) → IsAscending R key xs → without_first (has_key R key k) xs ≡ filter (λ x. not (has_key R key k x)) xs
+  unfolding IsStrictlySortedBy
+  filter-others [] k sorted = refl
+  filter-others (y ∷ ys) k sorted =
+      elim (R (key y) k) as (λ r. R (key y) k ≡ r → cond (is_eq r) ys (y ∷ without_first (has_key R key k) ys) ≡ cond (not (is_eq r)) (y ∷ filter (λ x. not (has_key R key k x)) ys) (filter (λ x. not (has_key R key k x)) ys)) [
+        | Less ↦ λ _. ap (λ t. y ∷ t) (filter-others ys k sorted.1)
+        | Equal ↦ λ same. sym (kept_above ys k (moved y k same ys sorted.0))
+        | Greater ↦ λ _. ap (λ t. y ∷ t) (filter-others ys k sorted.1)
+      ] refl
 
   -- what was taken out is found no more
   pub find-taken : (xs : List T) (k : K) → IsAscending R key xs → find (has_key R key k) (without_first (has_key R key k) xs) ≡ None
@@ -49,13 +81,9 @@ module _ {K T : Type 0} {R : K → K → Ordering} (o : IsTotalOrder R) (key : T
   find-taken (y ∷ ys) k sorted =
       elim (R (key y) k) as (λ r. R (key y) k ≡ r → find (has_key R key k) (cond (is_eq r) ys (y ∷ without_first (has_key R key k) ys)) ≡ None) [
         | Less ↦ λ less. rw less (find-taken ys k sorted.1)
-        | Equal ↦ λ same. none_below ys k (moved ys sorted.0 same)
+        | Equal ↦ λ same. none_below ys k (moved y k same ys sorted.0)
         | Greater ↦ λ above. rw above (find-taken ys k sorted.1)
       ] refl
-    where
-      moved : (zs : List T) → AllByRecursion (λ q. R (key y) q ≡ Less) (map key zs) → R (key y) k ≡ Equal → AllByRecursion (λ q. R k q ≡ Less) (map key zs)
-      moved [] all same = tt
-      moved (z ∷ zs) all same = (sym (o.congr _ _ (key z) same) ∙ all.0, moved zs all.1 same)
 
   -- and every other key finds what it found
   pub find-left : (xs : List T) (j k : K) → ((x : T) → R (key x) j ≡ Equal → R (key x) k ≢ Equal) → find (has_key R key j) (without_first (has_key R key k) xs) ≡ find (has_key R key j) xs

@@ -10,7 +10,7 @@ mod try_clone;
 pub use items::Items;
 pub use memory::Memory;
 pub use roomy::Roomy;
-pub use sorted::{ItemTest, Keyed, Sorted};
+pub use sorted::{ItemChange, ItemRun, ItemTest, Keyed, Sorted};
 pub use try_clone::TryClone;
 
 #[cfg(test)]

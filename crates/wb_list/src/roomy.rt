@@ -1,5 +1,5 @@
 //! A list with room.
-ghost use Rattle.std.specs.Prelude.{◌≡◌, ◌+◌, ◌<◌, ◌≤◌, ◌++◌, ◌∷◌, [], length, OnOk, slice_get, Some};
+ghost use Rattle.std.specs.Prelude.{◌≡◌, ◌+◌, ◌<◌, ◌≤◌, ◌++◌, ◌∷◌, [], length, OnOk, IsOk, slice_get, Some};
 ghost use Rattle.std.specs.List.{insert, remove};
 
 use crate::Memory;
@@ -65,6 +65,7 @@ impl<T> Roomy<T> {
     pub fn reserve(&mut self, n: usize) -> Result<(), Memory>
         ensures items { self.new.items ≡ self.old.items }
         ensures room { OnOk result (n ≤ self.new.spare) }
+        ensures enough { n ≤ self.old.spare → IsOk result }
         ensures kept { self.old.spare ≤ self.new.spare }
     {
         self.items.reserve(n)?;

@@ -1,7 +1,10 @@
 //! A table sorted by a key.
-ghost use Rattle.std.specs.Prelude.{◌≡◌, ◌+◌, ◌<◌, ◌≤◌, [], length, slice_get, Some, None, OnOk, OnSome, IfOk, IfErr, Bool, not, find, filter};
+ghost use Rattle.std.specs.Prelude.{◌≡◌, ◌+◌, ◌-◌, ◌<◌, ◌≤◌, ◌++◌, ◌∷◌, [], length, take, drop, slice_get, Some, None, OnOk, OnSome, IsOk, IfOk, IfErr, Bool, true, false, not, All, find, filter, position, if◌then◌else◌};
+ghost use Rattle.std.specs.Ordering.{is_eq, is_le, is_lt};
+ghost use Rattle.std.specs.List.Sorted.{IsPartitionPoint};
+ghost use Rattle.std.specs.declared.cmp.Ordering.TheVariants.{Less};
 ghost use Rattle.std.specs.Option.{option_copied};
-ghost use Rattle.wb_list.specs.Keyed.{IsAscending, has_key, insert_item, without_first, IsPlace, IsGap};
+ghost use Rattle.wb_list.specs.Keyed.{IsAscending, has_key, insert_item, without_first, IsPlace, IsGap, IsRun};
 
 use crate::{Memory, TryClone};
 use std::alloc::Global;
@@ -47,6 +50,36 @@ pub trait ItemTest<T> {
     /// Whether an item passes.
     fn passes(&self, item: &T) -> bool
         ensures { result ≡ passes self.now item.now };
+}
+
+/// A run of items that lie side by side in the order of their keys.
+pub trait ItemRun<T> {
+    ghost use Rattle.std.specs.declared.cmp.Ordering.{Ordering as Side};
+
+    /// Where an item lies: before the run, in it, or after it.
+    ghost side: { Self → T → Side };
+
+    /// Where an item lies: `Less` before the run, `Equal` in it, `Greater` after it.
+    fn side(&self, item: &T) -> Ordering
+        ensures { result ≡ side self.now item.now };
+}
+
+/// A change of an item, which leaves its key.
+pub trait ItemChange<T: Keyed> {
+    /// What comes of it.
+    type Answer;
+
+    /// What it asks of the item.
+    ghost asks: { Self → T → Type 0 };
+
+    /// What it makes of the item, and what comes of it.
+    ghost makes: { Self → T → T → Self.Answer → Type 0 };
+
+    /// Changes an item.
+    fn change(self, item: &mut T) -> Self::Answer
+        requires { asks self item.old }
+        ensures key { T.key_of item.new ≡ T.key_of item.old }
+        ensures made { makes self item.old item.new result };
 }
 
 /// Items that ascend by their keys, each key once, found by binary search, seen as their list and its spare room.
@@ -126,6 +159,7 @@ impl<T: Keyed> Sorted<T> {
     pub fn reserve(&mut self, n: usize) -> Result<(), Memory>
         ensures items { self.new.items ≡ self.old.items }
         ensures room { OnOk result (n ≤ self.new.spare) }
+        ensures enough { n ≤ self.old.spare → IsOk result }
         ensures kept { self.old.spare ≤ self.new.spare }
     {
         self.items.reserve(n)?;
@@ -148,9 +182,47 @@ impl<T: Keyed> Sorted<T> {
         self.items.binary_search_by(|other| other.compare_to(item))
     }
 
+    // How many items lie before a run.
+    fn start_of<X: ItemRun<T>>(&self, run: &X) -> usize
+        requires { IsRun T.Key.cmp T.key_of (X.side run.now) }
+        ensures start { IsPartitionPoint (λ item. is_lt (X.side run.now item) ≡ true) (λ item. is_lt (X.side run.now item) ≡ false) self.now.items result }
+        ensures bound { result ≤ length self.now.items }
+    {
+        self.items.partition_point(|item| run.side(item).is_lt())
+    }
+
+    // How many items lie before a run or in it.
+    fn end_of<X: ItemRun<T>>(&self, run: &X) -> usize
+        requires { IsRun T.Key.cmp T.key_of (X.side run.now) }
+        ensures end { IsPartitionPoint (λ item. is_le (X.side run.now item) ≡ true) (λ item. is_le (X.side run.now item) ≡ false) self.now.items result }
+        ensures bound { result ≤ length self.now.items }
+    {
+        self.items.partition_point(|item| run.side(item).is_le())
+    }
+
+    // Where a run starts, and where it ends.
+    fn bounds<X: ItemRun<T>>(&self, run: &X) -> (usize, usize)
+        requires { IsRun T.Key.cmp T.key_of (X.side run.now) }
+        ensures run { take (result.1 - result.0) (drop result.0 self.now.items) ≡ filter (λ item. is_eq (X.side run.now item)) self.now.items }
+        ensures start { result.0 ≤ result.1 }
+        ensures end { result.1 ≤ length self.now.items }
+    {
+        (self.start_of(run), self.end_of(run))
+    }
+
+    /// The items of a run, whose two ends are found by binary search.
+    pub fn run<X: ItemRun<T>>(&self, run: &X) -> &[T]
+        requires { IsRun T.Key.cmp T.key_of (X.side run.now) }
+        ensures { result.now ≡ filter (λ item. is_eq (X.side run.now item)) self.now.items }
+    {
+        let (start, end) = self.bounds(run);
+        &self.items[start..end]
+    }
+
     /// The item of a key.
     pub fn find(&self, key: &T::Key) -> Option<&T>
-        ensures { option_copied result ≡ find (has_key T.Key.cmp T.key_of key.now) self.now.items }
+        ensures item { option_copied result ≡ find (has_key T.Key.cmp T.key_of key.now) self.now.items }
+        ensures ascending { IsAscending T.Key.cmp T.key_of self.now.items }
     {
         match self.place(key) {
             Ok(at) => Some(&self.items[at]),
@@ -160,11 +232,23 @@ impl<T: Keyed> Sorted<T> {
 }
 
 impl<T: Keyed + Drop> Sorted<T> {
+    /// Adds an item whose key is above all others, into room that was made. It takes no memory and moves nothing.
+    pub fn push(&mut self, item: T)
+        requires room { 0 < self.old.spare }
+        requires last { All (λ other. T.Key.cmp (T.key_of other) (T.key_of item) ≡ Less) self.old.items }
+        ensures items { self.new.items ≡ self.old.items ++ item ∷ [] }
+        ensures room { self.old.spare ≤ self.new.spare + 1 }
+    {
+        let pushed = self.items.push(item);
+        pushed.unwrap()
+    }
+
     /// Adds an item whose key is free, into room that was made. It takes no memory.
     pub fn add(&mut self, item: T)
         requires room { 0 < self.old.spare }
         requires free { find (has_key T.Key.cmp T.key_of (T.key_of item)) self.old.items ≡ None }
         ensures items { self.new.items ≡ insert_item T.Key.cmp T.key_of self.old.items item }
+        ensures found { (key : T.Key) → find (has_key T.Key.cmp T.key_of key) self.new.items ≡ (if has_key T.Key.cmp T.key_of key item then Some item else find (has_key T.Key.cmp T.key_of key) self.old.items) }
         ensures room { self.old.spare ≤ self.new.spare + 1 }
     {
         match self.place_of(&item) {
@@ -181,6 +265,7 @@ impl<T: Keyed + Drop> Sorted<T> {
     pub fn set(&mut self, item: T)
         requires { 0 < self.old.spare }
         ensures items { self.new.items ≡ insert_item T.Key.cmp T.key_of self.old.items item }
+        ensures found { (key : T.Key) → find (has_key T.Key.cmp T.key_of key) self.new.items ≡ (if has_key T.Key.cmp T.key_of key item then Some item else find (has_key T.Key.cmp T.key_of key) self.old.items) }
         ensures room { self.old.spare ≤ self.new.spare + 1 }
     {
         match self.place_of(&item) {
@@ -196,6 +281,7 @@ impl<T: Keyed + Drop> Sorted<T> {
     pub fn take(&mut self, key: &T::Key) -> Option<T>
         ensures item { result ≡ find (has_key T.Key.cmp T.key_of key.now) self.old.items }
         ensures items { self.new.items ≡ without_first (has_key T.Key.cmp T.key_of key.now) self.old.items }
+        ensures others { self.new.items ≡ filter (λ item. not (has_key T.Key.cmp T.key_of key.now item)) self.old.items }
         ensures gone { find (has_key T.Key.cmp T.key_of key.now) self.new.items ≡ None }
         ensures kept { self.old.spare ≤ self.new.spare }
         ensures room { OnSome result (self.old.spare + 1 ≤ self.new.spare) }
@@ -206,6 +292,45 @@ impl<T: Keyed + Drop> Sorted<T> {
                 Some(item)
             }
             Err(_) => None,
+        }
+    }
+
+    // The place of the first item that passes a test.
+    fn first_place<X: ItemTest<T>>(&self, test: &X) -> Option<usize>
+        ensures { result ≡ position (X.passes test.now) self.now.items }
+    {
+        self.items.iter().position(|item| test.passes(item))
+    }
+
+    /// Takes the first item that passes a test out. Its room is spare again. It looks at each item up to that one.
+    pub fn take_first<X: ItemTest<T>>(&mut self, test: &X) -> Option<T>
+        ensures item { result ≡ find (X.passes test.now) self.old.items }
+        ensures items { self.new.items ≡ without_first (X.passes test.now) self.old.items }
+        ensures kept { self.old.spare ≤ self.new.spare }
+        ensures room { OnSome result (self.old.spare + 1 ≤ self.new.spare) }
+    {
+        match self.first_place(test) {
+            Some(at) => {
+                let first = self.items.remove(at);
+                Some(first)
+            }
+            None => None,
+        }
+    }
+
+    /// Changes the item of a key in its place. It takes no memory beside what the change takes.
+    pub fn change<X: ItemChange<T>>(&mut self, key: &T::Key, change: X) -> X::Answer
+        requires there { (item : T) × (find (has_key T.Key.cmp T.key_of key.now) self.old.items ≡ Some item) × X.asks change item }
+        ensures changed { (item : T) × (next : T) × (find (has_key T.Key.cmp T.key_of key.now) self.old.items ≡ Some item) × (T.key_of next ≡ T.key_of item) × X.makes change item next result × (self.new.items ≡ insert_item T.Key.cmp T.key_of self.old.items next) }
+        ensures ascending { IsAscending T.Key.cmp T.key_of self.old.items }
+        ensures room { self.new.spare ≡ self.old.spare }
+    {
+        match self.place(key) {
+            Ok(at) => {
+                let item = &mut self.items[at];
+                change.change(item)
+            }
+            Err(_) => unreachable!(),
         }
     }
 

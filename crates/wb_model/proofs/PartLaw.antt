@@ -8,13 +8,18 @@ use Rattle.wb_model.specs.declared.event.What.{What}
 use Rattle.wb_model.specs.declared.event.What.TheVariants.{Idle}
 use Rattle.wb_model.specs.Targets.{Target, Nobody, Alone, On}
 use Rattle.wb_model.specs.Requests.{Frame}
-use Rattle.wb_model.specs.Rules.{Verdict, Refused, Accepted}
+use Rattle.wb_model.specs.Changes.{Verdict, Refused, Accepted}
 use Rattle.wb_model.specs.Host.{Tables, purged, reply_to, host_after}
-use Rattle.wb_model.specs.Tenants.{tenant_of, tenant_at, Tenancy, one, has_id, without_tenant, reply_of, hosts_reply, one_after, hosts_after, hosts_lost}
-use Rattle.wb_model.specs.Past.{Past, Opening, Turn, Opened, turns, now, held, standing, verdict_at, reply_at, target_at, is_read, did, what_by, what_at}
+use Rattle.wb_model.specs.Tenants.{tenant_at, Tenancy, one, has_id, without_tenant, tenancy_reply, hosts_reply, one_after, hosts_after, hosts_lost}
+use Rattle.wb_model.specs.Commands.{tenant_of}
+use Rattle.wb_model.specs.Past.{Past, Opening, Turn, turns, now, held, standing}
+use Rattle.wb_model.specs.PastTurns.{verdict_at, reply_at, target_at, did, what_by, what_at}
+use Rattle.wb_model.specs.Commands.{is_read}
+use Rattle.wb_model.specs.Opened.{Opened}
 use Rattle.wb_model.specs.Pasts.{AllOpened, seen, part, tenants, has_tenant, time, held_tenancy, standing_hosts, reply_in, what_in, with_turn, with_loss}
 use Rattle.wb_model.proofs.Found.{decide, same_number, other_number}
-use Rattle.wb_model.proofs.TurnLaw.{event, idle_law, held_now, reply_law, turn_law}
+use Rattle.wb_model.proofs.TurnLaw.{event, idle_law}
+use Rattle.wb_model.proofs.HeldTables.{held_now, reply_law, turn_law}
 
 pub part_now : (t : ℕ) (past : Past AllOpened) → now (part t past) ≡ time past
 part_now t (Opening o) = refl
@@ -31,7 +36,7 @@ part_stands t past = λ i. record { turns = sym (part_turns t past) i; now = sym
 same_tenancy : (past : Past AllOpened) (u t : ℕ) → u ≡ t → Some (held_tenancy past u) ≡ Some (held_tenancy past t)
 same_tenancy past u t e = ap (λ n. Some (held_tenancy past n)) e
 
-found_tenancy : (past : Past AllOpened) (t : ℕ) (ts : List ℕ) → find (has_id t) (map (held_tenancy past) ts) ≡ cond (list_any (λ u. eqb u t) ts) (Some (held_tenancy past t)) None
+pub found_tenancy : (past : Past AllOpened) (t : ℕ) (ts : List ℕ) → find (has_id t) (map (held_tenancy past) ts) ≡ cond (list_any (λ u. eqb u t) ts) (Some (held_tenancy past t)) None
 found_tenancy past t [] = refl
 found_tenancy past t (u ∷ ts) = by (decide u t) (found_tenancy past t ts)
   where
@@ -41,9 +46,9 @@ found_tenancy past t (u ∷ ts) = by (decide u t) (found_tenancy past t ts)
 
 -- the reply to a request is that of the hosts that stand for the past
 pub reply_in_law : (past : Past AllOpened) (f : Frame) → hosts_reply (standing_hosts past) f ≡ reply_in past f
-reply_in_law past f = ap (reply_of (standing_hosts past) f) (found_tenancy past (tenant_at f) (tenants past)) ∙ by (has_tenant past (tenant_at f))
+reply_in_law past f = ap (tenancy_reply (standing_hosts past) f) (found_tenancy past (tenant_at f) (tenants past)) ∙ by (has_tenant past (tenant_at f))
   where
-    by : (b : Bool) → reply_of (standing_hosts past) f (cond b (Some (held_tenancy past (tenant_at f))) None) ≡ cond b (reply_at (part (tenant_at f) past) f) (without_tenant (tenant_at f))
+    by : (b : Bool) → tenancy_reply (standing_hosts past) f (cond b (Some (held_tenancy past (tenant_at f))) None) ≡ cond b (reply_at (part (tenant_at f) past) f) (without_tenant (tenant_at f))
     by true = ap (λ h. reply_to h f) (part_stands (tenant_at f) past) ∙ reply_law (part (tenant_at f) past) f
     by false = refl
 
@@ -65,7 +70,7 @@ seen_cond : (t : ℕ) (b : Bool) (w : What) → seen t w ≡ w → seen t (cond 
 seen_cond t true w e = refl
 seen_cond t false w e = e
 
-seen_here : (u t : ℕ) (v : Verdict) (to : Target) (a : Asked) → tenant_of a.command ≡ t → seen t (what_by v u to a) ≡ what_by v u to a
+pub seen_here : (u t : ℕ) (v : Verdict) (to : Target) (a : Asked) → tenant_of a.command ≡ t → seen t (what_by v u to a) ≡ what_by v u to a
 seen_here u t (Refused x) to a e = refl
 seen_here u t (Accepted ch ans) to a e = seen_cond t (is_read a.command) (did u to a) (seen_did u t to a e)
 
@@ -89,13 +94,13 @@ away_in false t w e = refl
 
 -- ---- the hosts after a turn
 
-own_turn : (past : Past AllOpened) (f : Frame) → has_tenant past (tenant_at f) ≡ true → seen (tenant_at f) (what_in past f) ≡ what_at (tenant_at f) (part (tenant_at f) past) f
+pub own_turn : (past : Past AllOpened) (f : Frame) → has_tenant past (tenant_at f) ≡ true → seen (tenant_at f) (what_in past f) ≡ what_at (tenant_at f) (part (tenant_at f) past) f
 own_turn past f has =
     let t : ℕ = tenant_at f in
     let w : What = what_at t (part t past) f in
     ap (λ b. seen t (cond b w Idle)) has ∙ seen_here t t (verdict_at (part t past) f) (target_at (part t past) f) f.asked refl
 
-others_turn : (past : Past AllOpened) (f : Frame) (u : ℕ) → u ≢ tenant_at f → seen u (what_in past f) ≡ Idle
+pub others_turn : (past : Past AllOpened) (f : Frame) (u : ℕ) → u ≢ tenant_at f → seen u (what_in past f) ≡ Idle
 others_turn past f u ne =
     let t : ℕ = tenant_at f in
     away_in (has_tenant past t) u (what_at t (part t past) f) (away_seen t u (verdict_at (part t past) f) (target_at (part t past) f) f.asked (λ e. ne (sym e)))
@@ -118,7 +123,7 @@ one_law past f u has (inr ne) =
     ∙ (idle_held (part u past) f
     ∙ ap (λ w. held (Turn (event f w) (part u past))) (sym (others_turn past f u ne))))
 
-same_id : (t : ℕ) (x y : Tables) → x ≡ y → ◌≡◌ {A = Tenancy} (record { id = t; tables = x }) (record { id = t; tables = y })
+pub same_id : (t : ℕ) (x y : Tables) → x ≡ y → ◌≡◌ {A = Tenancy} (record { id = t; tables = x }) (record { id = t; tables = y })
 same_id t x y e = λ i. record { id = t; tables = e i }
 
 -- the hosts after a request stand for the past with its turn

@@ -1,18 +1,24 @@
 -- The tables of one tenant's past with one more turn are the tables of the past after one step.
 use Rattle.std.proofs.Common.{◌≡◌, ◌≢◌, ◌⊎◌, inl, inr, ℕ, ◌+◌, ◌≤◌, Bool, true, false, cond, eqb, List, [], ◌∷◌, ◌++◌, Option, Some, None, refl, sym, ap, ◌∙◌, subst, arith}
-use Rattle.std.specs.Prelude.{nat_lt, filter, map, ◌&&◌, ◌||◌}
+use Rattle.std.specs.Prelude.{nat_lt, not, filter, map, ◌&&◌, ◌||◌}
 use Rattle.std.proofs.lemmas.Bool.Decides.{nat_tests}
 use Rattle.std.proofs.lemmas.List.Elements.{filter-append}
 use Rattle.std.proofs.lemmas.List.{map-append}
 use mathlib.Core.Path.{fun_ext}
+use Rattle.jiff_core.proofs.SignedLemmas.{signed_arith}
+use Rattle.std.specs.Prelude.{length, ◌==◌, ℤ, int_lt, ◌<ℤ◌}
+use Rattle.std.proofs.lemmas.Int.{ints}
+use Rattle.wb_base.specs.Days.{day_of}
+use Rattle.wb_model.specs.Trails.{expires}
 use Rattle.wb_base.specs.AnswerList.{Answered}
 use Rattle.wb_model.specs.declared.entry.Entry.{Entry}
 use Rattle.wb_model.specs.declared.registry.TenantItem.{TenantItem}
 use Rattle.wb_model.specs.Tables.{Plain, Case, Session, Who, TheUser, TheReporter, is_there, is_live, stays, lasts}
-use Rattle.wb_model.specs.Rules.{At, Change, Draws, Opens, Notes}
+use Rattle.wb_model.specs.Changes.{At, Change, Draws, Begins, Notes}
 use Rattle.wb_model.specs.Host.{Sealed, Tables, purged, is_draw, noted, cases_after, sealed_under, sealed_after}
-use Rattle.wb_model.specs.Past.{AtMost, Past, Opening, Turn, Opened, registry, alone_at, last, numbers_after, numbers, grown, lives_at, trail, live, newer, given, sealed, case_of, live_reports, sessions, plain, tables}
-use Rattle.wb_model.proofs.Found.{decide, same_number, other_number, filter_twice, filter_after}
+use Rattle.wb_model.specs.Past.{Past, Opening, Turn, registry, alone_at, last, numbers_after, numbers, grown, lives_at, trail, live, newer, given, sealed, case_of, live_reports, logins, is_ended, stands, standing_sessions, plain, tables}
+use Rattle.wb_model.specs.Opened.{AtMost, Opened}
+use Rattle.wb_model.proofs.Found.{decide, same_number, other_number, filter_twice, filter_after, filter_same, filter_both}
 use Rattle.wb_model.proofs.Fitting.{Fits}
 
 -- ---- a later purge
@@ -27,18 +33,33 @@ pub there_before : (p : Case → Bool) (q : ℕ) (cs : List Case) → is_there q
 there_before p q [] e = e
 there_before p q (c ∷ cs) e = grind (arith, there_before p q cs, e)
 
+pub both_hold : (a b : Bool) → a ≡ true → b ≡ true → (a && b) ≡ true
+both_hold a b x y = grind (arith, x, y)
+
+pub int_test : (a b : ℤ) → int_lt a b ≡ true → a <ℤ b
+int_test a b e = grind (arith, ints)
+
+pub int_holds : (a b : ℤ) → a <ℤ b → int_lt a b ≡ true
+int_holds a b h = grind (arith, ints)
+
+pub day_before : (m n : ℕ) (offset day : ℤ) → m ≤ n → int_lt (day_of n offset) day ≡ true → int_lt (day_of m offset) day ≡ true
+day_before m n offset day le e = int_holds (day_of m offset) day (let later : day_of n offset <ℤ day = int_test (day_of n offset) day e in omega (arith, signed_arith, le, later))
+
 -- what is not live stays so
-live_earlier : (settings : TenantItem) (m n : ℕ) (c : Case) → m ≤ n → is_live settings n c ≡ true → is_live settings m c ≡ true
-live_earlier settings m n c le e = e
+pub live_earlier : (settings : TenantItem) (m n : ℕ) (c : Case) → m ≤ n → is_live settings n c ≡ true → is_live settings m c ≡ true
+live_earlier settings m n c le e =
+    let trail : not (length c.trail == 0) ≡ true = grind (arith, e) in
+    let later : int_lt (day_of n settings.offset) (expires c.trail) ≡ true = grind (arith, e) in
+    both_hold (not (length c.trail == 0)) (int_lt (day_of m settings.offset) (expires c.trail)) trail (day_before m n settings.offset (expires c.trail) le later)
 
 pub live_twice : (settings : TenantItem) (m n : ℕ) → m ≤ n → (cs : List Case) → filter (is_live settings n) (filter (is_live settings m) cs) ≡ filter (is_live settings n) cs
 live_twice settings m n le cs = filter_twice (is_live settings m) (is_live settings n) (λ c. live_earlier settings m n c le) cs
 
-kept_then : (a b : Bool) (o : Option Answered) → (b ≡ true → a ≡ true) → cond b (cond a o None) None ≡ cond b o None
+pub kept_then : (a b : Bool) (o : Option Answered) → (b ≡ true → a ≡ true) → cond b (cond a o None) None ≡ cond b o None
 kept_then a true o up = ap (λ x. cond x o None) (up refl)
 kept_then a false o up = refl
 
-stays_more : (cs ds : List Case) (w : Who) → ((q : ℕ) → is_there q cs ≡ true → is_there q ds ≡ true) → stays cs w ≡ true → stays ds w ≡ true
+pub stays_more : (cs ds : List Case) (w : Who) → ((q : ℕ) → is_there q cs ≡ true → is_there q ds ≡ true) → stays cs w ≡ true → stays ds w ≡ true
 stays_more cs ds (TheUser u) up e = refl
 stays_more cs ds (TheReporter n) up e = up n e
 
@@ -49,6 +70,12 @@ lasts_more m n cs ds s le up e =
     let time : nat_lt n (s.at + 14_400) ≡ true = grind (arith, e) in
     grind (arith, nat_tests, more, time)
 
+pub still_stands : (before after ended : Bool) → (after ≡ true → before ≡ true) → ((before && not ended) && after) ≡ (after && not ended)
+still_stands true true ended up = grind arith
+still_stands true false ended up = grind arith
+still_stands false true ended up = absurd (let bad : false ≡ true = up refl in grind (arith, bad))
+still_stands false false ended up = refl
+
 -- what a purge leaves of the tables at an earlier time
 pub purged_tables : (past : Past Opened) (m n : ℕ) → m ≤ n → purged n (tables past m) ≡ tables past n
 purged_tables past m n le =
@@ -58,8 +85,9 @@ purged_tables past m n le =
     let up : (q : ℕ) → is_there q (filter (is_live settings n) cs) ≡ true → is_there q (filter (is_live settings m) cs) ≡ true = λ q e. there_before (is_live settings n) q (filter (is_live settings m) cs) (ap (is_there q) twice ∙ e) in
     same_tables _ _
     (same_plain _ _ refl refl twice
-    (ap (λ ds. filter (lasts n ds) (filter (lasts m (filter (is_live settings m) cs)) (sessions past))) twice
-    ∙ filter_twice (lasts m (filter (is_live settings m) cs)) (lasts n (filter (is_live settings n) cs)) (λ s e. lasts_more m n (filter (is_live settings n) cs) (filter (is_live settings m) cs) s le up e) (sessions past)))
+    (ap (λ ds. filter (lasts n ds) (standing_sessions past m)) twice
+    ∙ (filter_both (stands past m) (lasts n (filter (is_live settings n) cs)) (logins past)
+    ∙ filter_same _ (stands past n) (λ s. still_stands (lasts m (filter (is_live settings m) cs) s) (lasts n (filter (is_live settings n) cs) s) (is_ended past s) (λ e. lasts_more m n (filter (is_live settings n) cs) (filter (is_live settings m) cs) s le up e)) (logins past))))
     (λ q. ap (λ ds. cond (is_there q ds) (cond (is_there q (filter (is_live settings m) cs)) (sealed past q) None) None) twice
     ∙ kept_then (is_there q (filter (is_live settings m) cs)) (is_there q (filter (is_live settings n) cs)) (sealed past q) (up q))
 
@@ -72,20 +100,20 @@ abbrev pub Below : ℕ → List ℕ → Type 0
 Below k [] = Unit {0}
 Below k (n ∷ ns) = (n ≤ k) × Below k ns
 
-below_more : (k : ℕ) (ns : List ℕ) → Below k ns → Below (k + 1) ns
+pub below_more : (k : ℕ) (ns : List ℕ) → Below k ns → Below (k + 1) ns
 below_more k [] b = tt
 below_more k (n ∷ ns) b = (omega arith, below_more k ns b.1)
 
-below_push : (k : ℕ) (ns : List ℕ) → Below k ns → Below (k + 1) (ns ++ (k + 1) ∷ [])
+pub below_push : (k : ℕ) (ns : List ℕ) → Below k ns → Below (k + 1) (ns ++ (k + 1) ∷ [])
 below_push k [] b = (omega arith, tt)
 below_push k (n ∷ ns) b = (omega arith, below_push k ns b.1)
 
-below_change : (ch : Change) (k : ℕ) (ns : List ℕ) → Below k ns → Below (cond (is_draw ch) (k + 1) k) (numbers_after ch k ns)
+pub below_change : (ch : Change) (k : ℕ) (ns : List ℕ) → Below k ns → Below (cond (is_draw ch) (k + 1) k) (numbers_after ch k ns)
 below_change Draws k ns b = below_more k ns b
-below_change (Opens e) k ns b = below_push k ns b
+below_change (Begins e) k ns b = below_push k ns b
 below_change _ k ns b = b
 
-at_most_below : (k : ℕ) (cs : List Case) → AtMost k cs → Below k (map (λ c. c.number) cs)
+pub at_most_below : (k : ℕ) (cs : List Case) → AtMost k cs → Below k (map (λ c. c.number) cs)
 at_most_below k [] b = tt
 at_most_below k (c ∷ cs) b = (b.0, at_most_below k cs b.1)
 
@@ -94,54 +122,54 @@ pub numbers_below : (past : Past Opened) → Below (last past) (numbers past)
 numbers_below (Opening o) = at_most_below o.tables.plain.numbering.last o.tables.plain.cases o.sound.most
 numbers_below (Turn e past) = below_change (alone_at past e) (last past) (numbers past) (numbers_below past)
 
-map_below : (f g : ℕ → Case) (k : ℕ) → ((q : ℕ) → q ≤ k → g q ≡ f q) → (ns : List ℕ) → Below k ns → map g ns ≡ map f ns
+pub map_below : (f g : ℕ → Case) (k : ℕ) → ((q : ℕ) → q ≤ k → g q ≡ f q) → (ns : List ℕ) → Below k ns → map g ns ≡ map f ns
 map_below f g k same [] b = refl
 map_below f g k same (n ∷ ns) b = ap (λ c. c ∷ map g ns) (same n b.0) ∙ ap (λ cs. f n ∷ cs) (map_below f g k same ns b.1)
 
-below_in : (past : Past Opened) (k q : ℕ) (ns : List ℕ) → Below k ns → is_there q (map (case_of past) ns) ≡ true → q ≤ k
+pub below_in : (past : Past Opened) (k q : ℕ) (ns : List ℕ) → Below k ns → is_there q (map (case_of past) ns) ≡ true → q ≤ k
 below_in past k q [] b e = absurd (grind (arith, e))
 below_in past k q (n ∷ ns) b e = grind (arith, nat_tests, below_in past k q ns b.1, b.0, e)
 
-below_there : (past : Past Opened) (time q : ℕ) → is_there q (live_reports past time) ≡ true → q ≤ last past
+pub below_there : (past : Past Opened) (time q : ℕ) → is_there q (live_reports past time) ≡ true → q ≤ last past
 below_there past time q e = below_in past (last past) q (numbers past) (numbers_below past) (there_before (is_live (registry past).settings time) q (map (case_of past) (numbers past)) e)
 
 -- the report of a number after a change
 abbrev pub case_after : Past Opened → ℕ → Change → ℕ → Case
 case_after past time ch q = record { number = q; trail = grown ch (last past) q (live past q time) (trail past q) }
 
-opens_same : (past : Past Opened) (time q : ℕ) (e : Entry) → q ≤ last past → case_after past time (Opens e) q ≡ case_of past q
+pub opens_same : (past : Past Opened) (time q : ℕ) (e : Entry) → q ≤ last past → case_after past time (Begins e) q ≡ case_of past q
 opens_same past time q e le = same_case q _ _ (grind (arith, nat_tests))
 
-opens_last : (past : Past Opened) (time : ℕ) (e : Entry) → ((n : ℕ) → is_live (registry past).settings time (record { number = n; trail = e ∷ [] }) ≡ true) → filter (is_live (registry past).settings time) (case_after past time (Opens e) (last past + 1) ∷ []) ≡ record { number = last past + 1; trail = e ∷ [] } ∷ []
+pub opens_last : (past : Past Opened) (time : ℕ) (e : Entry) → ((n : ℕ) → is_live (registry past).settings time (record { number = n; trail = e ∷ [] }) ≡ true) → filter (is_live (registry past).settings time) (case_after past time (Begins e) (last past + 1) ∷ []) ≡ record { number = last past + 1; trail = e ∷ [] } ∷ []
 opens_last past time e lives =
-    let new : case_after past time (Opens e) (last past + 1) ≡ record { number = last past + 1; trail = e ∷ [] } = same_case (last past + 1) _ _ (ap (λ b. cond b (e ∷ []) (trail past (last past + 1))) (same_number (last past + 1) (last past + 1) refl)) in
+    let new : case_after past time (Begins e) (last past + 1) ≡ record { number = last past + 1; trail = e ∷ [] } = same_case (last past + 1) _ _ (ap (λ b. cond b (e ∷ []) (trail past (last past + 1))) (same_number (last past + 1) (last past + 1) refl)) in
     ap (λ c. filter (is_live (registry past).settings time) (c ∷ [])) new
     ∙ ap (λ b. cond b (record { number = last past + 1; trail = e ∷ [] } ∷ []) []) (lives (last past + 1))
 
-noted_here : (past : Past Opened) (time n q : ℕ) (e : Entry) → n ≡ q → live past q time ≡ true → case_after past time (Notes n e) q ≡ record { number = q; trail = trail past q ++ e ∷ [] }
+pub noted_here : (past : Past Opened) (time n q : ℕ) (e : Entry) → n ≡ q → live past q time ≡ true → case_after past time (Notes n e) q ≡ record { number = q; trail = trail past q ++ e ∷ [] }
 noted_here past time n q e here lives = same_case q _ _ (ap (λ b. cond (b && live past q time) (trail past q ++ e ∷ []) (trail past q)) (same_number n q here) ∙ ap (λ b. cond b (trail past q ++ e ∷ []) (trail past q)) lives)
 
-noted_away : (past : Past Opened) (time n q : ℕ) (e : Entry) → n ≢ q → case_after past time (Notes n e) q ≡ case_of past q
+pub noted_away : (past : Past Opened) (time n q : ℕ) (e : Entry) → n ≢ q → case_after past time (Notes n e) q ≡ case_of past q
 noted_away past time n q e ne = same_case q _ _ (ap (λ b. cond (b && live past q time) (trail past q ++ e ∷ []) (trail past q)) (other_number n q ne))
 
-note_case : (n q : ℕ) (e : Entry) (t : List Entry) → n ≡ q → ◌≡◌ {A = Case} (record { number = q; trail = t ++ e ∷ [] }) (noted n e (record { number = q; trail = t }))
+pub note_case : (n q : ℕ) (e : Entry) (t : List Entry) → n ≡ q → ◌≡◌ {A = Case} (record { number = q; trail = t ++ e ∷ [] }) (noted n e (record { number = q; trail = t }))
 note_case n q e t here = same_case q _ _ (ap (λ b. cond b (t ++ e ∷ []) t) (sym (same_number q n (sym here))))
 
-away_case : (n q : ℕ) (e : Entry) (t : List Entry) → n ≢ q → ◌≡◌ {A = Case} (record { number = q; trail = t }) (noted n e (record { number = q; trail = t }))
+pub away_case : (n q : ℕ) (e : Entry) (t : List Entry) → n ≢ q → ◌≡◌ {A = Case} (record { number = q; trail = t }) (noted n e (record { number = q; trail = t }))
 away_case n q e t ne = same_case q _ _ (ap (λ b. cond b (t ++ e ∷ []) t) (sym (other_number q n (λ k. ne (sym k)))))
 
-note_on : (past : Past Opened) (time n q : ℕ) (e : Entry) → ((k : ℕ) (t : List Entry) → lives_at (registry past) time k t ≡ true → lives_at (registry past) time k (t ++ e ∷ []) ≡ true) → (n ≡ q) ⊎ (n ≢ q) → live past q time ≡ true
+pub note_on : (past : Past Opened) (time n q : ℕ) (e : Entry) → ((k : ℕ) (t : List Entry) → lives_at (registry past) time k t ≡ true → lives_at (registry past) time k (t ++ e ∷ []) ≡ true) → (n ≡ q) ⊎ (n ≢ q) → live past q time ≡ true
     → (is_live (registry past).settings time (case_after past time (Notes n e) q) ≡ true) × (case_after past time (Notes n e) q ≡ noted n e (case_of past q))
 note_on past time n q e leaves (inl here) lives =
     (ap (is_live (registry past).settings time) (noted_here past time n q e here lives) ∙ leaves q (trail past q) lives, noted_here past time n q e here lives ∙ note_case n q e (trail past q) here)
 note_on past time n q e leaves (inr ne) lives =
     (ap (is_live (registry past).settings time) (noted_away past time n q e ne) ∙ lives, noted_away past time n q e ne ∙ away_case n q e (trail past q) ne)
 
-and_false : (b : Bool) → (b && false) ≡ false
+pub and_false : (b : Bool) → (b && false) ≡ false
 and_false true = refl
 and_false false = refl
 
-note_out : (past : Past Opened) (time n q : ℕ) (e : Entry) → live past q time ≡ false → is_live (registry past).settings time (case_after past time (Notes n e) q) ≡ false
+pub note_out : (past : Past Opened) (time n q : ℕ) (e : Entry) → live past q time ≡ false → is_live (registry past).settings time (case_after past time (Notes n e) q) ≡ false
 note_out past time n q e out =
     ap (λ b. is_live (registry past).settings time (record { number = q; trail = cond (eqb n q && b) (trail past q ++ e ∷ []) (trail past q) })) out
     ∙ (ap (λ b. is_live (registry past).settings time (record { number = q; trail = cond b (trail past q ++ e ∷ []) (trail past q) })) (and_false (eqb n q)) ∙ out)
@@ -149,8 +177,8 @@ note_out past time n q e out =
 -- the live reports after a change that fits
 pub cases_law : (past : Past Opened) (at : At) (ch : Change) → Fits at (plain past at.time) ch
     → filter (is_live (registry past).settings at.time) (map (case_after past at.time ch) (numbers_after ch (last past) (numbers past))) ≡ cases_after ch (last past) (live_reports past at.time)
-cases_law past at (Opens e) fits =
-    let g : ℕ → Case = case_after past at.time (Opens e) in
+cases_law past at (Begins e) fits =
+    let g : ℕ → Case = case_after past at.time (Begins e) in
     let p : Case → Bool = is_live (registry past).settings at.time in
     ap (filter p) (map-append g (numbers past) ((last past + 1) ∷ []))
     ∙ (filter-append p (map g (numbers past)) (g (last past + 1) ∷ [])
@@ -162,37 +190,24 @@ cases_law past at _ fits = refl
 
 -- ---- the sessions after a change
 
-there_push : (q : ℕ) (cs : List Case) (c : Case) → is_there q cs ≡ true → is_there q (cs ++ c ∷ []) ≡ true
-there_push q [] c e = absurd (grind (arith, e))
-there_push q (d ∷ cs) c e = grind (arith, there_push q cs c, e)
+pub pushed : (q : ℕ) (cs : List Case) (c : Case) → is_there q (cs ++ c ∷ []) ≡ (is_there q cs || eqb c.number q)
+pushed q [] c = grind arith
+pushed q (d ∷ cs) c = grind (arith, pushed q cs c)
 
-there_noted : (q n : ℕ) (e : Entry) (cs : List Case) → is_there q (map (noted n e) cs) ≡ is_there q cs
+pub there_noted : (q n : ℕ) (e : Entry) (cs : List Case) → is_there q (map (noted n e) cs) ≡ is_there q cs
 there_noted q n e [] = refl
 there_noted q n e (c ∷ cs) = grind (arith, there_noted q n e cs)
 
-there_after : (ch : Change) (k q : ℕ) (cs : List Case) → is_there q cs ≡ true → is_there q (cases_after ch k cs) ≡ true
-there_after (Opens e) k q cs h = there_push q cs (record { number = k + 1; trail = e ∷ [] }) h
-there_after (Notes n e) k q cs h = there_noted q n e cs ∙ h
-there_after _ k q cs h = h
-
-filter_weaker : {X : Type 0} (p q : X → Bool) (xs : List X) → ((x : X) → q x ≡ true → p x ≡ true) → filter p (filter q xs) ≡ filter q xs
-filter_weaker p q [] up = refl
-filter_weaker p q (x ∷ xs) up = grind (arith, up x, filter_weaker p q xs up)
-
--- sessions that stand before a change stand after it
-pub sessions_law : (at : At) (p : Plain) (ch : Change) (k : ℕ) (ss : List Session) → filter (lasts at.time (cases_after ch k p.cases)) (filter (lasts at.time p.cases) ss) ≡ filter (lasts at.time p.cases) ss
-sessions_law at p ch k ss = filter_weaker (lasts at.time (cases_after ch k p.cases)) (lasts at.time p.cases) ss (λ s e. lasts_more at.time at.time p.cases (cases_after ch k p.cases) s (omega arith) (λ q h. there_after ch k q p.cases h) e)
-
 -- ---- the identity answers after a change
 
-opens_sealed : (k q : ℕ) (there : Bool) (secret before : Option Answered) (sealed : Sealed) → (there ≡ true → q ≤ k) → sealed q ≡ cond there before None
+pub opens_sealed : (k q : ℕ) (there : Bool) (secret before : Option Answered) (sealed : Sealed) → (there ≡ true → q ≤ k) → sealed q ≡ cond there before None
     → cond (there || eqb (k + 1) q) (cond (eqb (k + 1) q) secret before) None ≡ sealed_under (k + 1) secret sealed q
 opens_sealed k q true None before sealed le is = let at_most : q ≤ k = le refl in grind (arith, nat_tests, is, at_most)
 opens_sealed k q false None before sealed le is = grind (arith, nat_tests, is)
 opens_sealed k q true (Some z) before sealed le is = let at_most : q ≤ k = le refl in grind (arith, nat_tests, is, at_most)
 opens_sealed k q false (Some z) before sealed le is = grind (arith, nat_tests, is)
 
-notes_sealed : (n q : ℕ) (there lives : Bool) (secret before : Option Answered) (sealed : Sealed) → (n ≡ q → there ≡ true) → (there ≡ true → lives ≡ true) → sealed q ≡ cond there before None
+pub notes_sealed : (n q : ℕ) (there lives : Bool) (secret before : Option Answered) (sealed : Sealed) → (n ≡ q → there ≡ true) → (there ≡ true → lives ≡ true) → sealed q ≡ cond there before None
     → cond there (cond (eqb n q && lives) (newer secret before) before) None ≡ sealed_under n secret sealed q
 notes_sealed n q true false secret before sealed here up is = absurd (let bad : false ≡ true = up refl in grind (arith, bad))
 notes_sealed n q true true None before sealed here up is = grind (arith, nat_tests, is)
@@ -200,11 +215,7 @@ notes_sealed n q true true (Some z) before sealed here up is = grind (arith, nat
 notes_sealed n q false lives None before sealed here up is = grind (arith, nat_tests, is)
 notes_sealed n q false lives (Some z) before sealed here up is = let ne : n ≢ q = λ e. (let bad : false ≡ true = here e in grind (arith, bad)) in grind (arith, nat_tests, is, ne)
 
-pushed : (q : ℕ) (cs : List Case) (c : Case) → is_there q (cs ++ c ∷ []) ≡ (is_there q cs || eqb c.number q)
-pushed q [] c = grind arith
-pushed q (d ∷ cs) c = grind (arith, pushed q cs c)
-
-there_live : (past : Past Opened) (time q : ℕ) (ns : List ℕ) → is_there q (filter (is_live (registry past).settings time) (map (case_of past) ns)) ≡ true → live past q time ≡ true
+pub there_live : (past : Past Opened) (time q : ℕ) (ns : List ℕ) → is_there q (filter (is_live (registry past).settings time) (map (case_of past) ns)) ≡ true → live past q time ≡ true
 there_live past time q [] e = absurd (grind (arith, e))
 there_live past time q (n ∷ ns) e = by (live past n time) (decide n q) refl e (there_live past time q ns)
   where
@@ -216,8 +227,8 @@ there_live past time q (n ∷ ns) e = by (live past n time) (decide n q) refl e 
 
 pub sealed_law : (past : Past Opened) (at : At) (ch : Change) (secret : Option Answered) (q : ℕ) → Fits at (plain past at.time) ch
     → cond (is_there q (cases_after ch (last past) (live_reports past at.time))) (given ch (last past) q (live past q at.time) secret (sealed past q)) None ≡ sealed_after ch (last past) secret (tables past at.time).sealed q
-sealed_law past at (Opens e) secret q fits =
-    ap (λ b. cond b (given (Opens e) (last past) q (live past q at.time) secret (sealed past q)) None) (pushed q (live_reports past at.time) (record { number = last past + 1; trail = e ∷ [] }))
+sealed_law past at (Begins e) secret q fits =
+    ap (λ b. cond b (given (Begins e) (last past) q (live past q at.time) secret (sealed past q)) None) (pushed q (live_reports past at.time) (record { number = last past + 1; trail = e ∷ [] }))
     ∙ opens_sealed (last past) q (is_there q (live_reports past at.time)) secret (sealed past q) (tables past at.time).sealed (below_there past at.time q) refl
 sealed_law past at (Notes n e) secret q fits =
     ap (λ b. cond b (given (Notes n e) (last past) q (live past q at.time) secret (sealed past q)) None) (there_noted q n e (live_reports past at.time))

@@ -1,26 +1,31 @@
 -- The report that an accepted command was on follows from the command and its caller.
 use Rattle.std.proofs.Common.{◌≡◌, ℕ, Bool, true, false, cond, eqb, List, Option, Some, None, refl, sym, ap, ◌∙◌, subst, arith, option_map}
+use Rattle.std.specs.Prelude.{◌&&◌}
 use Rattle.std.proofs.lemmas.Bool.Decides.{nat_tests}
 use Rattle.wb_base.specs.declared.callers.Presented.{Presented}
 use Rattle.wb_base.specs.declared.callers.Role.{Role}
 use Rattle.wb_base.specs.declared.callers.Principal.{Principal}
 use Rattle.wb_base.specs.declared.callers.Principal.TheVariants as principals
+use Rattle.wb_base.specs.declared.words.Salt.{Salt}
 use Rattle.wb_model.specs.declared.body.Told.{Told}
+use Rattle.wb_base.specs.Secrets.{digest}
 use Rattle.wb_model.specs.declared.command.Command.{Command}
 use Rattle.wb_model.specs.declared.command.Command.TheVariants as commands
 use Rattle.wb_model.specs.declared.registry.UserItem.{UserItem}
-use Rattle.wb_model.specs.Refusals.{not_found, wrong_role, wrong_right}
-use Rattle.wb_model.specs.Tables.{Plain, Case, Session, Who, TheUser, TheReporter, user, report, has_number, session}
-use Rattle.wb_model.specs.Targets.{Need, Anyone, Any_session, Own, Staff, Names, need, Target, Nobody, Alone, On, finds, has_right, same_role, named_case, user_target, own_case, reporter_target, some_user_target, who_target, session_target, needed_target, target}
+use Rattle.wb_model.specs.Refusals.{not_found, wrong_role, wrong_right, bad_login}
+use Rattle.wb_model.specs.Tables.{Plain, Case, Session, Who, TheUser, TheReporter, user, user_named, report, has_number, with_receipt, session, same_digest}
+use Rattle.wb_model.specs.Targets.{Target, Nobody, Alone, On, finds, same_role, named_case, user_target, own_case, reporter_target, some_user_target, who_target, session_target, entering, returning, unasked, needed_target, target}
+use Rattle.wb_model.specs.Commands.{Need, Anyone, Any_session, Own, Staff, Names, need, has_right}
 use Rattle.wb_model.specs.Requests.{outline}
-use Rattle.wb_model.specs.Past.{named, place_of, principal, who_of}
+use Rattle.wb_model.specs.Past.{named, report_of, who_of}
+use Rattle.wb_model.specs.PastTurns.{principal}
 use Rattle.wb_model.proofs.Found.{find_true}
 
 -- the place of a command by a caller of tenant t is that of its target
 abbrev pub IsPlaced : ℕ → Command → Target → Type 0
 IsPlaced t d (Nobody x) = Unit {0}
-IsPlaced t d (Alone who) = place_of d (option_map (principal t) who) ≡ None
-IsPlaced t d (On who c) = place_of d (Some (principal t who)) ≡ Some c.number
+IsPlaced t d (Alone who) = report_of d (option_map (principal t) who) ≡ None
+IsPlaced t d (On who c) = report_of d (Some (principal t who)) ≡ Some c.number
 
 report_number : (n : ℕ) (cs : List Case) (c : Case) → report n cs ≡ Some c → c.number ≡ n
 report_number n cs c e = let k : eqb c.number n ≡ true = find_true (has_number n) cs c e in grind (arith, nat_tests, k)
@@ -66,8 +71,25 @@ session_placed : (t : ℕ) (d : Command) (p : Plain) (k : Need) (o : Option Sess
 session_placed t d p k None e = tt
 session_placed t d p k (Some s) e = who_placed t d p s.role k s.who e
 
+entering_placed : (t : ℕ) (d : Command) (b : Bool) (u : ℕ) → named (need d) ≡ None → IsPlaced t d (cond b (Alone (Some (TheUser u))) (Nobody bad_login))
+entering_placed t d true u e = e
+entering_placed t d false u e = tt
+
+user_entering : (t : ℕ) (d : Command) (salt : Salt) (password : List ℕ) (o : Option UserItem) → named (need d) ≡ None → IsPlaced t d (entering salt password o)
+user_entering t d salt password None e = tt
+user_entering t d salt password (Some x) e = entering_placed t d (x.enabled && same_digest x.secret (digest salt password)) x.id e
+
+returning_placed : (t : ℕ) (d : Command) (o : Option Case) → IsPlaced t d (returning o)
+returning_placed t d None = tt
+returning_placed t d (Some c) = refl
+
+unasked_placed : (t : ℕ) (p : Plain) (d : Command) → IsPlaced t d (unasked p d)
+unasked_placed t p (commands.Login k name password) = user_entering t (commands.Login k name password) p.registry.settings.salt password (user_named name p.registry.users) refl
+unasked_placed t p (commands.ReceiptLogin k receipt) = returning_placed t (commands.ReceiptLogin k receipt) (with_receipt (digest p.registry.settings.salt receipt) p.cases)
+unasked_placed t p _ = refl
+
 needed_placed : (t : ℕ) (p : Plain) (presented : Presented) (d : Command) (k : Need) → need d ≡ k → IsPlaced t d (needed_target p presented d k)
-needed_placed t p presented d Anyone e = refl
+needed_placed t p presented d Anyone e = unasked_placed t p d
 needed_placed t p presented d Any_session e = session_placed t d p Any_session (session p.registry.settings.salt presented p.sessions) e
 needed_placed t p presented d Own e = session_placed t d p Own (session p.registry.settings.salt presented p.sessions) e
 needed_placed t p presented d (Staff role) e = session_placed t d p (Staff role) (session p.registry.settings.salt presented p.sessions) e
@@ -78,17 +100,17 @@ same_need (commands.Submit t c answers) = refl
 same_need (commands.GiveIdentity t answers) = refl
 same_need _ = refl
 
-outlined : (d : Command) (by : Option Principal) → place_of (outline d) by ≡ place_of d by
+outlined : (d : Command) (by : Option Principal) → report_of (outline d) by ≡ report_of d by
 outlined d None = refl
 outlined d (Some (principals.User t u)) = ap named (same_need d)
 outlined d (Some (principals.Report t n)) = refl
 
 -- on no report
-pub alone_placed : (t : ℕ) (p : Plain) (presented : Presented) (d : Command) (who : Option Who) → target p presented (outline d) ≡ Alone who → place_of d (option_map (principal t) who) ≡ None
+pub alone_placed : (t : ℕ) (p : Plain) (presented : Presented) (d : Command) (who : Option Who) → target p presented (outline d) ≡ Alone who → report_of d (option_map (principal t) who) ≡ None
 alone_placed t p presented d who e = sym (outlined d (option_map (principal t) who)) ∙ subst (IsPlaced t (outline d)) e (needed_placed t p presented (outline d) (need (outline d)) refl)
 
 -- on a report
-pub on_placed : (t : ℕ) (p : Plain) (presented : Presented) (d : Command) (who : Who) (c : Case) → target p presented (outline d) ≡ On who c → place_of d (Some (principal t who)) ≡ Some c.number
+pub on_placed : (t : ℕ) (p : Plain) (presented : Presented) (d : Command) (who : Who) (c : Case) → target p presented (outline d) ≡ On who c → report_of d (Some (principal t who)) ≡ Some c.number
 on_placed t p presented d who c e = sym (outlined d (Some (principal t who))) ∙ subst (IsPlaced t (outline d)) e (needed_placed t p presented (outline d) (need (outline d)) refl)
 
 pub who_principal : (t : ℕ) (who : Who) → who_of (principal t who) ≡ who

@@ -7,8 +7,8 @@ use Rattle.wb_model.specs.Tenants.{Hosts, hosts_reply, hosts_after, hosts_lost, 
 use Rattle.wb_model.specs.Past.{Past}
 use Rattle.wb_model.specs.Pasts.{AllOpened, standing_hosts, reply_in, with_turn}
 use Rattle.wb_model.specs.Readings.{Reading, Asks, Refuses}
-use Rattle.wb_model.specs.Scripts.{Loss, NotLost, ByKeeper, ByMemory, Unread, Place, Reply, Played, frame_of, replying, play_asked, play_by, play, answers}
-use Rattle.wb_model.specs.ScriptsAlike.{AskAlike, PlaceAlike, AllPlacesAlike, is_accepted, FollowAlike, PlacesAlike, reader_by, hidden_answers}
+use Rattle.wb_model.specs.Scripts.{Loss, NotLost, ByKeeper, ByMemory, Unread, Place, Reply, Played, frame_of, replying, play_asked, play_by, play, script_replies, past_after}
+use Rattle.wb_model.specs.ScriptsAlike.{AskAlike, PlaceAlike, AllPlacesAlike, is_accepted, FollowWhere, PlacesAlike, reader_by, hidden_replies}
 use Rattle.wb_model.proofs.AllTenants.{later_reply, later_hosts, later_moment, first_reply, first_hosts, same_alike}
 use Rattle.wb_model.proofs.PartLaw.{reply_in_law, turn_in_law}
 
@@ -86,31 +86,47 @@ hide : (b : Bool) (x y : Reply) → (b ≡ false → x ≡ y) → cond b None (S
 hide true x y h = refl
 hide false x y h = ap Some (h refl)
 
-later_answers : (t r : ℕ) (past other : Past AllOpened) (ps qs : List Place) → PastsAlike t r past other → AllPlacesAlike t r past ps qs → hidden_answers t r past ps (answers past ps) ≡ hidden_answers t r past ps (answers other qs)
+later_answers : (t r : ℕ) (past other : Past AllOpened) (ps qs : List Place) → PastsAlike t r past other → AllPlacesAlike t r past ps qs → hidden_replies t r past ps (script_replies past ps) ≡ hidden_replies t r past ps (script_replies other qs)
 later_answers t r past other [] [] al l = refl
 later_answers t r past other [] (q ∷ qs) al l = absurd l
 later_answers t r past other (p ∷ ps) [] al l = absurd l
 later_answers t r past other (p ∷ ps) (q ∷ qs) al l =
     let first = later_place t r past other p q al l.0 in
-    ap (λ o. o ∷ hidden_answers t r (play past p).past ps (answers (play past p).past ps)) (hide (reader_by t r past p p.reading) _ _ first.reply)
+    ap (λ o. o ∷ hidden_replies t r (play past p).past ps (script_replies (play past p).past ps)) (hide (reader_by t r past p p.reading) _ _ first.reply)
     ∙ ap (λ os. cond (reader_by t r past p p.reading) None (Some (play other q).reply) ∷ os) (later_answers t r (play past p).past (play other q).past ps qs first.pasts l.1)
 
 all_same : (t r : ℕ) (past : Past AllOpened) (ps : List Place) → AllPlacesAlike t r past ps ps
 all_same t r past [] = tt
 all_same t r past (p ∷ ps) = (inl refl, all_same t r (play past p).past ps)
 
-following : (b : Bool) (t r : ℕ) (past : Past AllOpened) (ps qs : List Place) → FollowAlike b t r past ps qs → AllPlacesAlike t r past ps qs
+following : (b : Bool) (t r : ℕ) (past : Past AllOpened) (ps qs : List Place) → FollowWhere b t r past ps qs → AllPlacesAlike t r past ps qs
 following true t r past ps qs l = l
 following false t r past ps qs e = subst (AllPlacesAlike t r past ps) e (all_same t r past ps)
 
-pub alike_answers : (i t r : ℕ) (past : Past AllOpened) (ps qs : List Place) → PlacesAlike i t r past ps qs → hidden_answers t r past ps (answers past ps) ≡ hidden_answers t r past ps (answers past qs)
+pub alike_answers : (i t r : ℕ) (past : Past AllOpened) (ps qs : List Place) → PlacesAlike i t r past ps qs → hidden_replies t r past ps (script_replies past ps) ≡ hidden_replies t r past ps (script_replies past qs)
 alike_answers i t r past [] qs l = absurd l
 alike_answers i t r past (p ∷ ps) [] l = absurd l
 alike_answers zero t r past (p ∷ ps) (q ∷ qs) l =
     let first = ask_alike t r past past p q (FirstAlike t r (standing_hosts past)) (same_alike t r (standing_hosts past)) l.0 (first_turn t r past) in
-    ap (λ o. o ∷ hidden_answers t r (play past p).past ps (answers (play past p).past ps)) (hide (reader_by t r past p p.reading) _ _ first.reply)
+    ap (λ o. o ∷ hidden_replies t r (play past p).past ps (script_replies (play past p).past ps)) (hide (reader_by t r past p p.reading) _ _ first.reply)
     ∙ ap (λ os. cond (reader_by t r past p p.reading) None (Some (play past q).reply) ∷ os)
     (later_answers t r (play past p).past (play past q).past ps qs first.pasts (following (is_accepted past p p.reading) t r (play past p).past ps qs l.1))
 alike_answers (suc i) t r past (p ∷ ps) (q ∷ qs) l =
-    subst (λ x. hidden_answers t r past (p ∷ ps) (answers past (p ∷ ps)) ≡ hidden_answers t r past (p ∷ ps) (answers past (x ∷ qs))) l.0
+    subst (λ x. hidden_replies t r past (p ∷ ps) (script_replies past (p ∷ ps)) ≡ hidden_replies t r past (p ∷ ps) (script_replies past (x ∷ qs))) l.0
     (ap (λ os. cond (reader_by t r past p p.reading) None (Some (play past p).reply) ∷ os) (alike_answers i t r (play past p).past ps qs l.1))
+
+-- the hosts at the end are alike
+
+later_end : (t r : ℕ) (past other : Past AllOpened) (ps qs : List Place) → PastsAlike t r past other → AllPlacesAlike t r past ps qs → PastsAlike t r (past_after past ps) (past_after other qs)
+later_end t r past other [] [] al l = al
+later_end t r past other [] (q ∷ qs) al l = absurd l
+later_end t r past other (p ∷ ps) [] al l = absurd l
+later_end t r past other (p ∷ ps) (q ∷ qs) al l = later_end t r (play past p).past (play other q).past ps qs (later_place t r past other p q al l.0).pasts l.1
+
+pub alike_hosts : (i t r : ℕ) (past : Past AllOpened) (ps qs : List Place) → PlacesAlike i t r past ps qs → PastsAlike t r (past_after past ps) (past_after past qs)
+alike_hosts i t r past [] qs l = absurd l
+alike_hosts i t r past (p ∷ ps) [] l = absurd l
+alike_hosts zero t r past (p ∷ ps) (q ∷ qs) l =
+    let first = ask_alike t r past past p q (FirstAlike t r (standing_hosts past)) (same_alike t r (standing_hosts past)) l.0 (first_turn t r past) in
+    later_end t r (play past p).past (play past q).past ps qs first.pasts (following (is_accepted past p p.reading) t r (play past p).past ps qs l.1)
+alike_hosts (suc i) t r past (p ∷ ps) (q ∷ qs) l = subst (λ x. PastsAlike t r (past_after past (p ∷ ps)) (past_after past (x ∷ qs))) l.0 (alike_hosts i t r (play past p).past ps qs l.1)

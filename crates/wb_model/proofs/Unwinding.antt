@@ -1,6 +1,11 @@
 -- One turn keeps hosts alike, and its reply is the same but to a reader.
-use Rattle.std.proofs.Common.{◌≡◌, ◌≢◌, ◌⊎◌, inl, inr, ℕ, ◌+◌, Bool, true, false, cond, eqb, [], Option, Some, None, refl, sym, ap, ◌∙◌, subst, arith}
-use Rattle.std.specs.Prelude.{filter, max}
+use Rattle.std.proofs.Common.{◌≡◌, ◌≢◌, ◌⊎◌, inl, inr, ℕ, ◌+◌, Bool, true, false, cond, eqb, not, List, [], Option, Some, None, refl, sym, ap, ◌∙◌, subst, arith}
+use Rattle.std.specs.Prelude.{unwrap_or, filter, max, ◌&&◌}
+use Rattle.wb_model.specs.Refusals.{not_found}
+use Rattle.wb_model.specs.Refusing.{refuses_where}
+use Rattle.wb_base.specs.declared.callers.Presented.{Presented}
+use Rattle.wb_model.specs.declared.entry.Entry.{Entry}
+use Rattle.wb_model.specs.OnReports.{has_grant}
 use Rattle.std.proofs.lemmas.Bool.Decides.{nat_tests}
 use Rattle.wb_base.specs.declared.faults.AnswerFault.{AnswerFault}
 use Rattle.wb_base.specs.AnswerList.{Answered}
@@ -13,8 +18,12 @@ use Rattle.wb_model.specs.Trails as trails
 use Rattle.wb_model.specs.Tables.{Registry, Plain, Case, Who, TheReporter, is_there, lasts, context}
 use Rattle.wb_model.specs.Targets.{Target, Nobody, Alone, On, target, trail_at}
 use Rattle.wb_model.specs.Requests.{Frame, Outcome, Checked, Request, outline, outcome, asking_form, form_of_trail, submission_outcome, identity_outcome, submission_fault, late_fault, public, mark, plain_part, sealed_part}
-use Rattle.wb_model.specs.Rules.{At, Change, Opens, Notes, Act, Looks, Writes, acted, Deal, Passes, Submits, dealt, deal_of, act_of, Answer, Says, Shows_own, Shows_identity, Verdict, Refused, Accepted, judged, refusal_on, answer_on, answer_alone, verdict, verdict_on}
-use Rattle.wb_model.specs.Host.{Sealed, Tables, Host, live_cases, purged, plain_after, sealed_under, sealed_after, changed, change_by, reply_by, at_frame, time_at, purge_at, ruling_at, reply_to, tables_after, host_after}
+use Rattle.wb_model.specs.Changes.{At, Change, Begins, Notes, Answer, Says, Shows_own, Shows_identity, Verdict, Refused, Accepted, judged}
+use Rattle.wb_model.specs.Rules.{change_alone, answer_alone, effect_at, verdict, verdict_on}
+use Rattle.wb_model.specs.OnReports.{refusal_on, change_on, answer_on}
+use Rattle.wb_model.specs.Effects.{Effect, Looks, Writes, Submits, Sets, effect_of}
+use Rattle.wb_model.proofs.Effects.{share_is, transfer_is, decide_is, comes_is, goes_is, in_open_is, identity_is, set_is}
+use Rattle.wb_model.specs.Host.{Sealed, Tables, Host, live_cases, purged, plain_after, sealed_under, sealed_after, changed, change_of, reply_by, at_frame, time_at, purge_at, ruling_at, reply_to, tables_after, host_after}
 use Rattle.wb_model.specs.Alike.{TablesAlike, HostsAlike, may_see, is_reader, FramesAlike, SubmissionsAlike, IdentitiesAlike, LaterAlike}
 
 -- ---- the purge
@@ -45,20 +54,39 @@ judged_shows : (r : ℕ) (o : Option Told) (ch : Change) (a : Answer) → (o ≡
 judged_shows r None ch a h = h refl
 judged_shows r (Some x) ch a h = refl
 
-on_shows : (r : ℕ) (at : At) (g : Registry) (who : Who) (c : Case) (o : Outcome) (d : Command) → may_see r at.time g (On who c) d ≡ false → refusal_on o (outline d) ≡ None → answer_shows r (answer_on at g who c (outline d)) ≡ false
-on_shows r at g who c o (commands.ReadReport t n) e accepted = refl
-on_shows r at g who c o _ e accepted = refl
+granted_shows : (here grant : Bool) (x : Told) → (here && grant) ≡ false → refuses_where (not grant) x ≡ None → here ≡ false
+granted_shows here true x e accepted = grind (arith, e)
+granted_shows here false x e accepted = absurd (grind (arith, accepted))
 
-alone_shows : (r : ℕ) (at : At) (p : Plain) (d : Command) → answer_shows r (answer_alone at p d) ≡ false
-alone_shows r at p (commands.Submit t c answers) = refl
-alone_shows r at p _ = refl
+-- the answer on report c to what is done by an effect shows none of r's
+abbrev Hides : ℕ → At → Registry → Who → Case → Effect → Type 0
+Hides r at g who c e = answer_shows r (answer_on at g who c e) ≡ false
+
+on_shows : (r : ℕ) (at : At) (g : Registry) (who : Who) (c : Case) (o : Outcome) (s : Presented) (d : Command) → may_see r at.time g (On who c) d ≡ false → refusal_on at g who c o (effect_of at g (Some who) s c.trail (outline d)) ≡ None → Hides r at g who c (effect_of at g (Some who) s c.trail (outline d))
+on_shows r at g who c o s (commands.OwnReport t) e accepted = e
+on_shows r at g who c o s (commands.ReadIdentity t n) e accepted = granted_shows (eqb c.number r) (has_grant at.time g who c) not_found e accepted
+on_shows r at g who c o s (commands.ContextOf t k) e accepted = in_open_is (Hides r at g who c) _ k g refl (λ x y is form. refl)
+on_shows r at g who c o s (commands.Submit t k answers) e accepted = in_open_is (Hides r at g who c) Submits k g refl (λ x y is form. refl)
+on_shows r at g who c o s (commands.Login t name password) e accepted = comes_is (Hides r at g who c) (Some who) g.users refl (λ role. refl)
+on_shows r at g who c o s (commands.ReceiptLogin t receipt) e accepted = comes_is (Hides r at g who c) (Some who) g.users refl (λ role. refl)
+on_shows r at g who c o s (commands.Logout t) e accepted = goes_is (Hides r at g who c) s refl (λ turn. refl)
+on_shows r at g who c o s (commands.GiveIdentity t answers) e accepted = identity_is (Hides r at g who c) c.trail g refl refl
+on_shows r at g who c o s (commands.Share t n u) e accepted = share_is (Hides r at g who c) u g refl refl
+on_shows r at g who c o s (commands.Transfer t n k) e accepted = transfer_is (Hides r at g who c) k g refl (λ x is. refl)
+on_shows r at g who c o s (commands.Decide t n k decision reason withhold) e accepted = decide_is (Hides r at g who c) k g c.trail decision reason withhold refl (λ r y. refl)
+on_shows r at g who c o s _ e accepted = refl
+
+alone_shows : (r : ℕ) (at : At) (p : Plain) (who : Option Who) (e : Effect) → answer_shows r (answer_alone at p who e) ≡ false
+alone_shows r at p who (Looks view) = refl
+alone_shows r at p who _ = refl
 
 -- a verdict shows r's identity answers to its readers alone
 pub shows_to_readers : (r : ℕ) (p : Plain) (at : At) (q : Request) (d : Command) (t : Target) → q.command ≡ outline d → may_see r at.time p.registry t d ≡ false → shows r (verdict_on p at q t) ≡ false
 shows_to_readers r p at q d (Nobody x) is e = refl
-shows_to_readers r p at q d (Alone who) is e = judged_shows r _ _ _ (λ accepted. alone_shows r at p q.command)
+shows_to_readers r p at q d (Alone who) is e = judged_shows r _ _ _ (λ accepted. alone_shows r at p who (effect_at p at q who []))
 shows_to_readers r p at q d (On who c) is e =
-    judged_shows r _ _ _ (λ accepted. ap (λ x. answer_shows r (answer_on at p.registry who c x)) is ∙ on_shows r at p.registry who c q.outcome d e (ap (refusal_on q.outcome) (sym is) ∙ accepted))
+    judged_shows r _ _ _ (λ accepted. ap (λ x. answer_shows r (answer_on at p.registry who c (effect_of at p.registry (Some who) q.session c.trail x))) is
+    ∙ on_shows r at p.registry who c q.outcome q.session d e (ap (λ x. refusal_on at p.registry who c q.outcome (effect_of at p.registry (Some who) q.session c.trail x)) (sym is) ∙ accepted))
 
 off : (n r : ℕ) → eqb n r ≡ false → n ≢ r
 off n r e = grind (arith, nat_tests)
@@ -67,13 +95,13 @@ pub same_reply : (r : ℕ) (v : Verdict) (s t : Sealed) → ((n : ℕ) → n ≢
 same_reply r (Refused x) s t h e = refl
 same_reply r (Accepted change (Says x)) s t h e = refl
 same_reply r (Accepted change (Shows_own c)) s t h e = ap (λ o. told 200 (reporter_view c o)) (h c.number (off c.number r e))
-same_reply r (Accepted change (Shows_identity n)) s t h e = ap (λ o. told 200 (identity_view n o)) (h n (off n r e))
+same_reply r (Accepted change (Shows_identity n)) s t h e = ap (λ o. told 200 (identity_view n (unwrap_or o []))) (h n (off n r e))
 
 -- ---- the tables
 
 -- the number under which a change puts identity answers
 abbrev pub place : Change → ℕ → Option ℕ
-place (Opens e) last = Some (last + 1)
+place (Begins e) last = Some (last + 1)
 place (Notes n e) last = Some n
 place _ last = None
 
@@ -92,14 +120,14 @@ insert_here : (r : ℕ) (x y : Option Answered) (s t : Sealed) → ((q : ℕ) �
 insert_here r x y s t h q ne = insert_beside r x s q ne ∙ (h q ne ∙ sym (insert_beside r y t q ne))
 
 sealed_same : (r : ℕ) (c : Change) (x : Option Answered) (t u : Tables) → TablesAlike r t u → (q : ℕ) → q ≢ r → sealed_after c t.plain.numbering.last x t.sealed q ≡ sealed_after c u.plain.numbering.last x u.sealed q
-sealed_same r (Opens e) x t u h q ne = insert_same r (t.plain.numbering.last + 1) x t.sealed u.sealed h.others q ne ∙ ap (λ (p : Plain). sealed_under (p.numbering.last + 1) x u.sealed q) h.plain
+sealed_same r (Begins e) x t u h q ne = insert_same r (t.plain.numbering.last + 1) x t.sealed u.sealed h.others q ne ∙ ap (λ (p : Plain). sealed_under (p.numbering.last + 1) x u.sealed q) h.plain
 sealed_same r (Notes n e) x t u h q ne = insert_same r n x t.sealed u.sealed h.others q ne
 sealed_same r _ x t u h q ne = h.others q ne
 
 -- the same change, with other identity answers for r
 sealed_here : (r : ℕ) (c : Change) (x y : Option Answered) (t u : Tables) → TablesAlike r t u → ((q : ℕ) → place c t.plain.numbering.last ≡ Some q → q ≡ r) → (q : ℕ) → q ≢ r
     → sealed_after c t.plain.numbering.last x t.sealed q ≡ sealed_after c u.plain.numbering.last y u.sealed q
-sealed_here r (Opens e) x y t u h is q ne =
+sealed_here r (Begins e) x y t u h is q ne =
     let here : t.plain.numbering.last + 1 ≡ r = is (t.plain.numbering.last + 1) refl in
     ap (λ n. sealed_under n x t.sealed q) here ∙ (insert_here r x y t.sealed u.sealed h.others q ne ∙ ap (λ n. sealed_under n y u.sealed q) (sym here ∙ ap (λ (p : Plain). p.numbering.last + 1) h.plain))
 sealed_here r (Notes n e) x y t u h is q ne =
@@ -111,25 +139,25 @@ pub change_same : (r now : ℕ) (c : Change) (x y : Option Answered) (t u : Tabl
 change_same r now c x y t u h (inl e) = record { plain = ap (plain_after now c) h.plain; others = λ q ne. sealed_same r c x t u h q ne ∙ ap (λ z. sealed_after c u.plain.numbering.last z u.sealed q) e }
 change_same r now c x y t u h (inr e) = record { plain = ap (plain_after now c) h.plain; others = λ q ne. sealed_here r c x y t u h e q ne }
 
--- an act on n puts them under n, and a request on no report under the number that it draws
-pub acted_place : (n last q : ℕ) (act : Act) → place (acted n act) last ≡ Some q → q ≡ n
-acted_place n last q Looks is = absurd (cc)
-acted_place n last q (Writes e) is = cc
+-- what is done on n puts them under n, and a request on no report under the number that it draws
+pub on_places : (at : At) (g : Registry) (who : Who) (n : ℕ) (trail : List Entry) (last q : ℕ) (e : Effect) → place (change_on at g who n trail e) last ≡ Some q → q ≡ n
+on_places at g who n trail last q (Writes d) is = cc
+on_places at g who n trail last q _ is = absurd (cc)
 
-pub dealt_place : (last q : ℕ) (d : Deal) → place (dealt d) last ≡ Some q → q ≡ last + 1
-dealt_place last q Passes is = absurd (cc)
-dealt_place last q (Submits e) is = cc
+pub alone_places : (at : At) (g : Registry) (who : Option Who) (o : Outcome) (last q : ℕ) (e : Effect) → place (change_alone at g who o e) last ≡ Some q → q ≡ last + 1
+alone_places at g who o last q (Submits c form) is = cc
+alone_places at g who o last q (Sets t proposal) is = absurd (set_is (λ x. place x last ≡ Some q → ⊥) _ (λ e. cc) (λ x e f. cc) is)
+alone_places at g who o last q _ is = absurd (cc)
 
-pub judged_place : (last q : ℕ) (o : Option Told) (change : Change) (a : Answer) → place (change_by (judged o change a)) last ≡ Some q → place change last ≡ Some q
+pub judged_place : (last q : ℕ) (o : Option Told) (change : Change) (a : Answer) → place (change_of (judged o change a)) last ≡ Some q → place change last ≡ Some q
 judged_place last q None change a e = e
 judged_place last q (Some x) change a e = absurd (cc)
 
-on_place : (p : Plain) (at : At) (q : Request) (who : Who) (c : Case) (last k : ℕ) → place (change_by (verdict_on p at q (On who c))) last ≡ Some k → k ≡ c.number
-on_place p at q who c last k e = acted_place c.number last k (act_of at p.registry who c.trail q.command)
-    (judged_place last k (refusal_on q.outcome q.command) (acted c.number (act_of at p.registry who c.trail q.command)) (answer_on at p.registry who c q.command) e)
+on_place : (p : Plain) (at : At) (q : Request) (who : Who) (c : Case) (last k : ℕ) → place (change_of (verdict_on p at q (On who c))) last ≡ Some k → k ≡ c.number
+on_place p at q who c last k e = on_places at p.registry who c.number c.trail last k (effect_at p at q (Some who) c.trail) (judged_place last k _ _ _ e)
 
-alone_place : (p : Plain) (at : At) (q : Request) (who : Option Who) (last k : ℕ) → place (change_by (verdict_on p at q (Alone who))) last ≡ Some k → k ≡ last + 1
-alone_place p at q who last k e = dealt_place last k (deal_of at p.registry who q.outcome q.command) (judged_place last k _ _ _ e)
+alone_place : (p : Plain) (at : At) (q : Request) (who : Option Who) (last k : ℕ) → place (change_of (verdict_on p at q (Alone who))) last ≡ Some k → k ≡ last + 1
+alone_place p at q who last k e = alone_places at p.registry who q.outcome last k (effect_at p at q who []) (judged_place last k _ _ _ e)
 
 -- ---- one turn
 
@@ -160,7 +188,7 @@ turn_reply r h k a b al fr hid =
 
 -- the identity answers given are equal, or go to r
 abbrev Secrets : ℕ → Host → Frame → Frame → Type 0
-Secrets r h a b = (sealed_part (purge_at h a).plain a.asked ≡ sealed_part (purge_at h a).plain b.asked) ⊎ ((q : ℕ) → place (change_by (ruling_at h a)) h.tables.plain.numbering.last ≡ Some q → q ≡ r)
+Secrets r h a b = (sealed_part (purge_at h a).plain a.asked ≡ sealed_part (purge_at h a).plain b.asked) ⊎ ((q : ℕ) → place (change_of (ruling_at h a)) h.tables.plain.numbering.last ≡ Some q → q ≡ r)
 
 moved : (x y y' : Option Answered) (P : Type 0) → y ≡ y' → (x ≡ y) ⊎ P → (x ≡ y') ⊎ P
 moved x y y' P e (inl f) = inl (f ∙ e)
@@ -172,9 +200,9 @@ turn_host r h k a b al fr e = record {
   turns = ap (λ n. n + 1) al.turns;
   now = same_time r h k a b al fr.moment;
   tables =
-      subst (λ m. TablesAlike r (tables_after (purge_at h a) (at_frame h a) a.asked) (changed m (change_by (ruling_at k b)) (sealed_part (purge_at k b).plain b.asked) (purge_at k b))) (same_time r h k a b al fr.moment)
-      (subst (λ v. TablesAlike r (tables_after (purge_at h a) (at_frame h a) a.asked) (changed (time_at h a) (change_by v) (sealed_part (purge_at k b).plain b.asked) (purge_at k b))) (same_ruling r h k a b al fr)
-      (change_same r (time_at h a) (change_by (ruling_at h a)) _ _ _ _ (same_purge r h k a b al fr.moment)
+      subst (λ m. TablesAlike r (tables_after (purge_at h a) (at_frame h a) a.asked) (changed m (change_of (ruling_at k b)) (sealed_part (purge_at k b).plain b.asked) (purge_at k b))) (same_time r h k a b al fr.moment)
+      (subst (λ v. TablesAlike r (tables_after (purge_at h a) (at_frame h a) a.asked) (changed (time_at h a) (change_of v) (sealed_part (purge_at k b).plain b.asked) (purge_at k b))) (same_ruling r h k a b al fr)
+      (change_same r (time_at h a) (change_of (ruling_at h a)) _ _ _ _ (same_purge r h k a b al fr.moment)
       (moved _ _ _ _ (ap (λ p. sealed_part p b.asked) (same_purge r h k a b al fr.moment).plain) e)));
 }
 
@@ -234,11 +262,11 @@ later_frames r h a b (inr s) = identities_frames r _ a b s
 pub later_secrets : (r : ℕ) (h : Host) (a b : Frame) → LaterAlike r h a b → Secrets r h a b
 later_secrets r h a b (inl e) = inl (ap (λ (f : Frame). sealed_part (purge_at h a).plain f.asked) e)
 later_secrets r h a b (inr s) = inr (λ q is. on_place (purge_at h a).plain (at_frame h a) (plain_part (purge_at h a).plain a.asked) (TheReporter r) s.case h.tables.plain.numbering.last q
-    (ap (λ t. place (change_by (verdict_on (purge_at h a).plain (at_frame h a) (plain_part (purge_at h a).plain a.asked) t)) h.tables.plain.numbering.last) (sym (ap (λ c. target (purge_at h a).plain a.asked.session (outline c)) s.left ∙ s.by)) ∙ is) ∙ s.here)
+    (ap (λ t. place (change_of (verdict_on (purge_at h a).plain (at_frame h a) (plain_part (purge_at h a).plain a.asked) t)) h.tables.plain.numbering.last) (sym (ap (λ c. target (purge_at h a).plain a.asked.session (outline c)) s.left ∙ s.by)) ∙ is) ∙ s.here)
 
 pub submission_secrets : (r : ℕ) (h : Host) (a b : Frame) → r ≡ h.tables.plain.numbering.last + 1 → SubmissionsAlike (purge_at h a).plain a b → Secrets r h a b
 submission_secrets r h a b new s = inr (λ q is. alone_place (purge_at h a).plain (at_frame h a) (plain_part (purge_at h a).plain a.asked) None h.tables.plain.numbering.last q
-    (ap (λ t. place (change_by (verdict_on (purge_at h a).plain (at_frame h a) (plain_part (purge_at h a).plain a.asked) t)) h.tables.plain.numbering.last) (sym (ap (λ c. target (purge_at h a).plain a.asked.session (outline c)) s.left)) ∙ is) ∙ sym new)
+    (ap (λ t. place (change_of (verdict_on (purge_at h a).plain (at_frame h a) (plain_part (purge_at h a).plain a.asked) t)) h.tables.plain.numbering.last) (sym (ap (λ c. target (purge_at h a).plain a.asked.session (outline c)) s.left)) ∙ is) ∙ sym new)
 
 -- a submission is no reader's request
 pub submission_unread : (r : ℕ) (h : Host) (a b : Frame) → SubmissionsAlike (purge_at h a).plain a b → is_reader r h a ≡ false

@@ -36,7 +36,14 @@ with_request zero change (r ∷ rs) = r ∷ rs
 with_request (suc zero) change (r ∷ rs) = change r ∷ rs
 with_request (suc (suc k)) change (r ∷ rs) = r ∷ with_request (suc k) change rs
 
--- the requests after an entry
+-- the request of a number, counted from 1
+abbrev pub request_at : ℕ → List AccessRequest → Option AccessRequest
+request_at k [] = None
+request_at zero (r ∷ rs) = None
+request_at (suc zero) (r ∷ rs) = Some r
+request_at (suc (suc k)) (r ∷ rs) = request_at (suc k) rs
+
+-- the requests after an entry; a request that ended takes no decision, since no legal trail has one on it
 abbrev pub requests_by : List AccessRequest → Entry → List AccessRequest
 requests_by before entry = by_deed entry.deed
   where
@@ -64,10 +71,21 @@ is_granted Denied = false
 is_granted Revoked = false
 is_granted Ended = false
 
+abbrev pub is_waiting : State → Bool
+is_waiting Waiting = true
+is_waiting Granted = false
+is_waiting Denied = false
+is_waiting Revoked = false
+is_waiting Ended = false
+
 abbrev pub is_reached : ℕ → Option ℕ → Bool
 is_reached now None = false
 is_reached now (Some moment) = nat_le moment now
 
--- a grant of this user, disabled so often by now, is in force
+-- among these requests a grant of this user, disabled so often by now, is in force
+abbrev pub in_force_of : ℕ → ℕ → ℕ → List AccessRequest → Bool
+in_force_of user stamp now asked = list_any (λ r. (r.by == user) && is_granted (state_now stamp r) && is_reached now r.effective) asked
+
+-- and on the report of this trail
 abbrev pub in_force : ℕ → ℕ → ℕ → List Entry → Bool
-in_force user stamp now trail = list_any (λ r. (r.by == user) && is_granted (state_now stamp r) && is_reached now r.effective) (requests trail)
+in_force user stamp now trail = in_force_of user stamp now (requests trail)

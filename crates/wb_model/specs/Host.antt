@@ -1,5 +1,5 @@
 -- One tenant's host: what a turn answers, and the tables after it.
-use Rattle.std.specs.Prelude.{ℕ, ◌+◌, ◌==◌, max, Bool, true, false, if◌then◌else◌, List, [], ◌∷◌, ◌++◌, map, filter, Option, Some, None}
+use Rattle.std.specs.Prelude.{ℕ, ◌+◌, ◌==◌, ◌&&◌, nat_le, not, max, Bool, true, false, if◌then◌else◌, List, [], ◌∷◌, ◌++◌, length, map, filter, Option, Some, None, unwrap_or}
 use Rattle.wb_base.specs.AnswerList.{Answered}
 use Rattle.wb_base.specs.Days.{day_of}
 use Rattle.wb_model.specs.declared.body.Told.{Told}
@@ -7,11 +7,13 @@ use Rattle.wb_model.specs.declared.command.Asked.{Asked}
 use Rattle.wb_model.specs.declared.entry.Entry.{Entry}
 use Rattle.wb_model.specs.declared.numbering.Numbering.{Numbering}
 use Rattle.wb_model.specs.declared.registry.TenantItem.{TenantItem}
-use Rattle.wb_model.specs.Tables.{Plain, Case, is_live, is_there, lasts, drawn_on}
+use Rattle.wb_model.specs.Tables.{Registry, Plain, Case, Session, Who, TheUser, TheReporter, same_who, is_live, is_there, lasts, drawn_on}
 use Rattle.wb_model.specs.Json.{told}
 use Rattle.wb_model.specs.Views.{reporter_view, identity_view}
 use Rattle.wb_model.specs.Requests.{Frame, plain_part, sealed_part}
-use Rattle.wb_model.specs.Rules.{At, Change, Nothing, Draws, Opens, Notes, Answer, Says, Shows_own, Shows_identity, Verdict, Refused, Accepted, verdict}
+use Rattle.wb_model.specs.Settings.{Setting, OfUser, configured}
+use Rattle.wb_model.specs.Changes.{At, Change, Nothing, Draws, Begins, Notes, LogsIn, LogsOut, Configures, Answer, Says, Shows_own, Shows_identity, Verdict, Refused, Accepted}
+use Rattle.wb_model.specs.Rules.{verdict}
 
 -- the identity answers by the number of their report
 abbrev pub Sealed : Type 0
@@ -37,9 +39,8 @@ purged now t = let live = live_cases t.plain now in record {
 
 abbrev pub is_draw : Change → Bool
 is_draw Draws = true
-is_draw (Opens entry) = true
-is_draw Nothing = false
-is_draw (Notes n entry) = false
+is_draw (Begins entry) = true
+is_draw _ = false
 
 -- the numbering after a draw at a moment
 abbrev pub drawn : ℕ → TenantItem → Numbering → Numbering
@@ -50,14 +51,54 @@ abbrev pub noted : ℕ → Entry → Case → Case
 noted n entry case = record { number = case.number; trail = if case.number == n then case.trail ++ entry ∷ [] else case.trail }
 
 abbrev pub cases_after : Change → ℕ → List Case → List Case
-cases_after (Opens entry) last cases = cases ++ record { number = last + 1; trail = entry ∷ [] } ∷ []
+cases_after (Begins entry) last cases = cases ++ record { number = last + 1; trail = entry ∷ [] } ∷ []
 cases_after (Notes n entry) last cases = map (noted n entry) cases
 cases_after _ last cases = cases
 
+abbrev pub registry_after : Change → Registry → Registry
+registry_after (Configures setting) g = configured setting g
+registry_after _ g = g
+
+abbrev pub is_user : ℕ → Who → Bool
+is_user u (TheUser v) = v == u
+is_user u (TheReporter n) = false
+
+abbrev pub ends_of : Setting → Who → Bool
+ends_of (OfUser item ends) who = ends && is_user item.id who
+ends_of _ who = false
+
+-- how many of the sessions are of this caller and were made at the turn of s or later
+abbrev pub count_from : Who → Session → List Session → ℕ
+count_from who s standing = length (filter (λ z. same_who z.who who && nat_le s.turn z.turn) standing)
+
+-- a change ends the session s, where these stand just before it: a logout that used s; a setting that disables its user
+-- or gives a password; or a login of its caller, of whom eight sessions from s on stand
+abbrev pub ends : Change → List Session → Session → Bool
+ends (LogsOut turn who) standing s = s.turn == turn && same_who s.who who
+ends (Configures setting) standing s = ends_of setting s.who
+ends (LogsIn new) standing s = same_who s.who new.who && nat_le 8 (count_from new.who s standing)
+ends _ standing s = false
+
+-- the session that a change makes
+abbrev pub made : Change → List Session
+made (LogsIn new) = new ∷ []
+made _ = []
+
+abbrev pub remaining : Change → List Session → List Session
+remaining change standing = filter (λ s. not (ends change standing s)) standing
+
+abbrev pub sessions_after : Change → List Session → List Session
+sessions_after (LogsIn new) standing = remaining (LogsIn new) standing ++ new ∷ []
+sessions_after (LogsOut turn who) standing = remaining (LogsOut turn who) standing
+sessions_after (Configures setting) standing = remaining (Configures setting) standing
+sessions_after _ standing = standing
+
 abbrev pub plain_after : ℕ → Change → Plain → Plain
-plain_after now change p = record p {
+plain_after now change p = record {
+  registry = registry_after change p.registry;
   numbering = if is_draw change then drawn now p.registry.settings p.numbering else p.numbering;
   cases = cases_after change p.numbering.last p.cases;
+  sessions = sessions_after change p.sessions;
 }
 
 abbrev pub sealed_under : ℕ → Option Answered → Sealed → Sealed
@@ -66,7 +107,7 @@ sealed_under n (Some secret) sealed = λ k. if k == n then Some secret else seal
 
 -- the identity answers after a change that comes with these
 abbrev pub sealed_after : Change → ℕ → Option Answered → Sealed → Sealed
-sealed_after (Opens entry) last secret sealed = sealed_under (last + 1) secret sealed
+sealed_after (Begins entry) last secret sealed = sealed_under (last + 1) secret sealed
 sealed_after (Notes n entry) last secret sealed = sealed_under n secret sealed
 sealed_after _ last secret sealed = sealed
 
@@ -79,15 +120,15 @@ changed now change secret t = record { plain = plain_after now change t.plain; s
 abbrev pub ruling : Tables → At → Asked → Verdict
 ruling t at a = verdict t.plain at (plain_part t.plain a)
 
-abbrev pub change_by : Verdict → Change
-change_by (Refused refusal) = Nothing
-change_by (Accepted change answer) = change
+abbrev pub change_of : Verdict → Change
+change_of (Refused refusal) = Nothing
+change_of (Accepted change answer) = change
 
--- the reply of an answer: here alone identity answers are read
+-- the reply of an answer: here alone identity answers are read (under a grant in force there are some)
 abbrev pub said : Answer → Sealed → Told
 said (Says reply) sealed = reply
 said (Shows_own case) sealed = told 200 (reporter_view case (sealed case.number))
-said (Shows_identity n) sealed = told 200 (identity_view n (sealed n))
+said (Shows_identity n) sealed = told 200 (identity_view n (unwrap_or (sealed n) []))
 
 abbrev pub reply_by : Verdict → Sealed → Told
 reply_by (Refused refusal) sealed = refusal
@@ -95,7 +136,7 @@ reply_by (Accepted change answer) sealed = said answer sealed
 
 -- the tables after a request
 abbrev pub tables_after : Tables → At → Asked → Tables
-tables_after t at a = changed at.time (change_by (ruling t at a)) (sealed_part t.plain a) t
+tables_after t at a = changed at.time (change_of (ruling t at a)) (sealed_part t.plain a) t
 
 -- ---- a host
 

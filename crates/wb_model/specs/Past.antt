@@ -1,48 +1,28 @@
 -- One tenant's host as the list of its past turns, the newest outermost: every fact is a filter of it, or the last of its kind.
-use Rattle.std.specs.Prelude.{ℕ, ◌+◌, ◌==◌, ◌&&◌, ◌<◌, ◌≤◌, max, Bool, true, false, if◌then◌else◌, List, [], ◌∷◌, ◌++◌, map, filter, Option, Some, None, option_map, ℤ}
+use Rattle.std.specs.Prelude.{ℕ, ◌+◌, ◌==◌, ◌&&◌, ◌||◌, nat_le, not, max, Bool, true, false, if◌then◌else◌, List, [], ◌∷◌, ◌++◌, map, filter, Option, Some, None, option_map, ℤ}
 use Rattle.std.specs.Ordering.{int_eq}
 use Rattle.wb_base.specs.declared.callers.Principal.{Principal}
 use Rattle.wb_base.specs.declared.callers.Principal.TheVariants as principals
 use Rattle.wb_base.specs.AnswerList.{Answered}
 use Rattle.wb_base.specs.Days.{day_of}
-use Rattle.wb_model.specs.declared.body.Told.{Told}
 use Rattle.wb_model.specs.declared.command.Asked.{Asked}
 use Rattle.wb_model.specs.declared.command.Command.{Command}
-use Rattle.wb_model.specs.declared.command.Command.TheVariants as commands
 use Rattle.wb_model.specs.declared.entry.Entry.{Entry}
 use Rattle.wb_model.specs.declared.event.Event.{Event}
 use Rattle.wb_model.specs.declared.event.What.{What}
 use Rattle.wb_model.specs.declared.event.What.TheVariants.{Did, Gap, Idle, Lost}
 use Rattle.wb_model.specs.declared.numbering.Numbering.{Numbering}
 use Rattle.wb_model.specs.Tables.{Registry, Plain, Case, Session, Who, TheUser, TheReporter, report, is_live, is_there, lasts, drawn_on}
-use Rattle.wb_model.specs.Targets.{Need, Names, need, Target, Nobody, Alone, On, target}
-use Rattle.wb_model.specs.Requests.{Frame, outline, outcome, secret_of}
-use Rattle.wb_model.specs.Rules.{At, Change, Nothing, Draws, Opens, Notes, acted, act_of, dealt, deal_of, Verdict, Refused, Accepted}
-use Rattle.wb_model.specs.Host.{Tables, Host, is_draw, reply_by, ruling}
+use Rattle.wb_model.specs.Commands.{Need, Names, need}
+use Rattle.wb_model.specs.Requests.{outline, outcome, secret_of}
+use Rattle.wb_model.specs.Changes.{At, Change, Nothing, Draws, Begins, Notes}
+use Rattle.wb_model.specs.Effects.{effect_of}
+use Rattle.wb_model.specs.OnReports.{change_on}
+use Rattle.wb_model.specs.Rules.{change_alone}
+use Rattle.wb_model.specs.Host.{Tables, Host, is_draw, registry_after, ends, made, remaining}
+use Rattle.wb_model.specs.Opened.{entries_of, Opened}
 
 -- ---- the list
-
--- the reports' numbers ascend from above this one
-abbrev pub Ascend : ℕ → List Case → Type 0
-Ascend k [] = Unit {0}
-Ascend k (c ∷ cs) = (k < c.number) × Ascend c.number cs
-
--- no report has a number above this one
-abbrev pub AtMost : ℕ → List Case → Type 0
-AtMost k [] = Unit {0}
-AtMost k (c ∷ cs) = (c.number ≤ k) × AtMost k cs
-
--- tables that a host may be opened with: the reports' numbers ascend and were drawn, and no draw is to come
-pub record AreOpened (at : ℕ) (t : Tables) : Type 0 where
-  pub ascend : Ascend 0 t.plain.cases
-  pub most : AtMost t.plain.numbering.last t.plain.cases
-  pub drawn : t.plain.numbering.at ≤ at
-
--- one tenant's opening: a moment, and the tables
-pub record Opened : Type 0 where
-  pub at : ℕ
-  pub tables : Tables
-  pub sound : AreOpened at tables
 
 -- an opening, and the turns since
 pub data Past (O : Type 0) : Type 0 where
@@ -75,35 +55,35 @@ named (Names role right n) = Some n
 named _ = None
 
 -- the report that a command was on: a reporter's own, or the one that the command names
-abbrev pub place_of : Command → Option Principal → Option ℕ
-place_of command None = None
-place_of command (Some (principals.User t u)) = named (need command)
-place_of command (Some (principals.Report t n)) = Some n
+abbrev pub report_of : Command → Option Principal → Option ℕ
+report_of command None = None
+report_of command (Some (principals.User t u)) = named (need command)
+report_of command (Some (principals.Report t n)) = Some n
 
 -- the report that an event was on
 abbrev pub about : What → Option ℕ
-about (Did asked by) = place_of asked.command by
+about (Did asked by) = report_of asked.command by
 about _ = None
 
 -- what an accepted command changed that was on no report
 abbrev pub alone_by : At → Registry → Asked → Option Principal → Option ℕ → Change
-alone_by at g a by None = dealt (deal_of at g (option_map who_of by) (outcome g [] a.command) (outline a.command))
+alone_by at g a by None = let who = option_map who_of by in change_alone at g who (outcome g [] a.command) (effect_of at g who a.session [] (outline a.command))
 alone_by at g a by (Some n) = Nothing
 
 -- what it changed, with the trail of the report that it was on
 abbrev pub change_by : At → Registry → List Entry → Asked → Option Principal → Option ℕ → Change
 change_by at g trail a by None = alone_by at g a by None
 change_by at g trail a None (Some n) = Nothing
-change_by at g trail a (Some by) (Some n) = acted n (act_of at g (who_of by) trail (outline a.command))
+change_by at g trail a (Some by) (Some n) = change_on at g (who_of by) n trail (effect_of at g (Some (who_of by)) a.session trail (outline a.command))
 
 abbrev pub alone_in : What → At → Registry → Change
-alone_in (Did asked by) at g = alone_by at g asked by (place_of asked.command by)
+alone_in (Did asked by) at g = alone_by at g asked by (report_of asked.command by)
 alone_in (Gap t) at g = Draws
 alone_in Idle at g = Nothing
 alone_in Lost at g = Nothing
 
 abbrev pub change_in : What → At → Registry → List Entry → Change
-change_in (Did asked by) at g trail = change_by at g trail asked by (place_of asked.command by)
+change_in (Did asked by) at g trail = change_by at g trail asked by (report_of asked.command by)
 change_in (Gap t) at g trail = Draws
 change_in Idle at g trail = Nothing
 change_in Lost at g trail = Nothing
@@ -115,10 +95,10 @@ secret_in _ g = None
 
 -- ---- facts of the tenant
 
--- no command changes it yet
+-- what the accepted settings made of the opening's
 abbrev pub registry : Past Opened → Registry
 registry (Opening o) = o.tables.plain.registry
-registry (Turn e past) = registry past
+registry (Turn e past) = registry_after (alone_in e.what (at_of past e) (registry past)) (registry past)
 
 abbrev pub alone_at : Past Opened → Event → Change
 alone_at past e = alone_in e.what (at_of past e) (registry past)
@@ -137,9 +117,10 @@ abbrev pub drawn_at : Past Opened → ℕ
 drawn_at (Opening o) = o.tables.plain.numbering.at
 drawn_at (Turn e past) = if drew past e then (at_of past e).time else drawn_at past
 
--- the tenant's day of a moment
+-- the tenant's day of a moment: no setting changes the offset
 abbrev pub day : Past Opened → ℕ → ℤ
-day past moment = day_of moment (registry past).settings.offset
+day (Opening o) moment = day_of moment o.tables.plain.registry.settings.offset
+day (Turn e past) moment = day past moment
 
 -- how many numbers were drawn on a day
 abbrev pub drawn : Past Opened → ℤ → ℕ
@@ -152,17 +133,13 @@ numbering past = record { at = drawn_at past; drawn = drawn past (day past (draw
 -- ---- facts of a report
 
 abbrev pub numbers_after : Change → ℕ → List ℕ → List ℕ
-numbers_after (Opens entry) last numbers = numbers ++ (last + 1) ∷ []
+numbers_after (Begins entry) last numbers = numbers ++ (last + 1) ∷ []
 numbers_after _ last numbers = numbers
 
 -- the numbers of all reports, in the order in which they were drawn
 abbrev pub numbers : Past Opened → List ℕ
 numbers (Opening o) = map (λ c. c.number) o.tables.plain.cases
 numbers (Turn e past) = numbers_after (alone_at past e) (last past) (numbers past)
-
-abbrev pub entries_of : Option Case → List Entry
-entries_of None = []
-entries_of (Some c) = c.trail
 
 -- the trail of the report that an event was on
 abbrev pub trail_of : Option ℕ → (ℕ → List Entry) → List Entry
@@ -171,14 +148,15 @@ trail_of (Some n) trails = trails n
 
 -- r's trail after a change: an entry on r counts while r is live
 abbrev pub grown : Change → ℕ → ℕ → Bool → List Entry → List Entry
-grown (Opens entry) last r lives trail = if last + 1 == r then entry ∷ [] else trail
+grown (Begins entry) last r lives trail = if last + 1 == r then entry ∷ [] else trail
 grown (Notes n entry) last r lives trail = if (n == r) && lives then trail ++ entry ∷ [] else trail
 grown _ last r lives trail = trail
 
 abbrev pub lives_at : Registry → ℕ → ℕ → List Entry → Bool
 lives_at g time r trail = is_live g.settings time (record { number = r; trail = trail })
 
--- r's trail: one entry for each accepted command on r
+-- r's trail: one entry for each accepted command on r; what is accepted is on a live report, and what else a list of events may have on r counts for
+-- nothing where r is not live
 abbrev pub trail : Past Opened → ℕ → List Entry
 trail (Opening o) r = entries_of (report r o.tables.plain.cases)
 trail (Turn e past) r = let at = at_of past e in
@@ -197,11 +175,11 @@ newer None before = before
 newer (Some given) before = Some given
 
 abbrev pub given : Change → ℕ → ℕ → Bool → Option Answered → Option Answered → Option Answered
-given (Opens entry) last r lives secret before = if last + 1 == r then secret else before
+given (Begins entry) last r lives secret before = if last + 1 == r then secret else before
 given (Notes n entry) last r lives secret before = if (n == r) && lives then newer secret before else before
 given _ last r lives secret before = before
 
--- the identity answers that were given last for r
+-- the identity answers that were given last for r, while it was live
 abbrev pub sealed : Past Opened → ℕ → Option Answered
 sealed (Opening o) r = o.tables.sealed r
 sealed (Turn e past) r = given (change_at past e) (last past) r (live past r (at_of past e).time) (secret_in e.what (registry past)) (sealed past r)
@@ -215,14 +193,35 @@ case_of past n = record { number = n; trail = trail past n }
 abbrev pub live_reports : Past Opened → ℕ → List Case
 live_reports past time = filter (is_live (registry past).settings time) (map (case_of past) (numbers past))
 
--- the sessions that stood at each turn so far: no command makes one yet
-abbrev pub sessions : Past Opened → List Session
-sessions (Opening o) = o.tables.plain.sessions
-sessions (Turn e past) = let at = at_of past e in filter (lasts at.time (live_reports past at.time)) (sessions past)
+-- the sessions that logins made so far, in the order of their turns; a reporter who logs in has a live report, and what else a list of events may
+-- have counts for nothing
+abbrev pub logins : Past Opened → List Session
+logins (Opening o) = o.tables.plain.sessions
+logins (Turn e past) = let at = at_of past e in logins past ++ filter (lasts at.time (live_reports past at.time)) (made (change_at past e))
 
--- those of them that stand at a moment
+-- the sessions that stood just after each turn: those that stood just before it, less those that it ended, and the one that it made
+abbrev pub recent : Past Opened → List Session
+recent (Opening o) = o.tables.plain.sessions
+recent (Turn e past) = let at = at_of past e in
+    remaining (change_at past e) (filter (lasts at.time (live_reports past at.time)) (recent past)) ++ filter (lasts at.time (live_reports past at.time)) (made (change_at past e))
+
+-- a session stands: it lasts, and no later turn ended it
+abbrev pub stands_by : (Session → Bool) → ℕ → List Case → Session → Bool
+stands_by is_ended time live s = lasts time live s && not (is_ended s)
+
+-- a turn after that of s ended it, by the sessions that stood just before
+abbrev pub is_ended : Past Opened → Session → Bool
+is_ended (Opening o) s = false
+is_ended (Turn e past) s = let at = at_of past e in
+    is_ended past s || (nat_le s.turn (turns past) && ends (change_at past e) (filter (stands_by (is_ended past) at.time (live_reports past at.time)) (logins past)) s)
+
+-- the session s stands at a moment
+abbrev pub stands : Past Opened → ℕ → Session → Bool
+stands past time s = stands_by (is_ended past) time (live_reports past time) s
+
+-- the sessions that stand at a moment
 abbrev pub standing_sessions : Past Opened → ℕ → List Session
-standing_sessions past time = filter (lasts time (live_reports past time)) (sessions past)
+standing_sessions past time = filter (stands past time) (logins past)
 
 abbrev pub plain : Past Opened → ℕ → Plain
 plain past time = record { registry = registry past; numbering = numbering past; cases = live_reports past time; sessions = standing_sessions past time }
@@ -235,7 +234,7 @@ abbrev pub is_lost : What → Bool
 is_lost Lost = true
 is_lost _ = false
 
--- what the host holds: the tables at the last turn that was not lost
+-- what the host holds: the tables at the last turn that was not lost, or those that it was opened with, the starter host's standing session with them
 abbrev pub held : Past Opened → Tables
 held (Opening o) = o.tables
 held (Turn e past) = if is_lost e.what then held past else tables (Turn e past) (now (Turn e past))
@@ -243,51 +242,3 @@ held (Turn e past) = if is_lost e.what then held past else tables (Turn e past) 
 -- the host that stands for a past
 abbrev pub standing : Past Opened → Host
 standing past = record { turns = turns past; now = now past; tables = held past }
-
--- ---- a turn
-
-abbrev pub at_frame : Past Opened → Frame → At
-at_frame past f = record { time = max (now past) f.moment; turn = turns past + 1; words = f.words }
-
--- the verdict on a request
-abbrev pub verdict_at : Past Opened → Frame → Verdict
-verdict_at past f = let at = at_frame past f in ruling (tables past at.time) at f.asked
-
--- the reply to it
-abbrev pub reply_at : Past Opened → Frame → Told
-reply_at past f = reply_by (verdict_at past f) (tables past (at_frame past f).time).sealed
-
-abbrev pub target_at : Past Opened → Frame → Target
-target_at past f = target (plain past (at_frame past f).time) f.asked.session (outline f.asked.command)
-
--- the commands of the routes that only read (GET)
-abbrev pub is_read : Command → Bool
-is_read commands.Health = true
-is_read (commands.Public t) = true
-is_read (commands.ContextOf t c) = true
-is_read (commands.OwnReport t) = true
-is_read (commands.List t) = true
-is_read (commands.DueList t) = true
-is_read (commands.ReadReport t n) = true
-is_read (commands.ReadIdentity t n) = true
-is_read (commands.Requests t) = true
-is_read (commands.Admin t) = true
-is_read _ = false
-
-abbrev pub principal : ℕ → Who → Principal
-principal t (TheUser u) = principals.User t u
-principal t (TheReporter n) = principals.Report t n
-
--- an accepted command, and who asked it
-abbrev pub did : ℕ → Target → Asked → What
-did t (Nobody refusal) a = Idle
-did t (Alone who) a = Did a (option_map (principal t) who)
-did t (On who case) a = Did a (Some (principal t who))
-
--- what the turn of a request to tenant t was
-abbrev pub what_by : Verdict → ℕ → Target → Asked → What
-what_by (Refused refusal) t on a = Idle
-what_by (Accepted change answer) t on a = if is_read a.command then Idle else did t on a
-
-abbrev pub what_at : ℕ → Past Opened → Frame → What
-what_at t past f = what_by (verdict_at past f) t (target_at past f) f.asked

@@ -1,18 +1,24 @@
 -- The host of several tenants as one list of past turns: each tenant has its own part of it.
-use Rattle.std.specs.Prelude.{ℕ, ◌==◌, max, Bool, if◌then◌else◌, List, map}
+use Rattle.std.specs.Prelude.{◌≡◌, ℕ, ◌==◌, max, Bool, true, if◌then◌else◌, List, map}
 use Rattle.std.specs.List.{list_any}
 use Rattle.wb_model.specs.declared.body.Told.{Told}
 use Rattle.wb_model.specs.declared.event.What.{What}
 use Rattle.wb_model.specs.declared.event.What.TheVariants.{Did, Gap, Idle, Lost}
 use Rattle.wb_model.specs.Requests.{Frame}
 use Rattle.wb_model.specs.Host.{Tables}
-use Rattle.wb_model.specs.Tenants.{Tenancy, Hosts, tenant_of, tenant_at, without_tenant}
-use Rattle.wb_model.specs.Past.{Past, Opening, Turn, AreOpened, Opened, turns, held, tables, reply_at, what_at}
+use Rattle.wb_model.specs.Tenants.{Tenancy, Hosts, tenant_at, without_tenant}
+use Rattle.wb_model.specs.Commands.{tenant_of}
+use Rattle.wb_model.specs.Past.{Past, Opening, Turn, turns, held, tables}
+use Rattle.wb_model.specs.PastTurns.{reply_at, what_at}
+use Rattle.wb_model.specs.Legal.{ascends}
+use Rattle.wb_model.specs.Opened.{AreOpened, Opened}
 
 -- the opening of a host: a moment, the tenants, and the tables of each
 pub record AllOpened : Type 0 where
   pub at : ℕ
+  -- their numbers, which ascend
   pub tenants : List ℕ
+  pub ids : ascends tenants ≡ true
   pub tables : ℕ → Tables
   pub sound : (t : ℕ) → AreOpened at (tables t)
 

@@ -1,5 +1,5 @@
 -- What the bytes of a request are read as: what it asks, or the first of eleven faults.
-use Rattle.std.specs.Prelude.{ℕ, ◌≡◌, ◌==◌, ◌||◌, ◌⊎◌, Bool, true, false, if◌then◌else◌, List, length, Option, Some, None, Result, Ok, Err, option_map, option_and_then, unwrap_or, ok_or}
+use Rattle.std.specs.Prelude.{ℕ, ◌≡◌, ◌==◌, ◌||◌, ◌⊎◌, Bool, true, false, if◌then◌else◌, List, length, Option, Some, None, Result, Ok, Err, option_and_then, unwrap_or, ok_or}
 use Rattle.httparse.specs.Grammar.{RequestHead}
 use Rattle.serde_json.specs.Data.{Data}
 use Rattle.wb_base.specs.declared.callers.Presented.{Presented}
@@ -10,7 +10,7 @@ use Rattle.wb_model.specs.declared.wire.WireFault.{WireFault}
 use Rattle.wb_model.specs.declared.wire.WireFault.TheVariants as faults
 use Rattle.wb_model.specs.Built.{is_built}
 use Rattle.wb_model.specs.Heads.{Fields, fields_of, path, declared_length, session, closes_by, closes, BeginsWithHead, HasNoHead}
-use Rattle.wb_model.specs.Routes.{Method, Path, number_of_path, row, segments, are_numbers, number_under, route}
+use Rattle.wb_model.specs.Routes.{Method, Path, number_of_path, path_at, segments, are_numbers, number_under, route}
 use Rattle.wb_model.specs.Bodies.{json, Numbers, bare, shaped}
 
 -- what is asked, or the fault, with whether the connection closes after it
@@ -35,22 +35,22 @@ sized fields rest = and_then (sized_by rest) (declared_length fields)
 -- ---- the path and the method
 
 -- a path of the table: its number, its methods, and the numbers that stand in it
-pub record Place : Type 0 where
+pub record Located : Type 0 where
   pub number : ℕ
   pub methods : List Method
   pub at : Numbers
 
 -- the path is this row's, where each of its numbers is one
-abbrev pub place_by : List ℕ → ℕ → Path → Option Place
-place_by text number p = if are_numbers (segments p.pattern) (segments text) then Some (record { number = number; methods = p.methods; at = number_under (segments p.pattern) (segments text) }) else None
+abbrev pub located_by : List ℕ → ℕ → Path → Option Located
+located_by text number p = if are_numbers (segments p.pattern) (segments text) then Some (record { number = number; methods = p.methods; at = number_under (segments p.pattern) (segments text) }) else None
 
-abbrev pub place_of : List ℕ → Option Place
-place_of text = option_and_then (λ number. option_and_then (place_by text number) (row number)) (number_of_path text)
+abbrev pub located : List ℕ → Option Located
+located text = option_and_then (λ number. option_and_then (located_by text number) (path_at number)) (number_of_path text)
 
-abbrev pub placed : List ℕ → Result Place WireFault
-placed text = ok_or (place_of text) faults.NoRoute
+abbrev pub located_or_fault : List ℕ → Result Located WireFault
+located_or_fault text = ok_or (located text) faults.NoRoute
 
-abbrev pub routed : List ℕ → Place → Result Route WireFault
+abbrev pub routed : List ℕ → Located → Result Route WireFault
 routed method place = ok_or (route method place.methods) (faults.NoMethod place.number)
 
 -- ---- the body
@@ -77,7 +77,7 @@ built command = if is_built command then Ok command else Err faults.NotBuilt
 -- what a method on a path asks with these fields and what follows the head, or the first fault
 abbrev pub asks : List ℕ → List ℕ → Fields → List ℕ → Result Command WireFault
 asks method text fields rest =
-    and_then (λ said. and_then (λ place. and_then built (and_then (command place.at rest said) (routed method place))) (placed text)) (sized fields rest)
+    and_then (λ said. and_then (λ place. and_then built (and_then (command place.at rest said) (routed method place))) (located_or_fault text)) (sized fields rest)
 
 -- the connection closes after these faults whatever the head asks for
 abbrev pub closes_always : WireFault → Bool

@@ -1,23 +1,23 @@
 -- The bytes of replies (RFC 9112, sections 4 to 6), and what a script's output has of each.
-use Rattle.std.specs.Prelude.{ℕ, Bool, true, false, List, [], ◌∷◌, ◌++◌, length, decimal, codes, Option, Some, None}
+use Rattle.std.specs.Prelude.{ℕ, Bool, true, false, List, [], ◌++◌, length, decimal, codes, Option, Some, None}
 use Rattle.http.specs.StatusCode.{status_text}
 use Rattle.wb_model.specs.declared.body.Told.{Told}
 use Rattle.wb_model.specs.declared.wire.WireFault.{WireFault}
 use Rattle.wb_model.specs.declared.wire.WireFault.TheVariants as faults
-use Rattle.wb_model.specs.Refusals.{refused, not_found, not_built, no_memory}
+use Rattle.wb_model.specs.Refusals.{refused, Bare, not_found, not_built, no_memory}
 use Rattle.wb_model.specs.Routes.{methods, method_names}
 
 -- ---- the reply to a request that is not read
 
 unfoldable pub fault_told : WireFault → Told
-fault_told faults.BadHead = refused 400 (codes "bad_head")
-fault_told faults.BadLength = refused 400 (codes "bad_length")
-fault_told faults.NoLength = refused 411 (codes "no_length")
-fault_told faults.TooLarge = refused 413 (codes "too_large")
+fault_told faults.BadHead = refused 400 (codes "bad_head") Bare
+fault_told faults.BadLength = refused 400 (codes "bad_length") Bare
+fault_told faults.NoLength = refused 411 (codes "no_length") Bare
+fault_told faults.TooLarge = refused 413 (codes "too_large") Bare
 fault_told faults.NoRoute = not_found
-fault_told (faults.NoMethod path) = refused 405 (codes "no_method")
-fault_told faults.BadJson = refused 400 (codes "bad_json")
-fault_told faults.BadShape = refused 400 (codes "bad_shape")
+fault_told (faults.NoMethod path) = refused 405 (codes "no_method") Bare
+fault_told faults.BadJson = refused 400 (codes "bad_json") Bare
+fault_told faults.BadShape = refused 400 (codes "bad_shape") Bare
 fault_told faults.NotBuilt = not_built
 fault_told faults.Memory = no_memory
 

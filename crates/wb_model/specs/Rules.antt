@@ -1,154 +1,89 @@
 -- What is answered to a request and what it changes, over the tables but for identity answers.
-use Rattle.std.specs.Prelude.{ℕ, ◌+◌, nat_lt, Bool, true, false, List, [], Option, Some, None}
+use Rattle.std.specs.Prelude.{◌+◌, Option, Some, None, [], List}
 use Rattle.std.specs.Option.{option_map_or}
-use Rattle.wb_base.specs.declared.words.Words.{Words}
-use Rattle.wb_base.specs.AnswerList.{Answered}
 use Rattle.wb_base.specs.Days.{day_of}
-use Rattle.wb_base.specs.Terms as terms
+use Rattle.wb_base.specs.Secrets.{receipt_text}
 use Rattle.wb_model.specs.declared.body.Told.{Told}
-use Rattle.wb_model.specs.declared.command.Command.{Command}
-use Rattle.wb_model.specs.declared.command.Command.TheVariants as commands
-use Rattle.wb_model.specs.declared.entry.Actor.TheVariants as actors
 use Rattle.wb_model.specs.declared.entry.Entry.{Entry}
-use Rattle.wb_model.specs.declared.entry.Deed.TheVariants as deeds
-use Rattle.wb_model.specs.declared.registry.ContextItem.{ContextItem}
-use Rattle.wb_model.specs.declared.registry.FormItem.{FormItem}
-use Rattle.wb_model.specs.Secrets.{receipt_text, digest}
-use Rattle.wb_model.specs.Tables.{Registry, Plain, Case, Who, TheUser, TheReporter, context}
+use Rattle.wb_model.specs.Tables.{Registry, Plain, Case, Who, TheUser}
 use Rattle.wb_model.specs.Targets.{Target, Nobody, Alone, On, target}
 use Rattle.wb_model.specs.Json.{told}
-use Rattle.wb_model.specs.Refusals.{not_found, numbers_spent, not_built, faulty}
-use Rattle.wb_model.specs.Views.{submission_view, recipient_view}
-use Rattle.wb_model.specs.Requests.{Outcome, Unchecked, Checked, Request, asking_form}
+use Rattle.wb_model.specs.Refusals.{not_found}
+use Rattle.wb_model.specs.ShortViews.{health_view, done_view, submission_view}
+use Rattle.wb_model.specs.TenantViews.{public_view, context_view, admin_view}
+use Rattle.wb_model.specs.ViewRows.{readable, all_listed, all_due, all_custodied}
+use Rattle.wb_model.specs.ListViews.{list_view, due_view, custody_view}
+use Rattle.wb_model.specs.Requests.{Outcome, Request}
+use Rattle.wb_model.specs.Settings.{proposal_refusal, proposal_told, setting_of}
+use Rattle.wb_model.specs.Changes.{At, Change, Nothing, Begins, LogsIn, LogsOut, Configures, Answer, Says, Verdict, Refused, judged}
+use Rattle.wb_model.specs.Submissions.{Drawing, drawing, submission_refusal, submission_entry}
+use Rattle.wb_model.specs.Logins.{new_session, welcome}
+use Rattle.wb_model.specs.Effects.{View, OfHealth, OfTenant, OfContext, OfReports, OfDues, OfRequests, OfConfiguration, Effect, Misses, Looks, Reads, Writes, Submits, Comes, Goes, Sets, caller, effect_of}
+use Rattle.wb_model.specs.OnReports.{refusal_on, change_on, answer_on}
 
--- a turn: its time, its number, and its random words
-pub record At : Type 0 where
-  pub time : ℕ
-  pub turn : ℕ
-  pub words : Words
+-- ---- requests on no report: what refuses one
 
--- ---- changes
+abbrev pub refusal_alone : Registry → Drawing → Outcome → Effect → Option Told
+refusal_alone g n o (Looks view) = None
+refusal_alone g n o (Submits c form) = submission_refusal g.settings.quota n o
+refusal_alone g n o (Comes role) = None
+refusal_alone g n o (Goes turn) = None
+refusal_alone g n o (Sets t proposal) = proposal_refusal g proposal
+refusal_alone g n o Misses = Some not_found
+refusal_alone g n o (Reads part) = Some not_found
+refusal_alone g n o (Writes doing) = Some not_found
 
--- what an accepted request changes
-pub data Change : Type 0 where
-  Nothing : Change
-  -- a number is drawn, for no report
-  Draws : Change
-  -- a number is drawn, for a report that begins with this entry
-  Opens : Entry → Change
-  -- one more entry on a report
-  Notes : ℕ → Entry → Change
+-- ---- what it changes: a report begins, a session of the user who asks begins or ends, or a setting is put in
 
--- what a request on a report may do: nothing, or one more entry on that report
-pub data Act : Type 0 where
-  Looks : Act
-  Writes : Entry → Act
+abbrev pub change_alone : At → Registry → Option Who → Outcome → Effect → Change
+change_alone at g who o (Submits c form) = Begins (submission_entry at g o c form)
+change_alone at g who o (Comes role) = LogsIn (new_session at g role (TheUser (caller who)))
+change_alone at g who o (Goes turn) = LogsOut turn (TheUser (caller who))
+change_alone at g who o (Sets t proposal) = option_map_or Configures (setting_of t g proposal) Nothing
+change_alone at g who o Misses = Nothing
+change_alone at g who o (Looks view) = Nothing
+change_alone at g who o (Reads part) = Nothing
+change_alone at g who o (Writes doing) = Nothing
 
-abbrev pub acted : ℕ → Act → Change
-acted n Looks = Nothing
-acted n (Writes entry) = Notes n entry
+-- ---- what is answered
 
--- what a request on no report may do: nothing, or a report that begins
-pub data Deal : Type 0 where
-  Passes : Deal
-  Submits : Entry → Deal
+abbrev pub shown : At → Plain → Option Who → View → Told
+shown at p who OfHealth = told 200 health_view
+shown at p who OfTenant = told 200 (public_view p.registry)
+shown at p who (OfContext c form) = told 200 (context_view c form)
+shown at p who OfReports = told 200 (list_view (all_listed (readable (caller who) p.cases)))
+shown at p who OfDues = told 200 (due_view (all_due (readable (caller who) p.cases)) (day_of at.time p.registry.settings.offset))
+shown at p who OfRequests = told 200 (custody_view (all_custodied p.registry.users p.cases))
+shown at p who OfConfiguration = told 200 (admin_view p.registry p.numbering.last)
 
-abbrev pub dealt : Deal → Change
-dealt Passes = Nothing
-dealt (Submits entry) = Opens entry
-
--- ---- answers
-
--- what is answered: a reply that shows no identity answers, or a view that shows those of one report
-pub data Answer : Type 0 where
-  Says : Told → Answer
-  Shows_own : Case → Answer
-  Shows_identity : ℕ → Answer
-
--- ---- verdicts
-
-pub data Verdict : Type 0 where
-  Refused : Told → Verdict
-  Accepted : Change → Answer → Verdict
-
--- accepted, unless it is refused
-abbrev pub judged : Option Told → Change → Answer → Verdict
-judged (Some refusal) change answer = Refused refusal
-judged None change answer = Accepted change answer
-
--- refused with this, unless it holds, and else what comes after
-abbrev pub unless : Bool → Told → Option Told → Option Told
-unless true refusal rest = rest
-unless false refusal rest = Some refusal
-
-abbrev pub if_faulty : Outcome → Option Told → Option Told
-if_faulty Unchecked rest = rest
-if_faulty (Checked None answers marked) rest = rest
-if_faulty (Checked (Some fault) answers marked) rest = Some (faulty fault)
-
--- ---- requests on no report
-
-abbrev pub is_open : Option ContextItem → Bool
-is_open item = option_map_or (λ c. c.is_open) item false
-
--- the refusals in their order
-abbrev pub refusal_alone : Registry → ℕ → Outcome → Command → Option Told
-refusal_alone g last o (commands.Submit t c answers) = unless (is_open (context c g.contexts)) not_found (if_faulty o (unless (nat_lt last 4_294_967_295) numbers_spent None))
-refusal_alone g last o _ = Some not_built
-
-abbrev pub answers_in : Outcome → Answered
-answers_in Unchecked = []
-answers_in (Checked fault answers marked) = answers
-
-abbrev pub mark_in : Outcome → Bool
-mark_in Unchecked = false
-mark_in (Checked fault answers marked) = marked
-
--- the entry with which a report begins
-unfoldable pub submission_entry : At → Registry → Outcome → ContextItem → FormItem → Entry
-submission_entry at g o c form = let received = day_of at.time g.settings.offset in record {
-  at = at.time;
-  by = actors.Reporter;
-  deed = deeds.Submitted (terms.ack_due received) (answers_in o) c.id (terms.expiry received c.retention) (terms.feedback_due received None) form.id (mark_in o) c.recipients (digest g.settings.salt (receipt_text at.words)) received form.version;
-}
-
-abbrev pub submits : At → Registry → Outcome → Option ContextItem → Option FormItem → Deal
-submits at g o None form = Passes
-submits at g o (Some c) None = Passes
-submits at g o (Some c) (Some form) = Submits (submission_entry at g o c form)
-
-abbrev pub deal_of : At → Registry → Option Who → Outcome → Command → Deal
-deal_of at g who o (commands.Submit t c answers) = submits at g o (context c g.contexts) (asking_form (context c g.contexts) g.forms)
-deal_of at g who o _ = Passes
-
-abbrev pub answer_alone : At → Plain → Command → Answer
-answer_alone at p (commands.Submit t c answers) = Says (told 201 (submission_view (p.numbering.last + 1) (receipt_text at.words)))
-answer_alone at p _ = Says not_built
-
--- ---- requests on a report
-
-abbrev pub refusal_on : Outcome → Command → Option Told
-refusal_on o (commands.ReadReport t n) = None
-refusal_on o _ = Some not_built
-
-abbrev pub act_of : At → Registry → Who → List Entry → Command → Act
-act_of at g who trail _ = Looks
-
--- a user's read; a reporter's session does not come this far
-abbrev pub read_by : At → Registry → Case → Who → Told
-read_by at g case (TheUser u) = told 200 (recipient_view g.users u at.time case)
-read_by at g case (TheReporter n) = not_built
-
-abbrev pub answer_on : At → Registry → Who → Case → Command → Answer
-answer_on at g who case (commands.ReadReport t n) = Says (read_by at g case who)
-answer_on at g who case _ = Says not_built
+abbrev pub answer_alone : At → Plain → Option Who → Effect → Answer
+answer_alone at p who (Looks view) = Says (shown at p who view)
+answer_alone at p who (Submits c form) = Says (told 201 (submission_view (p.numbering.last + 1) (receipt_text at.words)))
+answer_alone at p who (Comes role) = Says (welcome at role)
+answer_alone at p who (Goes turn) = Says (told 200 done_view)
+answer_alone at p who (Sets t proposal) = Says (proposal_told p.registry proposal)
+answer_alone at p who Misses = Says not_found
+answer_alone at p who (Reads part) = Says not_found
+answer_alone at p who (Writes doing) = Says not_found
 
 -- ---- the verdict
 
+-- what a request does, with the trail of the report that it is on
+abbrev pub effect_at : Plain → At → Request → Option Who → List Entry → Effect
+effect_at p at q who trail = effect_of at p.registry who q.session trail q.command
+
+abbrev pub verdict_alone : Plain → At → Request → Option Who → Verdict
+verdict_alone p at q who = let does = effect_at p at q who [] in
+    judged (refusal_alone p.registry (drawing at p) q.outcome does) (change_alone at p.registry who q.outcome does) (answer_alone at p who does)
+
+abbrev pub verdict_on_case : Plain → At → Request → Who → Case → Verdict
+verdict_on_case p at q who case = let does = effect_at p at q (Some who) case.trail in
+    judged (refusal_on at p.registry who case q.outcome does) (change_on at p.registry who case.number case.trail does) (answer_on at p.registry who case does)
+
 abbrev pub verdict_on : Plain → At → Request → Target → Verdict
 verdict_on p at q (Nobody refusal) = Refused refusal
-verdict_on p at q (Alone who) = judged (refusal_alone p.registry p.numbering.last q.outcome q.command) (dealt (deal_of at p.registry who q.outcome q.command)) (answer_alone at p q.command)
-verdict_on p at q (On who case) = judged (refusal_on q.outcome q.command) (acted case.number (act_of at p.registry who case.trail q.command)) (answer_on at p.registry who case q.command)
+verdict_on p at q (Alone who) = verdict_alone p at q who
+verdict_on p at q (On who case) = verdict_on_case p at q who case
 
 -- the verdict on a request
 abbrev pub verdict : Plain → At → Request → Verdict

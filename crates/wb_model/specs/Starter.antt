@@ -1,6 +1,6 @@
 -- The starter host: one tenant with four users, one form and two contexts, and a standing session of the first user.
 use Rattle.std.specs.Prelude.{ℕ, List, [], ◌∷◌, Bool, true, false, None, pos, codes, replicate}
-use Rattle.std.proofs.Common.{arith}
+use Rattle.std.proofs.Common.{inl, arith, refl}
 use Rattle.wb_base.specs.declared.callers.Role.{Role}
 use Rattle.wb_base.specs.declared.callers.Role.TheVariants as roles
 use Rattle.wb_base.specs.declared.form.Form.{Form}
@@ -10,7 +10,7 @@ use Rattle.wb_base.specs.declared.form.Trigger.TheVariants as triggers
 use Rattle.wb_base.specs.declared.words.Salt.{Salt}
 use Rattle.wb_model.specs.declared.registry.ContextItem.{ContextItem}
 use Rattle.wb_model.specs.declared.registry.UserItem.{UserItem}
-use Rattle.wb_model.specs.Secrets.{digest}
+use Rattle.wb_base.specs.Secrets.{digest}
 use Rattle.wb_model.specs.Tables.{Registry, Session, TheUser}
 use Rattle.wb_model.specs.Host.{Tables}
 use Rattle.wb_model.specs.Tenants.{Hosts}
@@ -92,4 +92,24 @@ starter = record { turns = 0; now = 0; list = record { id = 1; tables = starter_
 
 -- it as an opening: at moment 0, with one tenant
 unfoldable pub starter_opening : AllOpened
-starter_opening = record { at = 0; tenants = 1 ∷ []; tables = λ t. starter_tables; sound = λ t. record { ascend = tt; most = tt; drawn = omega arith } }
+unfolding starter_session starter_registry
+starter_opening = record {
+  at = 0;
+  tenants = 1 ∷ [];
+  ids = refl;
+  tables = λ t. starter_tables;
+  sound = λ t. record {
+    sound = record { notice = omega arith; contexts = ((omega arith, omega arith, refl), ((omega arith, omega arith, refl), tt)) };
+    numbering = inl (refl, refl, refl);
+    drawn = omega arith;
+    ascend = tt;
+    most = tt;
+    begun = tt;
+    legal = tt;
+    forms = tt;
+    receipts = tt;
+    marks = λ r. refl;
+    sessions = ((refl, tt), tt);
+    logins = ((λ k is. refl), tt);
+  };
+}

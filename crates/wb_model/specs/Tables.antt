@@ -1,5 +1,5 @@
 -- One tenant's tables but for identity answers, and their look-ups.
-use Rattle.std.specs.Prelude.{ℕ, ◌+◌, ◌==◌, ◌&&◌, nat_lt, not, Bool, true, if◌then◌else◌, List, length, find, fold, Option, Some, None, ℤ}
+use Rattle.std.specs.Prelude.{ℕ, ◌+◌, ◌==◌, ◌&&◌, nat_lt, not, Bool, true, false, if◌then◌else◌, List, length, find, fold, Option, Some, None, ℤ, int_lt}
 use Rattle.std.specs.Ordering.{int_eq}
 use Rattle.std.specs.List.{list_any}
 use Rattle.std.specs.Option.{option_map_or}
@@ -16,7 +16,8 @@ use Rattle.wb_model.specs.declared.registry.TenantItem.{TenantItem}
 use Rattle.wb_model.specs.declared.registry.UserItem.{UserItem}
 use Rattle.wb_model.specs.declared.registry.FormItem.{FormItem}
 use Rattle.wb_model.specs.declared.registry.ContextItem.{ContextItem}
-use Rattle.wb_model.specs.Secrets.{digest}
+use Rattle.wb_base.specs.Secrets.{digest}
+use Rattle.wb_model.specs.Trails.{receipt, expires}
 
 -- ---- what a tenant is set up with
 
@@ -28,6 +29,9 @@ pub record Registry : Type 0 where
 
 abbrev pub user : ℕ → List UserItem → Option UserItem
 user u users = find (λ x. x.id == u) users
+
+abbrev pub user_named : List ℕ → List UserItem → Option UserItem
+user_named name users = find (λ x. is_text x.name name) users
 
 abbrev pub context : ℕ → List ContextItem → Option ContextItem
 context c contexts = find (λ x. x.id == c) contexts
@@ -53,12 +57,19 @@ has_number n case = case.number == n
 abbrev pub report : ℕ → List Case → Option Case
 report n cases = find (has_number n) cases
 
+-- the report whose receipt has this digest
+abbrev pub has_receipt : Digest → Case → Bool
+has_receipt kept case = is_text (receipt case.trail) kept.0
+
+abbrev pub with_receipt : Digest → List Case → Option Case
+with_receipt kept cases = find (has_receipt kept) cases
+
 abbrev pub is_there : ℕ → List Case → Bool
 is_there n cases = list_any (has_number n) cases
 
--- a report is live while it has a trail
+-- a report is live while it has a trail and the tenant's day is before its expiry
 abbrev pub is_live : TenantItem → ℕ → Case → Bool
-is_live settings now case = not (length case.trail == 0)
+is_live settings now case = not (length case.trail == 0) && int_lt (day_of now settings.offset) (expires case.trail)
 
 -- ---- sessions
 
@@ -74,6 +85,11 @@ pub record Session : Type 0 where
   pub role : Role
   pub who : Who
   pub at : ℕ
+
+abbrev pub same_who : Who → Who → Bool
+same_who (TheUser u) (TheUser v) = u == v
+same_who (TheReporter n) (TheReporter m) = n == m
+same_who _ _ = false
 
 -- a reporter's session stands as long as its report
 abbrev pub stays : List Case → Who → Bool

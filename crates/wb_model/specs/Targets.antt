@@ -1,5 +1,5 @@
 -- Whom and what a request is about: session, role, right and thing, in this order.
-use Rattle.std.specs.Prelude.{ℕ, Bool, true, false, if◌then◌else◌, List, [], Option, Some, None}
+use Rattle.std.specs.Prelude.{ℕ, Bool, true, false, ◌&&◌, if◌then◌else◌, List, [], Option, Some, None}
 use Rattle.wb_base.specs.declared.callers.Role.{Role}
 use Rattle.wb_base.specs.declared.callers.Role.TheVariants.{Reporter, Recipient, Custodian, Admin}
 use Rattle.wb_base.specs.declared.callers.Presented.{Presented}
@@ -7,71 +7,13 @@ use Rattle.wb_model.specs.declared.body.Told.{Told}
 use Rattle.wb_model.specs.declared.entry.Entry.{Entry}
 use Rattle.wb_model.specs.declared.command.Command.{Command}
 use Rattle.wb_model.specs.declared.command.Command.TheVariants as commands
-use Rattle.wb_model.specs.declared.registry.Rights.{Rights}
 use Rattle.wb_model.specs.declared.registry.UserItem.{UserItem}
+use Rattle.wb_base.specs.declared.words.Salt.{Salt}
+use Rattle.wb_base.specs.Secrets.{digest}
+use Rattle.wb_model.specs.Commands.{Right, Free, has_right, Need, Anyone, Any_session, Own, Staff, Names, need}
 use Rattle.wb_model.specs.Trails.{reads}
-use Rattle.wb_model.specs.Tables.{Plain, Case, Session, Who, TheUser, TheReporter, user, report, session}
-use Rattle.wb_model.specs.Refusals.{not_found, no_session, wrong_role, wrong_right}
-
--- ---- who may call a route, and what it names
-
-pub data Right : Type 0 where
-  Free : Right
-  To_postpone : Right
-  To_share : Right
-  To_transfer : Right
-
-abbrev pub has_right : Right → Rights → Bool
-has_right Free may = true
-has_right To_postpone may = may.postpone
-has_right To_share may = may.share
-has_right To_transfer may = may.transfer
-
-pub data Need : Type 0 where
-  -- no session
-  Anyone : Need
-  -- any session
-  Any_session : Need
-  -- a reporter's session, on the own report
-  Own : Need
-  -- a user of a role
-  Staff : Role → Need
-  -- a user of a role and with a right, on the report of a number
-  Names : Role → Right → ℕ → Need
-
--- the table of routes
-abbrev pub need : Command → Need
-need commands.Health = Anyone
-need (commands.Public t) = Anyone
-need (commands.ContextOf t c) = Anyone
-need (commands.Login t user password) = Anyone
-need (commands.ReceiptLogin t receipt) = Anyone
-need (commands.Logout t) = Any_session
-need (commands.Submit t context answers) = Anyone
-need (commands.OwnReport t) = Own
-need (commands.OwnComment t text) = Own
-need (commands.GiveIdentity t answers) = Own
-need (commands.List t) = Staff Recipient
-need (commands.DueList t) = Staff Recipient
-need (commands.ReadReport t n) = Names Recipient Free n
-need (commands.Comment t n text internal) = Names Recipient Free n
-need (commands.Label t n label) = Names Recipient Free n
-need (commands.SetStatus t n status) = Names Recipient Free n
-need (commands.Acknowledge t n) = Names Recipient Free n
-need (commands.Feedback t n text) = Names Recipient Free n
-need (commands.Share t n user) = Names Recipient To_share n
-need (commands.Unshare t n u) = Names Recipient To_share n
-need (commands.Transfer t n context) = Names Recipient To_transfer n
-need (commands.Postpone t n) = Names Recipient To_postpone n
-need (commands.Ask t n reason) = Names Recipient Free n
-need (commands.ReadIdentity t n) = Names Recipient Free n
-need (commands.Requests t) = Staff Custodian
-need (commands.Decide t n k decision reason withhold) = Names Custodian Free n
-need (commands.Admin t) = Staff Admin
-need (commands.SetSettings t next) = Staff Admin
-need (commands.SetUser t u next) = Staff Admin
-need (commands.SetContext t c next) = Staff Admin
-need (commands.SetForm t f form) = Staff Admin
+use Rattle.wb_model.specs.Tables.{Plain, Case, Session, Who, TheUser, TheReporter, user, user_named, report, session, same_digest, with_receipt}
+use Rattle.wb_model.specs.Refusals.{not_found, no_session, wrong_role, wrong_right, bad_login}
 
 -- ---- the target
 
@@ -132,9 +74,21 @@ abbrev pub session_target : Plain → Need → Option Session → Target
 session_target p k None = Nobody no_session
 session_target p k (Some s) = who_target p s.role k s.who
 
+-- who logs in by a name and a password: an enabled user
+abbrev pub entering : Salt → List ℕ → Option UserItem → Target
+entering salt password None = Nobody bad_login
+entering salt password (Some x) = if x.enabled && same_digest x.secret (digest salt password) then Alone (Some (TheUser x.id)) else Nobody bad_login
+
+-- and by a receipt: a live report's reporter
+abbrev pub returning : Option Case → Target
+returning None = Nobody bad_login
+returning (Some c) = On (TheReporter c.number) c
+
 -- a request that needs no session
 abbrev pub unasked : Plain → Command → Target
-unasked p command = Alone None
+unasked p (commands.Login t name password) = entering p.registry.settings.salt password (user_named name p.registry.users)
+unasked p (commands.ReceiptLogin t receipt) = returning (with_receipt (digest p.registry.settings.salt receipt) p.cases)
+unasked p _ = Alone None
 
 abbrev pub needed_target : Plain → Presented → Command → Need → Target
 needed_target p presented command Anyone = unasked p command

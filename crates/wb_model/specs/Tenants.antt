@@ -1,48 +1,13 @@
 -- The host of several tenants: each is a host of its own, and time and turns are one.
 use Rattle.std.specs.Prelude.{◌≡◌, ◌⊎◌, ℕ, ◌+◌, ◌==◌, ◌&&◌, max, Bool, true, false, if◌then◌else◌, List, [], ◌∷◌, map, find, Option, Some, None}
 use Rattle.wb_model.specs.declared.body.Told.{Told}
-use Rattle.wb_model.specs.declared.command.Command.{Command}
-use Rattle.wb_model.specs.declared.command.Command.TheVariants as commands
+use Rattle.wb_model.specs.Commands.{tenant_of, is_submission}
 use Rattle.wb_model.specs.Json.{told}
 use Rattle.wb_model.specs.Refusals.{not_found}
-use Rattle.wb_model.specs.Views.{health_view}
+use Rattle.wb_model.specs.ShortViews.{health_view}
 use Rattle.wb_model.specs.Requests.{Frame}
 use Rattle.wb_model.specs.Host.{Tables, Host, purged, purge_at, ruling_at, reply_to, host_after}
 use Rattle.wb_model.specs.Alike.{TablesAlike, is_reader, LaterAlike, SubmissionsAlike, is_refused}
-
--- the tenant that a command's path names, 0 where it names none
-abbrev pub tenant_of : Command → ℕ
-tenant_of commands.Health = 0
-tenant_of (commands.Public t) = t
-tenant_of (commands.ContextOf t c) = t
-tenant_of (commands.Login t user password) = t
-tenant_of (commands.ReceiptLogin t receipt) = t
-tenant_of (commands.Logout t) = t
-tenant_of (commands.Submit t context answers) = t
-tenant_of (commands.OwnReport t) = t
-tenant_of (commands.OwnComment t text) = t
-tenant_of (commands.GiveIdentity t answers) = t
-tenant_of (commands.List t) = t
-tenant_of (commands.DueList t) = t
-tenant_of (commands.ReadReport t n) = t
-tenant_of (commands.Comment t n text internal) = t
-tenant_of (commands.Label t n label) = t
-tenant_of (commands.SetStatus t n status) = t
-tenant_of (commands.Acknowledge t n) = t
-tenant_of (commands.Feedback t n text) = t
-tenant_of (commands.Share t n user) = t
-tenant_of (commands.Unshare t n u) = t
-tenant_of (commands.Transfer t n context) = t
-tenant_of (commands.Postpone t n) = t
-tenant_of (commands.Ask t n reason) = t
-tenant_of (commands.ReadIdentity t n) = t
-tenant_of (commands.Requests t) = t
-tenant_of (commands.Decide t n k decision reason withhold) = t
-tenant_of (commands.Admin t) = t
-tenant_of (commands.SetSettings t next) = t
-tenant_of (commands.SetUser t u next) = t
-tenant_of (commands.SetContext t c next) = t
-tenant_of (commands.SetForm t f form) = t
 
 abbrev pub tenant_at : Frame → ℕ
 tenant_at f = tenant_of f.asked.command
@@ -73,13 +38,13 @@ healthy = told 200 health_view
 abbrev pub without_tenant : ℕ → Told
 without_tenant t = if t == 0 then healthy else not_found
 
-abbrev pub reply_of : Hosts → Frame → Option Tenancy → Told
-reply_of h f None = without_tenant (tenant_at f)
-reply_of h f (Some x) = reply_to (one h.turns h.now x.tables) f
+abbrev pub tenancy_reply : Hosts → Frame → Option Tenancy → Told
+tenancy_reply h f None = without_tenant (tenant_at f)
+tenancy_reply h f (Some x) = reply_to (one h.turns h.now x.tables) f
 
 -- the reply of a turn: that of the tenant that it names
 abbrev pub hosts_reply : Hosts → Frame → Told
-hosts_reply h f = reply_of h f (find (has_id (tenant_at f)) h.list)
+hosts_reply h f = tenancy_reply h f (find (has_id (tenant_at f)) h.list)
 
 -- the tenant that the turn names makes it, and each other purges at its time
 abbrev pub one_after : ℕ → ℕ → Frame → Tenancy → Tenancy
@@ -95,15 +60,16 @@ hosts_lost h f = record { turns = h.turns + 1; now = max h.now f.moment; list = 
 
 -- ---- alike but for the identity answers of report r of tenant t
 
-abbrev pub OneAlike : Bool → ℕ → Tables → Tables → Type 0
-OneAlike true r x y = TablesAlike r x y
-OneAlike false r x y = x ≡ y
+-- alike where they are of the report's tenant, and else equal
+abbrev pub AlikeWhere : Bool → ℕ → Tables → Tables → Type 0
+AlikeWhere true r x y = TablesAlike r x y
+AlikeWhere false r x y = x ≡ y
 
 abbrev pub AllAlike : ℕ → ℕ → List Tenancy → List Tenancy → Type 0
 AllAlike t r [] [] = Unit {0}
 AllAlike t r (x ∷ xs) [] = ⊥
 AllAlike t r [] (y ∷ ys) = ⊥
-AllAlike t r (x ∷ xs) (y ∷ ys) = ((x.id ≡ y.id) × OneAlike (x.id == t) r x.tables y.tables) × AllAlike t r xs ys
+AllAlike t r (x ∷ xs) (y ∷ ys) = ((x.id ≡ y.id) × AlikeWhere (x.id == t) r x.tables y.tables) × AllAlike t r xs ys
 
 pub record AllHostsAlike (t r : ℕ) (h k : Hosts) : Type 0 where
   pub turns : h.turns ≡ k.turns
@@ -131,6 +97,10 @@ abbrev pub refused_in : Hosts → Frame → Option Tenancy → Bool
 refused_in h f None = true
 refused_in h f (Some x) = is_refused (ruling_at (one h.turns h.now x.tables) f)
 
+-- the request is a submission to tenant t
+abbrev pub SubmitsTo : ℕ → Frame → Type 0
+SubmitsTo t f = (is_submission f.asked.command ≡ true) × (tenant_at f ≡ t)
+
 -- two submissions to tenant t that are alike, of which the first draws the number r
 abbrev pub FirstAlike : ℕ → ℕ → Hosts → Frame → Frame → Type 0
-FirstAlike t r h a b = (tenant_at a ≡ t) × (tenant_at b ≡ t) × OnTenant t h.list (λ x. (r ≡ x.plain.numbering.last + 1) × SubmissionsAlike (purge_at (one h.turns h.now x) a).plain a b) × (a.moment ≡ b.moment)
+FirstAlike t r h a b = SubmitsTo t a × SubmitsTo t b × OnTenant t h.list (λ x. (r ≡ x.plain.numbering.last + 1) × SubmissionsAlike (purge_at (one h.turns h.now x) a).plain a b) × (a.moment ≡ b.moment)

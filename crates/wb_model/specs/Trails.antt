@@ -1,11 +1,11 @@
 -- What the trail of a report says: each fact is the last of its kind, or all of its kind.
-use Rattle.std.specs.Prelude.{ℕ, ◌==◌, nat_lt, not, Bool, true, false, if◌then◌else◌, List, [], ◌∷◌, filter, fold, Option, Some, None, option_map, unwrap_or, ℤ, pos, codes}
+use Rattle.std.specs.Prelude.{ℕ, ◌+◌, ◌==◌, is_some, option_and_then, slice_get, nat_lt, not, Bool, true, false, if◌then◌else◌, List, [], ◌∷◌, length, filter, fold, Option, Some, None, option_map, unwrap_or, ℤ, pos, codes}
 use Rattle.std.specs.List.{list_any, filter_map}
 use Rattle.wb_base.specs.AnswerList.{Answered}
 use Rattle.wb_model.specs.declared.entry.Actor.{Actor}
 use Rattle.wb_model.specs.declared.entry.Actor.TheVariants.{Reporter, User}
 use Rattle.wb_model.specs.declared.entry.Status.{Status}
-use Rattle.wb_model.specs.declared.entry.Status.TheVariants.{New}
+use Rattle.wb_model.specs.declared.entry.Status.TheVariants.{New, Opened, Closed}
 use Rattle.wb_model.specs.declared.entry.Entry.{Entry}
 use Rattle.wb_model.specs.declared.entry.Deed.{Deed}
 use Rattle.wb_model.specs.declared.entry.Deed.TheVariants as deeds
@@ -85,6 +85,15 @@ status_in _ = None
 abbrev pub status : List Entry → Status
 status trail = last_said status_in New trail
 
+abbrev pub same_status : Status → Status → Bool
+same_status New New = true
+same_status Opened Opened = true
+same_status Closed Closed = true
+same_status _ _ = false
+
+abbrev pub is_closed : List Entry → Bool
+is_closed trail = same_status (status trail) Closed
+
 abbrev pub label_in : Deed → Option (List ℕ)
 label_in (deeds.Label text) = Some text
 label_in _ = None
@@ -115,6 +124,17 @@ abbrev pub expires : List Entry → ℤ
 expires trail = last_said expires_in (pos 0) trail
 
 -- ---- all of a kind
+
+abbrev pub is_postponement : Entry → Bool
+is_postponement entry = by_deed entry.deed
+  where
+    by_deed : Deed → Bool
+    by_deed (deeds.Postponed expires) = true
+    by_deed _ = false
+
+-- how often it was postponed
+abbrev pub postponements : List Entry → ℕ
+postponements trail = length (filter is_postponement trail)
 
 -- the readers with one more, ascending
 abbrev pub with_reader : ℕ → List ℕ → List ℕ
@@ -184,3 +204,16 @@ remark_of entry = by_deed entry.deed
 -- the remarks of a trail, the oldest first
 abbrev pub dialogue : List Entry → List Remark
 dialogue trail = filter_map remark_of trail
+
+-- the places of entries that are remarks, where the first entry is of this place
+abbrev pub remark_places : ℕ → List Entry → List ℕ
+remark_places k [] = []
+remark_places k (e ∷ es) = if is_some (remark_of e) then k ∷ remark_places (k + 1) es else remark_places (k + 1) es
+
+-- the places in a trail, counted from 0, that its dialogue shows
+abbrev pub dialogue_places : List Entry → List ℕ
+dialogue_places trail = remark_places 0 trail
+
+-- the remarks at these places of a trail
+abbrev pub remarks_at : List Entry → List ℕ → List Remark
+remarks_at trail places = filter_map (λ k. option_and_then remark_of (slice_get trail k)) places

@@ -1,40 +1,16 @@
--- The bodies of replies.
-use Rattle.std.specs.Prelude.{ℕ, ◌+◌, not, if◌then◌else◌, List, [], ◌∷◌, filter, Option, codes}
+-- The bodies that show one report: to its readers, to its reporter, and its identity answers.
+use Rattle.std.specs.Prelude.{ℕ, not, if◌then◌else◌, List, [], ◌∷◌, filter, Option, codes}
 use Rattle.serde_json.specs.Data.{Data, boolean, string}
 use Rattle.wb_base.specs.AnswerList.{Answered}
-use Rattle.wb_model.specs.declared.access.State.{State}
-use Rattle.wb_model.specs.declared.access.State.TheVariants as states
-use Rattle.wb_model.specs.declared.access.AccessRequest.{AccessRequest}
-use Rattle.wb_model.specs.declared.entry.Status.{Status}
-use Rattle.wb_model.specs.declared.entry.Status.TheVariants as statuses
+use Rattle.wb_model.specs.declared.view.Custodied.{Custodied}
+use Rattle.wb_model.specs.ViewRows.{custodied}
 use Rattle.wb_model.specs.declared.entry.Entry.{Entry}
 use Rattle.wb_model.specs.declared.registry.UserItem.{UserItem}
-use Rattle.wb_model.specs.Access.{requests, state_now, in_force}
+use Rattle.wb_model.specs.Names.{status_name, state_name}
+use Rattle.wb_model.specs.Access.{requests, in_force}
 use Rattle.wb_model.specs.Trails.{Remark, received, ack_due, form, version, answers, context, status, label, acknowledged, feedback_due, feedback_given, expires, readers, has_identity, dialogue}
 use Rattle.wb_model.specs.Tables.{Case, disablings}
 use Rattle.wb_model.specs.Json.{object_of, list_of, whole, date, or_null, answers_data}
-
-abbrev pub status_name : Status → List ℕ
-status_name statuses.New = codes "new"
-status_name statuses.Opened = codes "opened"
-status_name statuses.Closed = codes "closed"
-
-abbrev pub state_name : State → List ℕ
-state_name states.Waiting = codes "waiting"
-state_name states.Granted = codes "granted"
-state_name states.Denied = codes "denied"
-state_name states.Revoked = codes "revoked"
-state_name states.Ended = codes "ended"
-
--- ---- the host's health
-
-unfoldable pub health_view : Data
-health_view = object_of ((codes "status", string (codes "ok")) ∷ [])
-
--- ---- a submission
-
-unfoldable pub submission_view : ℕ → List ℕ → Data
-submission_view n receipt = object_of ((codes "number", whole n) ∷ (codes "receipt", string receipt) ∷ [])
 
 -- ---- the recipient view
 
@@ -47,15 +23,14 @@ remark_data r = object_of (
     (codes "text", string r.text) ∷
     (codes "user", or_null whole r.user) ∷ [])
 
--- requests, numbered from the number on, with the states that they have by now
-abbrev pub requests_from : List UserItem → ℕ → List AccessRequest → List Data
-requests_from users id [] = []
-requests_from users id (r ∷ rs) = object_of (
-    (codes "by", whole r.by) ∷
-    (codes "effective", or_null whole r.effective) ∷
-    (codes "id", whole id) ∷
-    (codes "reason", string r.reason) ∷
-    (codes "state", string (state_name (state_now (disablings r.by users) r))) ∷ []) ∷ requests_from users (id + 1) rs
+-- a request of this report
+abbrev pub request_data : Custodied → Data
+request_data row = object_of (
+    (codes "by", whole row.by) ∷
+    (codes "effective", or_null whole row.effective) ∷
+    (codes "id", whole row.id) ∷
+    (codes "reason", string row.reason) ∷
+    (codes "state", string (state_name row.state)) ∷ [])
 
 -- `none` where no identity answer was given, `open` under a grant of this user in force, else `sealed`
 abbrev pub identity_word : List UserItem → ℕ → ℕ → List Entry → List ℕ
@@ -80,7 +55,7 @@ recipient_view users user now case = let trail = case.trail in object_of (
     (codes "number", whole case.number) ∷
     (codes "readers", list_of whole (readers trail)) ∷
     (codes "received", date (received trail)) ∷
-    (codes "requests", list_of (λ d. d) (requests_from users 1 (requests trail))) ∷
+    (codes "requests", list_of request_data (custodied users case.number (requests trail))) ∷
     (codes "status", string (status_name (status trail))) ∷
     (codes "version", whole (version trail)) ∷ [])
 
@@ -103,5 +78,5 @@ reporter_view case identity = let trail = case.trail in object_of (
     (codes "status", string (status_name (status trail))) ∷
     (codes "version", whole (version trail)) ∷ [])
 
-unfoldable pub identity_view : ℕ → Option Answered → Data
-identity_view n identity = object_of ((codes "answers", or_null answers_data identity) ∷ (codes "number", whole n) ∷ [])
+unfoldable pub identity_view : ℕ → Answered → Data
+identity_view number answers = object_of ((codes "answers", answers_data answers) ∷ (codes "number", whole number) ∷ [])

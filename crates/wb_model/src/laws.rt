@@ -1,17 +1,51 @@
 //! Laws of the definitions, each a function with no body.
-ghost use Rattle.std.specs.Prelude.{◌≡◌, ◌+◌, ℕ, List, false, true, Some, option_and_then};
+ghost use Rattle.std.specs.Prelude.{◌≡◌, ◌+◌, ◌≤◌, ◌<◌, filter, map, ℕ, List, false, true, Some, option_and_then};
 ghost use Rattle.serde_json.specs.Read.{read};
+ghost use Rattle.std.specs.Prelude.{Bool, is_some, length, ℤ, None, ◌++◌, ◌∷◌, []};
+ghost use Rattle.wb_model.specs.declared.entry.Actor.{Actor};
+ghost use Rattle.wb_model.specs.declared.entry.Entry.{Entry};
+ghost use Rattle.wb_model.specs.declared.registry.ContextItem.{ContextItem};
+ghost use Rattle.wb_model.specs.declared.registry.FormItem.{FormItem};
+ghost use Rattle.wb_model.specs.Access.{user_by};
+ghost use Rattle.wb_model.specs.Changes.{At};
+ghost use Rattle.wb_model.specs.Tables.{Registry};
+ghost use Rattle.wb_model.specs.Requests.{Outcome};
+ghost use Rattle.wb_model.specs.Fits.{fits_command};
+ghost use Rattle.wb_model.specs.Submissions.{submission_entry};
+ghost use Rattle.wb_model.specs.Doings.{Doing, doing_fault, doing_deed};
+ghost use Rattle.wb_model.specs.Legal.{ascends, are_readers, is_first, is_next, is_legal, last_at, AsksRightly, IsSound, AreLegal};
+ghost use Rattle.wb_model.specs.declared.command.Asked.{Asked};
+ghost use Rattle.wb_model.specs.Host.{Tables};
+ghost use Rattle.wb_model.specs.Opened.{Ascend};
+ghost use Rattle.wb_model.specs.Trails.{has_identity, dialogue, dialogue_places, remark_places, remarks_at};
+ghost use Rattle.wb_base.specs.declared.callers.Presented.{Presented};
+ghost use Rattle.wb_base.specs.AnswerList.{Answered};
+ghost use Rattle.wb_model.specs.declared.command.Command.TheVariants as commands;
+ghost use Rattle.wb_model.specs.Readings.{Asks};
 ghost use Rattle.wb_base.specs.FormFaults.{is_good};
 ghost use Rattle.wb_base.specs.FormShape.{form_of};
 ghost use Rattle.wb_model.specs.Starter.{starter, starter_form, starter_form_text, starter_opening};
 ghost use Rattle.wb_model.specs.Requests.{Frame};
 ghost use Rattle.wb_model.specs.Host.{Host, purge_at, reply_to, host_after, tables_after};
 ghost use Rattle.wb_model.specs.Tenants.{Hosts, AllHostsAlike, OneLaterAlike, is_report_reader, hosts_reply, hosts_after, hosts_lost};
-ghost use Rattle.wb_model.specs.Past.{Past, Opening, Turn, Opened, tables, at_frame, what_at};
-ghost use Rattle.wb_model.specs.Pasts.{AllOpened, standing_hosts, reply_in, with_turn, with_loss};
+ghost use Rattle.wb_model.specs.declared.event.Event.{Event};
+ghost use Rattle.wb_model.specs.Absence.{begins_here, AreApart, DrawOthersAfter, without, gapped, all_gapped, first_last, BeginsAt, replies, past_with, without_place, replies_without, replies_after, is_purged_after};
+ghost use Rattle.wb_model.specs.Past.{registry, numbering, held, sealed, trail, last, live, is_lost, Past, Opening, Turn, now, live_reports, recent, standing_sessions, tables};
+ghost use Rattle.wb_model.specs.PastTurns.{verdict_at, reply_at, at_frame, what_at};
+ghost use Rattle.wb_model.specs.Opened.{IsNumbered, AreOpened, Opened};
+ghost use Rattle.wb_model.specs.Tables.{lasts};
+ghost use Rattle.wb_model.specs.Pasts.{AllOpened, part, time, standing_hosts, reply_in, with_turn, with_loss};
 ghost use Rattle.wb_model.specs.Alike.{HostsAlike, LaterAlike, SubmissionsAlike, is_reader};
-ghost use Rattle.wb_model.specs.Scripts.{Place, answers};
-ghost use Rattle.wb_model.specs.ScriptsAlike.{PlacesAlike, hidden_answers};
+ghost use Rattle.wb_model.specs.Rows.{rows, rows_but};
+ghost use Rattle.wb_model.specs.declared.wire.ScriptFrame.{ScriptFrame};
+ghost use Rattle.wb_model.specs.Playing.{ArePlacesOf, AreLossesTold};
+ghost use Rattle.wb_model.specs.Scripts.{play, Place, ArePossible, script_replies, past_after};
+ghost use Rattle.wb_model.specs.declared.registry.Lists.{Lists};
+ghost use Rattle.wb_model.specs.SetUps.{AreSetUp, tenant_ids};
+ghost use Rattle.wb_model.specs.KeptRules.{AreKept};
+ghost use Rattle.wb_model.specs.Openings.{registry_of, empty_tables};
+ghost use Rattle.wb_model.specs.ByVerdicts.{AreByVerdicts, AskInRange};
+ghost use Rattle.wb_model.specs.ScriptsAlike.{PlacesAlike, hidden_replies};
 
 /// A turn does not tell two hosts apart that differ in the identity answers of report r alone.
 ///
@@ -39,8 +73,12 @@ pub fn a_submission_makes_hosts_alike()
 /// that report's readers asks.
 ///
 /// This holds over every past, and wherever turns are lost at the same places of both scripts.
+///
+/// The hosts at the end differ in those identity answers alone, and so do their rows.
 pub fn alike_scripts_get_the_same_replies()
-    ensures { (i t r : ℕ) (past : Past AllOpened) (places others : List Place) → PlacesAlike i t r past places others → hidden_answers t r past places (answers past places) ≡ hidden_answers t r past places (answers past others) }
+    ensures hosts { (i t r : ℕ) (past : Past AllOpened) (places others : List Place) → PlacesAlike i t r past places others → AllHostsAlike t r (standing_hosts (past_after past places)) (standing_hosts (past_after past others)) }
+    ensures rows { (i t r : ℕ) (past : Past AllOpened) (places others : List Place) → PlacesAlike i t r past places others → rows_but t r (rows (past_after past places)) ≡ rows_but t r (rows (past_after past others)) }
+    ensures replies { (i t r : ℕ) (past : Past AllOpened) (places others : List Place) → PlacesAlike i t r past places others → hidden_replies t r past places (script_replies past places) ≡ hidden_replies t r past places (script_replies past others) }
 {}
 
 /// The hosts that stand for a past answer as the past says, and then stand for the past with that turn, made or lost.
@@ -58,8 +96,113 @@ pub fn a_turn_is_a_step_on_the_tables()
     ensures { (t : ℕ) (past : Past Opened) (f : Frame) → tables (Turn (record { moment = f.moment; words = f.words; what = what_at t past f }) past) (at_frame past f).time ≡ tables_after (tables past (at_frame past f).time) (at_frame past f) f.asked }
 {}
 
+/// The sessions that stand by the past's own words are those that stood just after its last turn, where they still last.
+///
+/// Each turn leaves what stood just before it, less what it ended, and the session that it made.
+pub fn sessions_stand_turn_by_turn()
+    ensures { (past : Past Opened) (time : ℕ) → now past ≤ time → filter (lasts time (live_reports past time)) (recent past) ≡ standing_sessions past time }
+{}
+
+/// What is done on a report, and is not refused, is a legal entry after its trail, whatever the trail is; and so is the
+/// entry with which a submission begins its trail. A legal trail stays legal with such an entry.
+pub fn what_is_not_refused_is_legal()
+    ensures doing { (offset : ℤ) (last time : ℕ) (es : List Entry) (by : Actor) (d : Doing) → last ≤ time → AsksRightly offset time by d → doing_fault es (user_by by) d ≡ None → is_next offset last es (record { at = time; by = by; deed = doing_deed time es d }) ≡ true }
+    ensures submission { (at : At) (g : Registry) (o : Outcome) (c : ContextItem) (form : FormItem) → 1 ≤ c.retention → c.retention ≤ 3_650 → are_readers c.recipients ≡ true → is_first g.settings.offset (submission_entry at g o c form) ≡ true }
+    ensures more { (offset : ℤ) (es : List Entry) (e : Entry) → is_legal offset es ≡ true → is_next offset (last_at 0 es) es e ≡ true → is_legal offset (es ++ e ∷ []) ≡ true }
+{}
+
+/// A turn over purged tables, whose registry is in its ranges, keeps the trails of all reports legal, and the registry in
+/// its ranges.
+pub fn a_turn_keeps_trails_legal()
+    ensures trails { (t : Tables) (at : At) (a : Asked) → fits_command a.command ≡ true → IsSound t.plain.registry → Ascend 0 t.plain.cases → AreLegal t.plain.registry.settings.offset at.time t.plain.cases → AreLegal t.plain.registry.settings.offset at.time (tables_after t at a).plain.cases }
+    ensures registry { (t : Tables) (at : At) (a : Asked) → fits_command a.command ≡ true → IsSound t.plain.registry → IsSound (tables_after t at a).plain.registry }
+{}
+
+/// What the rules of a setup let through is what a host may be opened with, for each tenant; and so is what the rules of
+/// kept rows let through.
+pub fn setups_and_kept_rows_make_openings()
+    ensures setups { (lists : Lists) → AreSetUp lists → (t : ℕ) → AreOpened 0 (empty_tables (registry_of lists t)) }
+    ensures tenants { (lists : Lists) → AreSetUp lists → ascends (tenant_ids lists) ≡ true }
+    ensures kept_rows { (at : ℕ) (lists : Lists) (tenant : ℕ) (t : Tables) → AreKept at lists tenant t → AreOpened at t }
+{}
+
+/// The numbering of each past is one that draws may have left: none, or some, of which some are of the last draw's day.
+pub fn a_numbering_is_left_by_draws()
+    ensures { (past : Past Opened) → IsNumbered (numbering past) }
+{}
+
+/// The live trails of a past that verdicts made are legal at each moment from its time on, and so are those that its host
+/// holds; and its registry is in its ranges.
+///
+/// A script whose requests are in their ranges makes such a past from such a past, and an opening is one.
+pub fn verdicts_keep_trails_legal()
+    ensures live { (t time : ℕ) (past : Past Opened) → AreByVerdicts t past → now past ≤ time → AreLegal (registry past).settings.offset time (live_reports past time) }
+    ensures held { (t : ℕ) (past : Past Opened) → AreByVerdicts t past → AreLegal (registry past).settings.offset (now past) (held past).plain.cases }
+    ensures registry { (t : ℕ) (past : Past Opened) → AreByVerdicts t past → IsSound (registry past) }
+    ensures scripts { (t : ℕ) (past : Past AllOpened) (places : List Place) → AskInRange places → AreByVerdicts t (part t past) → AreByVerdicts t (part t (past_after past places)) }
+{}
+
+/// A report has identity answers exactly where its trail says that some were given, with it or later.
+pub fn identity_answers_stand_where_the_trail_says_so()
+    ensures { (past : Past Opened) (r : ℕ) → is_some (sealed past r) ≡ has_identity (trail past r) }
+{}
+
 /// The starter host's form is the one that its JSON text says, and it is good.
 pub fn the_starter_form_is_good()
     ensures read { option_and_then form_of (read starter_form_text) ≡ Some starter_form }
     ensures good { is_good starter_form ≡ true }
+{}
+
+/// The verdict on a request, its reply and the tables after its turn are told by the tables at its time, that time, the
+/// turn's number, the words and the request.
+pub fn a_turn_is_told_by_the_tables()
+    ensures verdict { (past other : Past Opened) (f : Frame) → at_frame past f ≡ at_frame other f → tables past (at_frame past f).time ≡ tables other (at_frame other f).time → verdict_at past f ≡ verdict_at other f }
+    ensures reply { (past other : Past Opened) (f : Frame) → at_frame past f ≡ at_frame other f → tables past (at_frame past f).time ≡ tables other (at_frame other f).time → reply_at past f ≡ reply_at other f }
+    ensures tables { (t : ℕ) (past other : Past Opened) (f : Frame) → at_frame past f ≡ at_frame other f → tables past (at_frame past f).time ≡ tables other (at_frame other f).time →
+        tables (Turn (record { moment = f.moment; words = f.words; what = what_at t past f }) past) (at_frame past f).time ≡ tables (Turn (record { moment = f.moment; words = f.words; what = what_at t other f }) other) (at_frame other f).time }
+{}
+
+/// The tables of the past in which the submission of report r only drew a number are the tables without r, from the
+/// past's time on.
+pub fn a_gapped_past_lacks_the_report()
+    ensures { (r time : ℕ) (past : Past Opened) → now past ≤ time → first_last past < r → tables (gapped r past) time ≡ without r (tables past time) }
+{}
+
+/// After a turn that was not lost, where report r of tenant t is not live, the hosts stand for the past in which its
+/// submission only drew a number.
+///
+/// So they do after each request's turn.
+pub fn absence_on_one_past()
+    ensures event { (t r : ℕ) (e : Event) (past : Past AllOpened) → is_lost e.what ≡ false → first_last (part t past) < r → live (part t (Turn e past)) r (time (Turn e past)) ≡ false → standing_hosts (all_gapped t r (Turn e past)) ≡ standing_hosts (Turn e past) }
+    ensures turn { (t r : ℕ) (past : Past AllOpened) (f : Frame) → first_last (part t past) < r → live (part t (with_turn past f)) r (time (with_turn past f)) ≡ false → standing_hosts (all_gapped t r (with_turn past f)) ≡ standing_hosts (with_turn past f) }
+{}
+
+/// A place of a script at which a submission is answered 201 begins a report under the next number of its tenant.
+pub fn a_submission_begins_a_report()
+    ensures { (past : Past AllOpened) (p : Place) (session : Presented) (close : Bool) (t c : ℕ) (given : Answered) → p.reading ≡ Asks (record { session = session; command = commands.Submit t c given; close = close }) → (play past p).reply.told.status ≡ 201 → begins_here t (last (part t past) + 1) past p p.reading ≡ true }
+{}
+
+/// Where place i of a script is an accepted submission to tenant t that draws the number r, the replies are those of the
+/// script in which it only drew a number, but at the later places where the report is live. From the place on at which the
+/// report is purged all replies are, and then the hosts at the end are the same.
+///
+/// This holds over every past whose live reports have different receipts, as those of an opening do, and wherever turns are
+/// lost at the same places of both scripts. No later submission to the tenant draws the report's receipt while it is live.
+pub fn absence_over_scripts()
+    ensures opening { (t : ℕ) (o : AllOpened) → AreApart t (Opening o) }
+    ensures live { (i t r : ℕ) (past : Past AllOpened) (places : List Place) → AreApart t past → BeginsAt i t r past places → DrawOthersAfter i t r past places → replies_without i t r past places (map Some (script_replies past places)) ≡ replies_without i t r past places (replies past (without_place i t places)) }
+    ensures replies { (i t r : ℕ) (past : Past AllOpened) (places : List Place) → AreApart t past → BeginsAt i t r past places → DrawOthersAfter i t r past places → replies_after i t r past places (map Some (script_replies past places)) ≡ replies_after i t r past places (replies past (without_place i t places)) }
+    ensures hosts { (i t r : ℕ) (past : Past AllOpened) (places : List Place) → AreApart t past → BeginsAt i t r past places → DrawOthersAfter i t r past places → is_purged_after i t r past places ≡ true → standing_hosts (past_with past (without_place i t places)) ≡ standing_hosts (past_after past places) }
+{}
+
+/// The dialogue of a trail is what its entries say at the places that are kept of it; one more entry is one more place
+/// where it is a remark.
+pub fn a_dialogue_stands_at_its_places()
+    ensures remarks { (trail : List Entry) → remarks_at trail (dialogue_places trail) ≡ dialogue trail }
+    ensures more { (trail : List Entry) (e : Entry) → dialogue_places (trail ++ e ∷ []) ≡ dialogue_places trail ++ remark_places (length trail) (e ∷ []) }
+{}
+
+/// A reply to a frame is 503 or 507 exactly where something was lost there.
+pub fn losses_are_told()
+    ensures { (past : Past AllOpened) (frames : List ScriptFrame) (places : List Place) → ArePlacesOf frames places → ArePossible past places → AreLossesTold past places }
 {}

@@ -3,6 +3,7 @@
 #![tactic(auto)]
 
 mod access;
+mod act;
 mod body;
 mod command;
 mod entry;
@@ -11,23 +12,33 @@ mod laws;
 mod numbering;
 mod registry;
 mod route;
+mod setting;
 mod trail;
+mod view;
 mod wire;
 
 pub use access::{AccessRequest, State};
+pub use act::{Act, CaseFault, CustodyFault, Move, Was};
 pub use body::{Body, Told};
 pub use command::{Asked, Command, ContextSet, Decision, SettingsSet, UserSet};
 pub use entry::{Actor, Deed, Entry, Status};
 pub use event::{Event, What};
 pub use laws::{
-    a_submission_makes_hosts_alike, a_turn_is_a_step_on_the_tables, a_turn_keeps_all_hosts_alike,
-    a_turn_keeps_hosts_alike, alike_scripts_get_the_same_replies, hosts_stand_for_their_past,
-    the_starter_form_is_good,
+    a_dialogue_stands_at_its_places, a_gapped_past_lacks_the_report, a_numbering_is_left_by_draws,
+    a_submission_begins_a_report, a_submission_makes_hosts_alike, a_turn_is_a_step_on_the_tables,
+    a_turn_is_told_by_the_tables, a_turn_keeps_all_hosts_alike, a_turn_keeps_hosts_alike,
+    a_turn_keeps_trails_legal, absence_on_one_past, absence_over_scripts,
+    alike_scripts_get_the_same_replies, hosts_stand_for_their_past,
+    identity_answers_stand_where_the_trail_says_so, losses_are_told, sessions_stand_turn_by_turn,
+    setups_and_kept_rows_make_openings, the_starter_form_is_good, verdicts_keep_trails_legal,
+    what_is_not_refused_is_legal,
 };
 pub use numbering::Numbering;
 pub use registry::{ContextItem, FormItem, Lists, Rights, TenantItem, UserItem};
 pub use route::Route;
+pub use setting::AdminFault;
 pub use trail::Trail;
+pub use view::{Custodied, Due, DueKind, Listed};
 pub use wire::{PathNo, ScriptFrame, WireFault};
 
 #[cfg(test)]

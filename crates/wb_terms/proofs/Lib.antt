@@ -3,3 +3,4 @@ pub mod JiffWords
 pub mod Ranges
 pub mod ReadBack
 pub mod ReadExactly
+mod TermOrder

@@ -2,7 +2,8 @@ ghost use Rattle.wb_base.specs.Days.{IsEarlyDay};
 
 use super::*;
 use std::process::Abort;
-use wb_base::{Day, Moment};
+use std::test::Fail;
+use wb_base::{Day, Moment, Number, Tenant};
 
 // A day to which terms may be added, by its text.
 fn early(rt: &impl Abort, text: &str) -> Day
@@ -148,4 +149,56 @@ fn moments_fall_on_their_days(rt: HostRuntime) {
             "{seconds} at {offset}"
         );
     }
+}
+
+// A term of a tenant's report on a day.
+fn term(rt: &impl Abort, tenant: u32, days: i32, number: u32, kind: Kind) -> Term {
+    Term {
+        tenant: Tenant::try_new(tenant).expect(rt, "a tenant"),
+        day: Day::try_new(days).expect(rt, "a day"),
+        number: Number::try_new(number).expect(rt, "a number"),
+        kind,
+    }
+}
+
+#[test]
+fn terms_of_a_tenant_and_a_kind_are_found_up_to_a_day(rt: HostRuntime) -> Result<(), Fail> {
+    let mut index = TermIndex::new(rt.alloc());
+    let rows = [
+        (2, 10, 1, Kind::Ack),
+        (1, 11, 4, Kind::Expiry),
+        (1, 10, 7, Kind::Expiry),
+        (1, 10, 7, Kind::Ack),
+        (1, 9, 8, Kind::Expiry),
+        (1, 10, 3, Kind::Expiry),
+        (1, -1, 9, Kind::Feedback),
+    ];
+    for (tenant, day, number, kind) in rows {
+        let term = term(&rt, tenant, day, number, kind);
+        index.reserve(1)?;
+        assert!(rt; !index.remove(&term));
+        index.add(term);
+    }
+    let found = [
+        (1, 8, Kind::Expiry, [0, 0, 0]),
+        (1, 9, Kind::Expiry, [8, 0, 0]),
+        (1, 10, Kind::Expiry, [8, 3, 7]),
+        (1, 10, Kind::Ack, [7, 0, 0]),
+        (1, 1_200_000, Kind::Feedback, [9, 0, 0]),
+        (2, 10, Kind::Expiry, [0, 0, 0]),
+        (2, 10, Kind::Ack, [1, 0, 0]),
+        (3, 10, Kind::Ack, [0, 0, 0]),
+    ];
+    for (tenant, day, kind, wanted) in found {
+        let asked = term(&rt, tenant, day, 1, kind);
+        let numbers = index.up_to(asked.tenant, asked.day, kind)?;
+        let mut given = [0; 3];
+        for (place, number) in given.iter_mut().zip(&numbers) {
+            *place = number.get();
+        }
+        assert_eq!(rt; given, wanted, "tenant {tenant} to day {day}");
+    }
+    assert!(rt; index.remove(&term(&rt, 1, 10, 7, Kind::Expiry)));
+    assert_eq!(rt; index.as_slice().len(), 6);
+    Ok(())
 }

@@ -1,4 +1,3 @@
 pub mod MarkLemmas
 pub mod FaultLemmas
 pub mod PublicLemmas
-pub mod TestForms

@@ -13,6 +13,3 @@ pub use checks::{check, check_identity};
 pub use laws::{alike_answers, public_answers_stand_by_themselves};
 pub use split::Split;
 pub use visible::shown;
-
-#[cfg(test)]
-mod tests;

@@ -1,9 +1,14 @@
--- A change of the request of a number, in the list of borrowed requests.
-use Rattle.std.proofs.Common.{◌≡◌, ℕ, zero, suc, ◌-◌, ◌<◌, ◌≤◌, List, [], ◌∷◌, length, map, get_or, set, ◌⊎◌, inl, inr, refl, ap, arith}
+-- A change of the request of a number, in the list of borrowed requests, and the rows of requests.
+use Rattle.std.proofs.Common.{◌≡◌, ◌+◌, ℕ, zero, suc, ◌-◌, ◌<◌, ◌≤◌, List, [], ◌∷◌, length, map, get_or, set, ◌⊎◌, inl, inr, refl, sym, ap, ◌∙◌, arith}
 use Rattle.wb_model.specs.declared.access.AccessRequest.{AccessRequest}
+use Rattle.wb_model.specs.declared.registry.UserItem.{UserItem}
 use Rattle.wb_model.specs.Access.{with_request}
+use Rattle.wb_model.specs.Json.{list_of}
+use Rattle.wb_model.specs.ViewRows.{custodied_from, custodied}
+use Rattle.wb_model.specs.Views.{request_data}
 use Rattle.wb_views.specs.declared.requests.Request.{Request}
-use Rattle.wb_views.specs.Seen.{request_seen}
+use Rattle.wb_views.specs.Seen.{request_seen, requests_from}
+use Rattle.wb_views.proofs.Lists.{list_of-map}
 
 at_place : (change : AccessRequest → AccessRequest) (new : Request) (i : ℕ) (xs : List Request) (d : Request) → i < length xs
     → request_seen new ≡ change (request_seen (get_or xs i d)) → map request_seen (set xs i new) ≡ with_request (suc i) change (map request_seen xs)
@@ -34,3 +39,14 @@ none change (suc n) (x ∷ xs) h = absurd (omega arith)
 pub unchanged : (change : AccessRequest → AccessRequest) (n : ℕ) (xs : List Request) → (0 < n × length xs < n) ⊎ (n ≤ 0) → map request_seen xs ≡ with_request n change (map request_seen xs)
 unchanged change n xs (inl h) = above change n xs h.1
 unchanged change n xs (inr h) = none change n xs h
+
+then_same : {X : Type 0} {xs ys : List X} (x : X) → xs ≡ ys → x ∷ xs ≡ x ∷ ys
+then_same x e = ap (λ zs. x ∷ zs) e
+
+-- a report's own number is not shown
+unnumbered : (users : List UserItem) (number id : ℕ) (rs : List AccessRequest) → requests_from users id rs ≡ map request_data (custodied_from users number id rs)
+unnumbered users number id [] = refl
+unnumbered users number id (r ∷ rs) = then_same _ (unnumbered users number (id + 1) rs)
+
+pub as_rows : (users : List UserItem) (number : ℕ) (rs : List AccessRequest) → list_of (λ d. d) (requests_from users 1 rs) ≡ list_of request_data (custodied users number rs)
+as_rows users number rs = ap (list_of (λ d. d)) (unnumbered users number 1 rs) ∙ sym (list_of-map (λ d. d) request_data (custodied_from users number 1 rs))

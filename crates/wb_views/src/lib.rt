@@ -2,8 +2,6 @@
 #![tactic(auto)]
 
 mod facts;
-mod json;
-mod laws;
 mod parts;
 mod readers;
 mod recipient;
@@ -12,10 +10,6 @@ mod remarks;
 mod requests;
 mod submission;
 
-pub use laws::refusals_have_their_bodies;
 pub use recipient::recipient_view;
 pub use refusals::{Detail, refusal};
 pub use submission::submission_view;
-
-#[cfg(test)]
-mod tests;

@@ -5,20 +5,25 @@ ghost use Rattle.serde_json.specs.Written.{compact_text};
 ghost use Rattle.wb_model.specs.Access as access;
 ghost use Rattle.wb_model.specs.Json.{list_of, whole};
 ghost use Rattle.wb_model.specs.Trails as trails;
+ghost use Rattle.wb_model.specs.Names.{status_name as status_name_of, state_name as state_name_of};
 ghost use Rattle.wb_model.specs.Views as views;
-ghost use Rattle.wb_views.specs.Seen.{request_seen};
+ghost use Rattle.wb_views.specs.Seen.{request_seen, requests_from};
 
+use crate::facts;
 use crate::readers::readers;
 use crate::remarks::dialogue;
 use crate::requests::{Request, disablings, id_of, in_force, requests, state_now};
-use crate::{facts, json, parts};
 use serde_json::{Map, Value};
 use std::alloc::Global;
 use wb_base::{Memory, Moment, Number, Text, UserId};
+use wb_json::{
+    answers_value, list_value, put_date, put_date_or_null, put_flag, put_text, put_value,
+    put_whole, put_whole_or_null, text_of,
+};
 use wb_model::{Entry, State, Status, UserItem};
 
 fn status_name(status: Status) -> &'static str
-    ensures { result.now ≡ views.status_name status }
+    ensures { result.now ≡ status_name_of status }
 {
     match status {
         Status::New => "new",
@@ -28,7 +33,7 @@ fn status_name(status: Status) -> &'static str
 }
 
 fn state_name(state: State) -> &'static str
-    ensures { result.now ≡ views.state_name state }
+    ensures { result.now ≡ state_name_of state }
 {
     match state {
         State::Waiting => "waiting",
@@ -67,23 +72,23 @@ fn request_value(
     request: &Request<'_>,
 ) -> Result<Value, Memory>
     ensures { IfOk result (λ value.
-        view value ∷ [] ≡ views.requests_from users.now id (request_seen request.now ∷ [])) }
+        view value ∷ [] ≡ requests_from users.now id (request_seen request.now ∷ [])) }
 {
     let by = id_of(request.by);
     let state = state_now(disablings(users, by), request);
     let mut map = Map::new(alloc);
-    json::put_text(&mut map, alloc, "state", state_name(state))?;
-    json::put_text(&mut map, alloc, "reason", request.reason)?;
-    json::put_whole(&mut map, alloc, "id", id)?;
-    json::put_whole_or_null(&mut map, alloc, "effective", request.effective)?;
-    json::put_whole(&mut map, alloc, "by", by as u64)?;
+    put_text(&mut map, alloc, "state", state_name(state))?;
+    put_text(&mut map, alloc, "reason", request.reason)?;
+    put_whole(&mut map, alloc, "id", id)?;
+    put_whole_or_null(&mut map, alloc, "effective", request.effective)?;
+    put_whole(&mut map, alloc, "by", by as u64)?;
     Ok(Value::Object(map))
 }
 
 // The array of requests, numbered from 1.
 fn requests_value(alloc: Global, users: &[UserItem], found: &[Request<'_>]) -> Result<Value, Memory>
     ensures { IfOk result (λ value.
-        view value ≡ list_of (λ d. d) (views.requests_from users.now 1 (map request_seen found.now))) }
+        view value ≡ list_of (λ d. d) (requests_from users.now 1 (map request_seen found.now))) }
 {
     let mut values = Vec::new(alloc);
     for (at, request) in found.iter().enumerate() {
@@ -97,7 +102,7 @@ fn dialogue_value(alloc: Global, trail: &[Entry]) -> Result<Value, Memory>
     ensures { IfOk result (λ value. view value ≡ list_of views.remark_data (trails.dialogue trail.now)) }
 {
     let remarks = dialogue(alloc, trail)?;
-    parts::list_value(alloc, remarks.as_slice())
+    list_value(alloc, remarks.as_slice())
 }
 
 // The array of the readers of a trail.
@@ -105,7 +110,7 @@ fn readers_value(alloc: Global, trail: &[Entry]) -> Result<Value, Memory>
     ensures { IfOk result (λ value. view value ≡ list_of whole (trails.readers trail.now)) }
 {
     let readers = readers(alloc, trail)?;
-    parts::list_value(alloc, readers.as_slice())
+    list_value(alloc, readers.as_slice())
 }
 
 // The JSON value of the body.
@@ -126,30 +131,30 @@ fn recipient_value(
     let requests = requests_value(alloc, users, found.as_slice())?;
     let readers = readers_value(alloc, trail)?;
     let dialogue = dialogue_value(alloc, trail)?;
-    let answers = parts::answers_value(alloc, facts::answers(trail))?;
+    let answers = answers_value(alloc, facts::answers(trail))?;
     let mut map = Map::new(alloc);
-    json::put_whole(&mut map, alloc, "version", facts::version(trail) as u64)?;
-    json::put_text(&mut map, alloc, "status", status_name(facts::status(trail)))?;
-    json::put_value(&mut map, alloc, "requests", requests)?;
-    json::put_date(&mut map, alloc, "received", facts::received(trail))?;
-    json::put_value(&mut map, alloc, "readers", readers)?;
-    json::put_whole(&mut map, alloc, "number", number.get() as u64)?;
-    json::put_text(&mut map, alloc, "label", facts::label(trail))?;
-    json::put_text(&mut map, alloc, "identity", identity)?;
-    json::put_whole(&mut map, alloc, "form", facts::form(trail) as u64)?;
-    json::put_flag(
+    put_whole(&mut map, alloc, "version", facts::version(trail) as u64)?;
+    put_text(&mut map, alloc, "status", status_name(facts::status(trail)))?;
+    put_value(&mut map, alloc, "requests", requests)?;
+    put_date(&mut map, alloc, "received", facts::received(trail))?;
+    put_value(&mut map, alloc, "readers", readers)?;
+    put_whole(&mut map, alloc, "number", number.get() as u64)?;
+    put_text(&mut map, alloc, "label", facts::label(trail))?;
+    put_text(&mut map, alloc, "identity", identity)?;
+    put_whole(&mut map, alloc, "form", facts::form(trail) as u64)?;
+    put_flag(
         &mut map,
         alloc,
         "feedback_given",
         facts::feedback_given(trail),
     )?;
-    json::put_date(&mut map, alloc, "feedback_due", facts::feedback_due(trail))?;
-    json::put_date(&mut map, alloc, "expires", facts::expires(trail))?;
-    json::put_value(&mut map, alloc, "dialogue", dialogue)?;
-    json::put_whole(&mut map, alloc, "context", facts::context(trail) as u64)?;
-    json::put_value(&mut map, alloc, "answers", answers)?;
-    json::put_date_or_null(&mut map, alloc, "acknowledged", facts::acknowledged(trail))?;
-    json::put_date(&mut map, alloc, "ack_due", facts::ack_due(trail))?;
+    put_date(&mut map, alloc, "feedback_due", facts::feedback_due(trail))?;
+    put_date(&mut map, alloc, "expires", facts::expires(trail))?;
+    put_value(&mut map, alloc, "dialogue", dialogue)?;
+    put_whole(&mut map, alloc, "context", facts::context(trail) as u64)?;
+    put_value(&mut map, alloc, "answers", answers)?;
+    put_date_or_null(&mut map, alloc, "acknowledged", facts::acknowledged(trail))?;
+    put_date(&mut map, alloc, "ack_due", facts::ack_due(trail))?;
     Ok(Value::Object(map))
 }
 
@@ -167,5 +172,5 @@ pub fn recipient_view(
         ≡ compact_text (views.recipient_view users.now user now (record { number = number; trail = trail.now }))) }
 {
     let value = recipient_value(alloc, users, user, now, number, trail)?;
-    json::text_of(alloc, &value)
+    text_of(alloc, &value)
 }

@@ -3,22 +3,22 @@ ghost use Rattle.std.specs.Prelude.{◌≡◌, IfOk};
 ghost use Rattle.std.specs.Str.{IsUtf8};
 ghost use Rattle.serde_json.specs.View.{view};
 ghost use Rattle.serde_json.specs.Written.{compact_text};
-ghost use Rattle.wb_model.specs.Views.{submission_view as submission_data};
+ghost use Rattle.wb_model.specs.ShortViews.{submission_view as submission_data};
 
-use crate::json;
 use serde_json::{Map, Value};
 use std::alloc::Global;
 use std::str;
 use wb_base::{Memory, Text};
+use wb_json::{put_text, put_whole, text_of};
 
 // The JSON value of a submission.
-#[tactic(auto, unfolding(wb_model::specs::Views::submission_view))]
+#[tactic(auto, unfolding(wb_model::specs::ShortViews::submission_view))]
 fn submission_value(alloc: Global, number: u32, receipt: &str) -> Result<Value, Memory>
     ensures { IfOk result (λ value. view value ≡ submission_data number receipt.now) }
 {
     let mut map = Map::new(alloc);
-    json::put_text(&mut map, alloc, "receipt", receipt)?;
-    json::put_whole(&mut map, alloc, "number", number as u64)?;
+    put_text(&mut map, alloc, "receipt", receipt)?;
+    put_whole(&mut map, alloc, "number", number as u64)?;
     Ok(Value::Object(map))
 }
 
@@ -30,7 +30,7 @@ pub fn submission_view(alloc: Global, number: u32, receipt: &[u8; 16]) -> Result
     match str::from_utf8(receipt.as_slice()) {
         Ok(receipt) => {
             let value = submission_value(alloc, number, receipt)?;
-            json::text_of(alloc, &value)
+            text_of(alloc, &value)
         }
         Err(_) => unreachable!(),
     }

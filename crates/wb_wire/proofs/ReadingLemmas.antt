@@ -18,9 +18,9 @@ use Rattle.wb_model.specs.Built.{is_built}
 use Rattle.wb_model.specs.Bodies.{Numbers, bare, shaped}
 use Rattle.wb_model.specs.Fits.{fits, fits_command, fits_session, is_path_number}
 use Rattle.wb_model.specs.Heads.{Fields, BeginsWithHead, closes, closes_by, path, fields_of, values, is_number, is_token, token, presented_by, session}
-use Rattle.wb_model.specs.Readings.{Reading, Asks, Reads, Closes, and_then, sized, Place, place_by, place_of, placed, routed, body_by, command_by, command, built, asks, reading_by, reading_of}
-use Rattle.wb_model.specs.Routes.{Path, number_of_path, row, segments, path_number, are_numbers, number_under, route}
-use Rattle.wb_model.specs.Scripts.{is_health}
+use Rattle.wb_model.specs.Readings.{Reading, Asks, Reads, Closes, and_then, sized, Located, located_by, located, located_or_fault, routed, body_by, command_by, command, built, asks, reading_by, reading_of}
+use Rattle.wb_model.specs.Routes.{Path, number_of_path, path_at, segments, path_number, are_numbers, number_under, route}
+use Rattle.wb_model.specs.Commands.{is_health}
 use Rattle.wb_wire.proofs.ShapeLemmas.{GoodForms, AreNumbers, IsOfBody, shaped_of, bare_fits}
 
 -- ---- one head, one reading
@@ -100,20 +100,20 @@ if_given : (P : Command → Type 0) (o : Option Command) (c : Command) → IfSom
 if_given P o c all is = subst (λ x. IfSome x P) is all
 
 -- the numbers that stand in a place of the table fit
-place_fits : (text : List ℕ) (p : Place) → place_of text ≡ Some p → AreNumbers p.at
+place_fits : (text : List ℕ) (p : Located) → located text ≡ Some p → AreNumbers p.at
 place_fits text p is = by_number (number_of_path text) is
   where
     by_test : (number : ℕ) (q : Path) (b : Bool) → (cond b (Some (record { number = number; methods = q.methods; at = number_under (segments q.pattern) (segments text) })) None) ≡ Some p → AreNumbers p.at
-    by_test number q true e = (let same : record { number = number; methods = q.methods; at = number_under (segments q.pattern) (segments text) } ≡ p = cc in subst (λ (x : Place). AreNumbers x.at) same (numbers_fit (segments q.pattern) (segments text)))
+    by_test number q true e = (let same : record { number = number; methods = q.methods; at = number_under (segments q.pattern) (segments text) } ≡ p = cc in subst (λ (x : Located). AreNumbers x.at) same (numbers_fit (segments q.pattern) (segments text)))
     by_test number q false e = absurd cc
 
-    by_row : (number : ℕ) (o : Option Path) → option_and_then (place_by text number) o ≡ Some p → AreNumbers p.at
+    by_row : (number : ℕ) (o : Option Path) → option_and_then (located_by text number) o ≡ Some p → AreNumbers p.at
     by_row number None e = absurd cc
     by_row number (Some q) e = by_test number q (are_numbers (segments q.pattern) (segments text)) e
 
-    by_number : (o : Option ℕ) → option_and_then (λ number. option_and_then (place_by text number) (row number)) o ≡ Some p → AreNumbers p.at
+    by_number : (o : Option ℕ) → option_and_then (λ number. option_and_then (located_by text number) (path_at number)) o ≡ Some p → AreNumbers p.at
     by_number None e = absurd cc
-    by_number (Some number) e = by_row number (row number) e
+    by_number (Some number) e = by_row number (path_at number) e
 
 -- the command of a body
 body_command : GoodForms → (at : Numbers) (rest : List ℕ) (said : Option ℕ) (r : Route) (c : Command) → AreNumbers at → and_then (λ d. ok_or (shaped r at d) faults.BadShape) (body_by rest said) ≡ Ok c → IsOfBody c
@@ -132,22 +132,22 @@ command_fits good at rest said r c h is = by (bare r at) (bare_fits r at h) is
 -- how what is asked came about: the place, its route and the command
 pub record Asking (method text : List ℕ) (fields : Fields) (rest : List ℕ) (c : Command) : Type 0 where
   pub said : Option ℕ
-  pub place : Place
-  pub found : place_of text ≡ Some place
+  pub place : Located
+  pub found : located text ≡ Some place
   pub asked : Route
   pub routes : route method place.methods ≡ Some asked
   pub commands : command place.at rest said asked ≡ Ok c
 
 pub asking : (method text : List ℕ) (fields : Fields) (rest : List ℕ) (c : Command) → asks method text fields rest ≡ Ok c → Asking method text fields rest c
 asking method text fields rest c is =
-    let said = and_then_ok (λ s. and_then (λ p. and_then built (and_then (command p.at rest s) (routed method p))) (placed text)) (sized fields rest) c is in
-    let place = and_then_ok (λ p. and_then built (and_then (command p.at rest said.0) (routed method p))) (placed text) c said.2 in
+    let said = and_then_ok (λ s. and_then (λ p. and_then built (and_then (command p.at rest s) (routed method p))) (located_or_fault text)) (sized fields rest) c is in
+    let place = and_then_ok (λ p. and_then built (and_then (command p.at rest said.0) (routed method p))) (located_or_fault text) c said.2 in
     let made = and_then_ok built (and_then (command place.0.at rest said.0) (routed method place.0)) c place.2 in
     let by = and_then_ok (command place.0.at rest said.0) (routed method place.0) made.0 made.1 in
     record {
       said = said.0;
       place = place.0;
-      found = ok_or_some (place_of text) faults.NoRoute place.0 place.1;
+      found = ok_or_some (located text) faults.NoRoute place.0 place.1;
       asked = by.0;
       routes = ok_or_some (route method place.0.methods) (faults.NoMethod place.0.number) by.0 by.1;
       commands = by.2 ∙ ap Ok (built_same made.0 c made.2);
@@ -175,18 +175,18 @@ reads_fit good bytes asked (inl x) =
 reads_fit good bytes asked (inr x) = absurd (cc (x.1))
 
 -- what the body of a route asks is not the host's health
-pub body_not_health : GoodForms → (method text : List ℕ) (fields : Fields) (rest : List ℕ) (place : Place) (r : Route) (c : Command) → place_of text ≡ Some place → route method place.methods ≡ Some r → bare r place.at ≡ None
+pub body_not_health : GoodForms → (method text : List ℕ) (fields : Fields) (rest : List ℕ) (place : Located) (r : Route) (c : Command) → located text ≡ Some place → route method place.methods ≡ Some r → bare r place.at ≡ None
     → asks method text fields rest ≡ Ok c → is_health c ≡ false
 body_not_health good method text fields rest place r c found routes none is =
     let a = asking method text fields rest c is in
     let same_place : a.place ≡ place = (let t : Some a.place ≡ Some place = sym a.found ∙ found in cc) in
-    let same_route : a.asked ≡ r = (let t : Some a.asked ≡ Some r = sym a.routes ∙ ap (λ (p : Place). route method p.methods) same_place ∙ routes in cc) in
-    let made : command place.at rest a.said r ≡ Ok c = ap (λ (p : Place). command p.at rest a.said r) (sym same_place) ∙ ap (command a.place.at rest a.said) (sym same_route) ∙ a.commands in
+    let same_route : a.asked ≡ r = (let t : Some a.asked ≡ Some r = sym a.routes ∙ ap (λ (p : Located). route method p.methods) same_place ∙ routes in cc) in
+    let made : command place.at rest a.said r ≡ Ok c = ap (λ (p : Located). command p.at rest a.said r) (sym same_place) ∙ ap (command a.place.at rest a.said) (sym same_route) ∙ a.commands in
     let of_body : and_then (λ d. ok_or (shaped r place.at d) faults.BadShape) (body_by rest a.said) ≡ Ok c = rw none at made in
     (body_command good place.at rest a.said r c (place_fits text place found) of_body).1
 
 -- ---- from the parts
 
-pub asks_on : (method text : List ℕ) (fields : Fields) (rest : List ℕ) (said : Option ℕ) (p : Place) (r : Route) → sized fields rest ≡ Ok said → place_of text ≡ Some p → route method p.methods ≡ Some r
+pub asks_on : (method text : List ℕ) (fields : Fields) (rest : List ℕ) (said : Option ℕ) (p : Located) (r : Route) → sized fields rest ≡ Ok said → located text ≡ Some p → route method p.methods ≡ Some r
     → asks method text fields rest ≡ and_then built (command p.at rest said r)
 asks_on method text fields rest said p r e f g = rw (e, f, g) refl

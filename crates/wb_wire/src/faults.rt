@@ -23,7 +23,7 @@ pub fn fault_status(fault: &WireFault) -> u16
     }
 }
 
-#[tactic(auto, unfolding(wb_model::specs::Replies::fault_told, wb_model::specs::Refusals::not_found, wb_model::specs::Refusals::not_built, wb_model::specs::Refusals::no_memory, json::specs::Print::escape_byte))]
+#[tactic(auto, unfolding(wb_model::specs::Replies::fault_told, wb_model::specs::Refusals::not_found, wb_model::specs::Refusals::not_built, wb_model::specs::Refusals::no_memory, wb_model::specs::Refusals::refusal, json::specs::Print::escape_byte))]
 /// The body of a fault's reply, JSON (RFC 8259). It takes no memory.
 pub fn fault_body(fault: &WireFault) -> &'static [u8]
     ensures text { result.now ≡ (fault_told fault.now).body }

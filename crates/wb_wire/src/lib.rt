@@ -28,6 +28,3 @@ pub use requests::{WireNo, read_request};
 pub use router::Routes;
 pub use wb_model::{PathNo, ScriptFrame, WireFault};
 pub use written::{Head, Line, Written};
-
-#[cfg(test)]
-mod tests;

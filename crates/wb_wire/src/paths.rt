@@ -1,6 +1,6 @@
 //! The table of paths: their methods, and what each asks.
 ghost use Rattle.std.specs.Prelude.{◌≡◌, length, map, drop, option_map};
-ghost use Rattle.wb_model.specs.Routes.{paths as paths_of, patterns, row as row_of, route as route_of};
+ghost use Rattle.wb_model.specs.Routes.{paths as paths_of, patterns, path_at as row_of, route as route_of};
 ghost use Rattle.wb_wire.specs.Paths.{path_of, patterns_of, methods_of};
 
 use wb_model::{PathNo, Route};

@@ -6,8 +6,8 @@ ghost use Rattle.wb_model.specs.declared.command.Command.{Command as CommandOf};
 ghost use Rattle.wb_model.specs.Built.{is_built as built_test};
 ghost use Rattle.wb_model.specs.Bodies.{bare as bare_of};
 ghost use Rattle.wb_model.specs.Fits.{fits};
-ghost use Rattle.wb_model.specs.Readings.{Reads, Closes, Asks, Refuses, sized as sized_of, place_of, body_by, command as command_of, built as built_of, closes_always as closes_always_of};
-ghost use Rattle.wb_model.specs.Scripts.{is_health};
+ghost use Rattle.wb_model.specs.Readings.{Reads, Closes, Asks, Refuses, sized as sized_of, located, body_by, command as command_of, built as built_of, closes_always as closes_always_of};
+ghost use Rattle.wb_model.specs.Commands.{is_health};
 ghost use Rattle.wb_wire.specs.Places.{place_value, at_place};
 ghost use Rattle.wb_wire.specs.RequestParts.{fields_in, asks_of, GivesOrWants, GivesBody};
 
@@ -48,13 +48,13 @@ struct Parts<'a> {
 
 // A path of the table that a request is on.
 #[derive(Drop)]
-struct Place<'a> {
+struct Located<'a> {
     number: PathNo,
     row: &'static Path,
     path: &'a [u8],
 }
 
-impl<'a> Place<'a> {
+impl<'a> Located<'a> {
     // The numbers that stand in it.
     fn numbers(&self) -> Numbers<'a>
         ensures { at_place result ≡ (place_value self.now).at }
@@ -82,8 +82,8 @@ fn sized(parts: &Parts) -> Result<Option<u64>, WireFault>
 }
 
 // The path of the table that a path is, where its numbers are numbers.
-fn find_place<'a>(routes: &Routes, path: &'a [u8]) -> Option<Place<'a>>
-    ensures { option_map place_value result ≡ place_of path.now }
+fn find_place<'a>(routes: &Routes, path: &'a [u8]) -> Option<Located<'a>>
+    ensures { option_map place_value result ≡ located path.now }
 {
     let Some(number) = routes.number_of(path) else {
         return None;
@@ -92,7 +92,7 @@ fn find_place<'a>(routes: &Routes, path: &'a [u8]) -> Option<Place<'a>>
         return None;
     };
     if are_numbers(row.pattern.as_bytes(), path) {
-        Some(Place { number, row, path })
+        Some(Located { number, row, path })
     } else {
         None
     }
@@ -145,7 +145,8 @@ fn is_built(command: &Command) -> bool
 
 // The command, where its route is built.
 fn built(command: Command) -> Result<Command, WireFault>
-    ensures { result ≡ built_of command }
+    ensures built { result ≡ built_of command }
+    ensures test { IfOk result (λ given. built_test given ≡ true) }
 {
     if is_built(&command) {
         Ok(command)
@@ -158,6 +159,7 @@ fn built(command: Command) -> Result<Command, WireFault>
 fn read_command(alloc: Global, routes: &Routes, parts: &Parts) -> Result<Command, WireFault>
     requires { All (IsHeaderWithin (length parts.now.bytes.now)) parts.now.fields.now }
     ensures asked { GivesOrWants (asks_of parts.now) result }
+    ensures built { IfOk result (λ command. built_test command ≡ true) }
     ensures health { result ≡ Err WireFault.Memory → (command : CommandOf) → asks_of parts.now ≡ Ok command → is_health command ≡ false }
 {
     let said = sized(parts)?;
@@ -212,6 +214,7 @@ fn refusal(close: bool, fault: WireFault) -> WireNo
 pub fn read_request(alloc: Global, routes: &Routes, bytes: &[u8]) -> Result<Asked, WireNo>
     ensures ok { IfOk result (λ asked. Reads bytes.now (Asks asked)) }
     ensures fits { IfOk result (λ asked. fits asked ≡ true) }
+    ensures built { IfOk result (λ asked. built_test asked.command ≡ true) }
     ensures refused { IfErr result (λ no. no.fault ≢ WireFault.Memory → Reads bytes.now (Refuses no.fault no.close)) }
     ensures memory { IfErr result (λ no. no.fault ≡ WireFault.Memory → Closes bytes.now no.close) }
     // A request for the host's health takes no memory.

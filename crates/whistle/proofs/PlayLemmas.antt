@@ -3,21 +3,23 @@ use Rattle.std.proofs.Common.{◌≡◌, ◌<◌, ◌+◌, ℕ, List, [], ◌∷
 use Rattle.std.specs.List.{AllByRecursion}
 use Rattle.std.specs.Io.KnownBytes.{Appends, Consumes}
 use Rattle.std.proofs.KnownBytes.{Appends-trans, Consumes-trans, Appends-nil, Consumes-nil}
+use Rattle.wb_base.specs.declared.rows.Row.{Row}
 use Rattle.wb_base.specs.Outside.{AppendsFront}
 use Rattle.wb_model.specs.declared.wire.ScriptFrame.{ScriptFrame}
 use Rattle.wb_model.specs.FrameTexts.{texts, frame_text, line_of, IsFrame}
 use Rattle.wb_model.specs.Past.{Past}
 use Rattle.wb_model.specs.Pasts.{AllOpened}
-use Rattle.wb_model.specs.Playing.{IsPlaceOf, ArePlacesOf, written, output, one_by_keeper, keeper_losses, RoseBy}
-use Rattle.wb_model.specs.Scripts.{Place, IsPossible, ArePossible, play, answers, past_after}
+use Rattle.wb_model.specs.Playing.{IsPlaceOf, ArePlacesOf, written, output, one_by_keeper, keeper_losses, RoseBy, AreLossesTold}
+use Rattle.wb_model.specs.Scripts.{Place, IsPossible, ArePossible, play, script_replies, past_after}
+use Rattle.wb_model.specs.Rows.{rows}
 use Rattle.wb_model.specs.Tenants.{Hosts}
 use Rattle.wb_wire.specs.FrameReading.{Progress, after_next}
 use Rattle.wb_desk.specs.Turns.{StandsFor}
 use Rattle.whistle.specs.declared.answering.Answer.{Answer}
 use Rattle.whistle.specs.Answered.{reply_of, IsAnswer}
 use Rattle.whistle.specs.Submissions.{AreWellAnswered}
-use Rattle.whistle.specs.Runs.{start, output_of, AreLossesTold, Played, Wrote, BrokeOff}
-use Rattle.whistle.proofs.Statuses.{all_told}
+use Rattle.whistle.specs.Headline.{KeepsIdentities, ForgetsReports}
+use Rattle.whistle.specs.Runs.{start, output_of, Played, Wrote, BrokeOff}
 use Rattle.whistle.proofs.SubmissionLemmas.{all_well}
 
 -- one more at the end
@@ -32,10 +34,10 @@ pub past_more : (past : Past AllOpened) (ps : List Place) (p : Place) → past_a
 past_more past [] p = refl
 past_more past (q ∷ ps) p = past_more (play past q).past ps p
 
-pub output_more : (past : Past AllOpened) (ps : List Place) (p : Place) → output (answers past (more ps p)) ≡ output (answers past ps) ++ written (play (past_after past ps) p).reply
+pub output_more : (past : Past AllOpened) (ps : List Place) (p : Place) → output (script_replies past (more ps p)) ≡ output (script_replies past ps) ++ written (play (past_after past ps) p).reply
 output_more past [] p = append-nil (written (play past p).reply)
 output_more past (q ∷ ps) p =
-    ap (λ l. written (play past q).reply ++ l) (output_more (play past q).past ps p) ∙ sym (append_assoc (written (play past q).reply) (output (answers (play past q).past ps)) (written (play (past_after (play past q).past ps) p).reply))
+    ap (λ l. written (play past q).reply ++ l) (output_more (play past q).past ps p) ∙ sym (append_assoc (written (play past q).reply) (output (script_replies (play past q).past ps)) (written (play (past_after (play past q).past ps) p).reply))
 
 pub good_more : (fs : List ScriptFrame) (f : ScriptFrame) → AllByRecursion IsFrame fs → IsFrame f → AllByRecursion IsFrame (more fs f)
 good_more [] f all one = (one, tt)
@@ -74,9 +76,15 @@ pub some_bytes : (f : ScriptFrame) → 0 < length (frame_text f)
 unfolding frame_text
 some_bytes f = omega (arith, length-append (line_of f) (10 ∷ (f.bytes ++ 10 ∷ [])))
 
+-- the laws of scripts, said of what was played from the start
+pub record Laws : Type 0 where
+  pub losses : (frames : List ScriptFrame) (places : List Place) → ArePlacesOf frames places → ArePossible start places → AreLossesTold start places
+  pub identities : (frames : List ScriptFrame) (places : List Place) → ArePlacesOf frames places → KeepsIdentities start frames places
+  pub absence : (frames : List ScriptFrame) (places : List Place) → ArePlacesOf frames places → ForgetsReports start frames places
+
 -- How it stands between two turns: what was at the start, what is now, and the frames and places so far.
-module _ (left held : Option (List ℕ)) (keeper : ℕ) where
-  module _ (left' held' : Option (List ℕ)) (keeper' : ℕ) (hosts : Hosts) (reader : Progress) where
+module _ (left held : Option (List ℕ)) (keeper : ℕ) (holds : List Row → Type 0) where
+  module _ (left' held' : Option (List ℕ)) (keeper' : ℕ) (honest : Type 0) (holds' : List Row → Type 0) (hosts : Hosts) (reader : Progress) where
     pub record Standing (frames : List ScriptFrame) (places : List Place) : Type 0 where
       pub good : AllByRecursion IsFrame frames
       pub placed : ArePlacesOf frames places
@@ -84,36 +92,42 @@ module _ (left held : Option (List ℕ)) (keeper : ℕ) where
       pub taken : Consumes left left' (texts frames)
       pub told : Appends held held' (output_of places)
       pub counted : RoseBy (keeper_losses places) keeper keeper'
+      pub kept : honest → holds (rows start) → holds' (rows (past_after start places))
       pub stands : StandsFor hosts (past_after start places)
       pub number : reader.given ≡ length frames
       pub size : reader.taken ≡ length (texts frames)
       pub goes_on : reader.stopped ≡ None
       pub losses : AreLossesTold start places
       pub submissions : AreWellAnswered start places
+      pub identities : KeepsIdentities start frames places
+      pub absence : ForgetsReports start frames places
 
   -- before the first turn
-  pub at_start : (hosts : Hosts) (reader : Progress) → StandsFor hosts start → reader ≡ record { given = 0; taken = 0; stopped = None } → Standing left held keeper hosts reader [] []
-  at_start hosts reader stands is = record {
+  pub at_start : Laws → (honest : Type 0) (hosts : Hosts) (reader : Progress) → StandsFor hosts start → reader ≡ record { given = 0; taken = 0; stopped = None } → Standing left held keeper honest holds hosts reader [] []
+  at_start laws honest hosts reader stands is = record {
     good = tt;
     placed = tt;
     possible = tt;
     taken = Consumes-nil left;
     told = Appends-nil held;
     counted = omega arith;
+    kept = λ h held. held;
     stands = stands;
     number = ap (λ (p : Progress). p.given) is;
     size = ap (λ (p : Progress). p.taken) is;
     goes_on = ap (λ (p : Progress). p.stopped) is;
     losses = tt;
     submissions = tt;
+    identities = laws.identities [] [] tt;
+    absence = laws.absence [] [] tt;
   }
 
   -- a turn whose reply was written
-  pub advance : (left' held' : Option (List ℕ)) (keeper' : ℕ) (hosts : Hosts) (reader : Progress) (frames : List ScriptFrame) (places : List Place) → Standing left' held' keeper' hosts reader frames places
-      → (left'' held'' : Option (List ℕ)) (keeper'' : ℕ) (after : Hosts) (frame : ScriptFrame) (answer : Answer) (place : Place) → IsFrame frame → Consumes left' left'' (frame_text frame)
-      → IsAnswer (past_after start places) frame answer after keeper' keeper'' place → Appends held' held'' (written (reply_of answer))
-      → (reader' : Progress) → reader' ≡ after_next reader (Some frame) → Standing left'' held'' keeper'' after reader' (more frames frame) (more places place)
-  advance left' held' keeper' hosts reader frames places so_far left'' held'' keeper'' after frame answer place is_frame taken is told reader' goes =
+  pub advance : Laws → (left' held' : Option (List ℕ)) (keeper' : ℕ) (honest : Type 0) (holds' : List Row → Type 0) (hosts : Hosts) (reader : Progress) (frames : List ScriptFrame) (places : List Place) → Standing left' held' keeper' honest holds' hosts reader frames places
+      → (left'' held'' : Option (List ℕ)) (keeper'' : ℕ) (honest' : Type 0) (holds'' : List Row → Type 0) → (honest' → honest) → (after : Hosts) (frame : ScriptFrame) (answer : Answer) (place : Place) → IsFrame frame → Consumes left' left'' (frame_text frame)
+      → IsAnswer honest' holds' holds'' (past_after start places) frame answer after keeper' keeper'' place → Appends held' held'' (written (reply_of answer))
+      → (reader' : Progress) → reader' ≡ after_next reader (Some frame) → Standing left'' held'' keeper'' honest' holds'' after reader' (more frames frame) (more places place)
+  advance laws left' held' keeper' honest holds' hosts reader frames places so_far left'' held'' keeper'' honest' holds'' back after frame answer place is_frame taken is told reader' goes =
       record {
         good = good_more frames frame so_far.good is_frame;
         placed = placed_more frames places frame place so_far.placed is.of_frame;
@@ -121,20 +135,23 @@ module _ (left held : Option (List ℕ)) (keeper : ℕ) where
         taken = subst (Consumes left left'') (sym (texts_more frames frame)) (Consumes-trans left left' left'' _ _ so_far.taken taken);
         told = subst (Appends held held'') (sym (output_more start places place)) (Appends-trans held held' held'' _ _ so_far.told (subst (λ r. Appends held' held'' (written r)) is.reply told));
         counted = omega (arith, so_far.counted, losses_more places place, is.counted);
+        kept = λ h held. subst (λ past. holds'' (rows past)) (sym (past_more start places place)) (is.kept h (so_far.kept (back h) held));
         stands = is.stands ∙ ap Rattle.wb_model.specs.Pasts.standing_hosts (sym (past_more start places place));
         number = omega (arith, so_far.number, length_more frames frame, ap (λ (r : Progress). r.given) goes);
         size = omega (arith, so_far.size, ap length (texts_more frames frame), length-append (texts frames) (frame_text frame), ap (λ (r : Progress). r.taken) goes);
         goes_on = ap (λ (r : Progress). r.stopped) goes ∙ so_far.goes_on;
-        losses = all_told start (more frames frame) (more places place) (placed_more frames places frame place so_far.placed is.of_frame) (possible_more start places place so_far.possible is.possible);
+        losses = laws.losses (more frames frame) (more places place) (placed_more frames places frame place so_far.placed is.of_frame) (possible_more start places place so_far.possible is.possible);
         submissions = all_well start (more places place);
+        identities = laws.identities (more frames frame) (more places place) (placed_more frames places frame place so_far.placed is.of_frame);
+        absence = laws.absence (more frames frame) (more places place) (placed_more frames places frame place so_far.placed is.of_frame);
       }
 
   -- a turn whose reply was not wholly written
-  pub stuck : (left' held' : Option (List ℕ)) (keeper' : ℕ) (hosts : Hosts) (reader : Progress) (frames : List ScriptFrame) (places : List Place) → Standing left' held' keeper' hosts reader frames places
-      → (left'' held'' : Option (List ℕ)) (keeper'' : ℕ) (after : Hosts) (frame : ScriptFrame) (answer : Answer) (place : Place) → IsFrame frame → Consumes left' left'' (frame_text frame)
-      → IsAnswer (past_after start places) frame answer after keeper' keeper'' place → AppendsFront held' held'' (written (reply_of answer)) → (source source' sink sink' : ℕ)
-      → Played left left'' held held'' source source' sink sink' keeper keeper'' (more frames frame) (more places place) × Consumes left left'' (texts (more frames frame)) × BrokeOff left left'' held held'' source source' sink sink' keeper keeper'' (more places place)
-  stuck left' held' keeper' hosts reader frames places so_far left'' held'' keeper'' after frame answer place is_frame taken is told source source' sink sink' =
+  pub stuck : Laws → (left' held' : Option (List ℕ)) (keeper' : ℕ) (honest : Type 0) (holds' : List Row → Type 0) (hosts : Hosts) (reader : Progress) (frames : List ScriptFrame) (places : List Place) → Standing left' held' keeper' honest holds' hosts reader frames places
+      → (left'' held'' : Option (List ℕ)) (keeper'' : ℕ) (honest' : Type 0) (holds'' : List Row → Type 0) → (honest' → honest) → (after : Hosts) (frame : ScriptFrame) (answer : Answer) (place : Place) → IsFrame frame → Consumes left' left'' (frame_text frame)
+      → IsAnswer honest' holds' holds'' (past_after start places) frame answer after keeper' keeper'' place → AppendsFront held' held'' (written (reply_of answer)) → (source source' sink sink' : ℕ)
+      → Played left left'' held held'' source source' sink sink' keeper keeper'' honest' holds holds'' (more frames frame) (more places place) × Consumes left left'' (texts (more frames frame)) × BrokeOff left left'' held held'' source source' sink sink' keeper keeper'' honest' holds holds'' (more places place)
+  stuck laws left' held' keeper' honest holds' hosts reader frames places so_far left'' held'' keeper'' honest' holds'' back after frame answer place is_frame taken is told source source' sink sink' =
       let consumed : Consumes left left'' (texts (more frames frame)) = subst (Consumes left left'') (sym (texts_more frames frame)) (Consumes-trans left left' left'' _ _ so_far.taken taken) in (
         record {
           good = good_more frames frame so_far.good is_frame;
@@ -142,17 +159,20 @@ module _ (left held : Option (List ℕ)) (keeper : ℕ) where
           possible = possible_more start places place so_far.possible is.possible;
           begins = begins_with left left'' _ consumed;
           counted = omega (arith, so_far.counted, losses_more places place, is.counted);
-          losses = all_told start (more frames frame) (more places place) (placed_more frames places frame place so_far.placed is.of_frame) (possible_more start places place so_far.possible is.possible);
+          kept = λ h held. subst (λ past. holds'' (rows past)) (sym (past_more start places place)) (is.kept h (so_far.kept (back h) held));
+          losses = laws.losses (more frames frame) (more places place) (placed_more frames places frame place so_far.placed is.of_frame) (possible_more start places place so_far.possible is.possible);
           submissions = all_well start (more places place);
+          identities = laws.identities (more frames frame) (more places place) (placed_more frames places frame place so_far.placed is.of_frame);
+          absence = laws.absence (more frames frame) (more places place) (placed_more frames places frame place so_far.placed is.of_frame);
         },
         consumed,
         record { before = places; last = place; order = refl; front = told.0; rest = told.1; cut = ap written (sym is.reply) ∙ told.2; told = Appends-trans held held' held'' _ _ so_far.told told.3 },
       )
 
   -- what is so far was played and written
-  pub wrote : (left' held' : Option (List ℕ)) (keeper' : ℕ) (hosts : Hosts) (reader : Progress) (frames : List ScriptFrame) (places : List Place) → Standing left' held' keeper' hosts reader frames places
-      → (left'' : Option (List ℕ)) (part : List ℕ) → Consumes left' left'' part → (source source' sink sink' : ℕ) → Wrote left left'' held held' source source' sink sink' keeper keeper' frames places
-  wrote left' held' keeper' hosts reader frames places so_far left'' part taken source source' sink sink' = record {
-    played = record { good = so_far.good; placed = so_far.placed; possible = so_far.possible; begins = begins_with left left' _ so_far.taken; counted = so_far.counted; losses = so_far.losses; submissions = so_far.submissions };
+  pub wrote : (left' held' : Option (List ℕ)) (keeper' : ℕ) (honest : Type 0) (holds' : List Row → Type 0) (hosts : Hosts) (reader : Progress) (frames : List ScriptFrame) (places : List Place) → Standing left' held' keeper' honest holds' hosts reader frames places
+      → (left'' : Option (List ℕ)) (part : List ℕ) → Consumes left' left'' part → (source source' sink sink' : ℕ) → Wrote left left'' held held' source source' sink sink' keeper keeper' honest holds holds' frames places
+  wrote left' held' keeper' honest holds' hosts reader frames places so_far left'' part taken source source' sink sink' = record {
+    played = record { good = so_far.good; placed = so_far.placed; possible = so_far.possible; begins = begins_with left left' _ so_far.taken; counted = so_far.counted; kept = so_far.kept; losses = so_far.losses; submissions = so_far.submissions; identities = so_far.identities; absence = so_far.absence };
     written = so_far.told;
   }

@@ -1,16 +1,18 @@
--- Scripts whose bytes differ in one report's valid identity answers alone, and the replies that may differ then.
-use Rattle.std.specs.Prelude.{◌≡◌, ◌≢◌, ◌⊎◌, ℕ, zero, suc, Bool, true, false, List, [], ◌∷◌, map, Option, option_map}
-use Rattle.std.specs.List.{AllByRecursion}
+-- The two halves of what a host promises, of the frames that it played: scripts whose bytes differ in one report's valid identity
+-- answers alone, and the script in which a report's submission only drew a number.
+use Rattle.std.specs.Prelude.{◌≡◌, ◌⊎◌, ℕ, zero, suc, Bool, true, false, List, [], ◌∷◌, map, Option, Some, option_map}
+use Rattle.wb_base.specs.declared.words.Words.{Words}
 use Rattle.wb_model.specs.declared.command.Asked.{Asked}
 use Rattle.wb_model.specs.declared.wire.ScriptFrame.{ScriptFrame}
 use Rattle.wb_model.specs.Requests.{Frame}
 use Rattle.wb_model.specs.Tenants.{OneLaterAlike, FirstAlike}
 use Rattle.wb_model.specs.Past.{Past}
 use Rattle.wb_model.specs.Pasts.{AllOpened, standing_hosts}
-use Rattle.wb_model.specs.Playing.{ArePlacesOf, written}
+use Rattle.wb_model.specs.Playing.{IsPlaceOf, ArePlacesOf, written}
 use Rattle.wb_model.specs.Readings.{Asks, Reads}
-use Rattle.wb_model.specs.Scripts.{NotLost, Place, Reply, play, answers}
-use Rattle.wb_model.specs.ScriptsAlike.{is_accepted, hidden_answers}
+use Rattle.wb_model.specs.Absence.{Item, Stands, Skips, BeginsAt, DrawOthersAfter, replies, past_with, replies_after, is_purged_after}
+use Rattle.wb_model.specs.Scripts.{Place, Reply, play, script_replies, past_after}
+use Rattle.wb_model.specs.ScriptsAlike.{is_accepted, hidden_replies}
 
 -- ---- scripts
 
@@ -52,20 +54,69 @@ FramesAlike i t r past _ ps _ = ⊥
 
 -- ---- replies
 
--- nothing was lost
-abbrev pub AreUnlost : List Place → Type 0
-AreUnlost places = AllByRecursion (λ (p : Place). p.loss ≡ NotLost) places
-
--- no reply is 503 or 507
-abbrev pub AreServed : List Reply → Type 0
-AreServed replies = AllByRecursion (λ (x : Reply). (x.told.status ≢ 503) × (x.told.status ≢ 507)) replies
+-- the same was lost at each place
+abbrev pub AreLostAlike : List Place → List Place → Type 0
+AreLostAlike [] [] = Unit {0}
+AreLostAlike (p ∷ ps) [] = ⊥
+AreLostAlike [] (q ∷ qs) = ⊥
+AreLostAlike (p ∷ ps) (q ∷ qs) = (p.loss ≡ q.loss) × AreLostAlike ps qs
 
 -- the bytes of each reply, but at the places where one of the readers of report r of tenant t asks
 abbrev pub hidden_output : ℕ → ℕ → Past AllOpened → List Place → List Reply → List (Option (List ℕ))
-hidden_output t r past places replies = map (λ (x : Option Reply). option_map written x) (hidden_answers t r past places replies)
+hidden_output t r past places replies = map (λ (x : Option Reply). option_map written x) (hidden_replies t r past places replies)
 
--- the replies to the frames that were played as these places, of which none is 503 or 507, are byte for byte those of each script that
--- differs in one report's valid identity answers alone, but at the places where one of that report's readers asks
+-- the replies to the frames that were played as these places are byte for byte those of each script that differs in one report's
+-- valid identity answers alone and loses the same at each place, but where one of that report's readers asks
 abbrev pub KeepsIdentities : Past AllOpened → List ScriptFrame → List Place → Type 0
-KeepsIdentities past frames places = AreServed (answers past places) → (i t r : ℕ) (others : List ScriptFrame) (theirs : List Place) → ArePlacesOf others theirs → AreUnlost theirs → FramesAlike i t r past frames places others →
-    hidden_output t r past places (answers past places) ≡ hidden_output t r past places (answers past theirs)
+KeepsIdentities past frames places = (i t r : ℕ) (others : List ScriptFrame) (theirs : List Place) → ArePlacesOf others theirs → AreLostAlike places theirs → FramesAlike i t r past frames places others →
+    hidden_output t r past places (script_replies past places) ≡ hidden_output t r past places (script_replies past theirs)
+
+-- ---- the script in which a submission only drew a number
+
+-- a frame of a script, or a draw of a number: its moment, its random words and its tenant
+pub data ScriptItem : Type 0 where
+  Framed : ScriptFrame → ScriptItem
+  Skipped : ℕ → Words → ℕ → ScriptItem
+
+-- the script with a draw of tenant t in the place of frame i
+abbrev pub without_frame : ℕ → ℕ → List ScriptFrame → List ScriptItem
+without_frame i t [] = []
+without_frame zero t (f ∷ fs) = Skipped f.moment f.words t ∷ map Framed fs
+without_frame (suc i) t (f ∷ fs) = Framed f ∷ without_frame i t fs
+
+-- what a frame is read as, or the draw
+abbrev pub IsItemOf : ScriptItem → Item → Type 0
+IsItemOf (Framed f) (Stands p) = IsPlaceOf f p
+IsItemOf (Framed f) (Skips m w t) = ⊥
+IsItemOf (Skipped n v u) (Stands p) = ⊥
+IsItemOf (Skipped n v u) (Skips m w t) = (m ≡ n) × ((w ≡ v) × (t ≡ u))
+
+abbrev pub AreItemsOf : List ScriptItem → List Item → Type 0
+AreItemsOf [] [] = Unit {0}
+AreItemsOf (x ∷ xs) [] = ⊥
+AreItemsOf [] (y ∷ ys) = ⊥
+AreItemsOf (x ∷ xs) (y ∷ ys) = IsItemOf x y × AreItemsOf xs ys
+
+-- a draw is not lost
+abbrev pub LosesAlike : Place → Item → Type 0
+LosesAlike p (Stands q) = q.loss ≡ p.loss
+LosesAlike p (Skips m w t) = Unit {0}
+
+-- the same was lost at each place that is left
+abbrev pub LoseAlike : List Place → List Item → Type 0
+LoseAlike [] [] = Unit {0}
+LoseAlike (p ∷ ps) [] = ⊥
+LoseAlike [] (y ∷ ys) = ⊥
+LoseAlike (p ∷ ps) (y ∷ ys) = LosesAlike p y × LoseAlike ps ys
+
+-- the bytes of each reply
+abbrev pub bytes_of : List (Option Reply) → List (Option (List ℕ))
+bytes_of xs = map (λ (x : Option Reply). option_map written x) xs
+
+-- where a submission among the frames that were played as these places drew the number r of tenant t, no later submission to t draws
+-- its receipt while the report is live, and the report is purged later: from that place on the replies are byte for byte those of the
+-- script in which it only drew the number and the same is lost at each place, and the hosts at the end are the same
+abbrev pub ForgetsReports : Past AllOpened → List ScriptFrame → List Place → Type 0
+ForgetsReports past frames places = (i t r : ℕ) (items : List Item) → AreItemsOf (without_frame i t frames) items → LoseAlike places items → BeginsAt i t r past places → DrawOthersAfter i t r past places →
+    (bytes_of (replies_after i t r past places (map Some (script_replies past places))) ≡ bytes_of (replies_after i t r past places (replies past items)))
+    × (is_purged_after i t r past places ≡ true → standing_hosts (past_with past items) ≡ standing_hosts (past_after past places))

@@ -1,4 +1,5 @@
 pub mod Answered
 pub mod Submissions
-pub mod Runs
 pub mod Headline
+pub mod Runs
+pub mod Exits

@@ -1,16 +1,19 @@
 -- What a run did, by its status.
-use Rattle.std.specs.Prelude.{Bool, false, ◌==◌, ◌||◌, ◌↔◌, ℕ, ◌≡◌, ◌+◌, ◌^◌, ◌⊎◌, List, [], ◌∷◌, ◌++◌, length, codes, decimal, Option, IfSome}
+use Rattle.std.specs.Prelude.{ℕ, ◌≡◌, ◌+◌, ◌^◌, ◌⊎◌, List, [], ◌∷◌, ◌++◌, length, codes, decimal, Option, IfSome}
 use Rattle.std.specs.List.{AllByRecursion}
 use Rattle.std.specs.Io.KnownBytes.{Appends, Consumes, Keeps}
+use Rattle.wb_base.specs.declared.rows.Row.{Row}
 use Rattle.wb_base.specs.Outside.{Rose}
 use Rattle.wb_model.specs.declared.wire.ScriptFrame.{ScriptFrame}
 use Rattle.wb_model.specs.FrameTexts.{texts, IsFrame, IsBroken, NoFrame}
 use Rattle.wb_model.specs.Past.{Past, Opening}
 use Rattle.wb_model.specs.Pasts.{AllOpened}
-use Rattle.wb_model.specs.Playing.{ArePlacesOf, written, output, keeper_losses, RoseBy}
-use Rattle.wb_model.specs.Scripts.{Place, NotLost, ArePossible, play, answers, past_after}
+use Rattle.wb_model.specs.Playing.{ArePlacesOf, written, output, keeper_losses, RoseBy, AreLossesTold}
+use Rattle.wb_model.specs.Scripts.{Place, ArePossible, play, script_replies, past_after}
+use Rattle.wb_model.specs.Rows.{rows}
 use Rattle.wb_model.specs.Starter.{starter_opening}
 use Rattle.whistle.specs.Submissions.{AreWellAnswered}
+use Rattle.whistle.specs.Headline.{KeepsIdentities, ForgetsReports}
 use Rattle.whistle.specs.declared.status.Status.{Status}
 use Rattle.whistle.specs.declared.status.Status.TheVariants.{Done, Usage, ReadFault, WriteFault, NoMemory, BadFrame, TooLong}
 
@@ -20,19 +23,11 @@ start = Opening starter_opening
 
 -- what is written for these places
 abbrev pub output_of : List Place → List ℕ
-output_of places = output (answers start places)
+output_of places = output (script_replies start places)
 
--- a reply that tells a loss: the keeper's fault or want of memory
-abbrev pub is_loss : ℕ → Bool
-is_loss status = (status == 503) || (status == 507)
-
--- something was lost exactly where the reply tells it
-abbrev pub AreLossesTold : Past AllOpened → List Place → Type 0
-AreLossesTold past [] = Unit {0}
-AreLossesTold past (p ∷ ps) = ((p.loss ≡ NotLost) ↔ (is_loss (play past p).reply.told.status ≡ false)) × AreLossesTold (play past p).past ps
-
--- what the source had left and has left now, what the sink held before and holds now, and the counts of both and of the keeper before and now
-module _ (left left' held held' : Option (List ℕ)) (source source' sink sink' keeper keeper' : ℕ) where
+-- what the source had left and has left now, what the sink held before and holds now, the counts of both and of the keeper before and now, and
+-- the rows that the keeper holds before and now, where it is honest
+module _ (left left' held held' : Option (List ℕ)) (source source' sink sink' keeper keeper' : ℕ) (honest : Type 0) (holds holds' : List Row → Type 0) where
   -- the input begins with these frames, and the host played them as these places
   pub record Played (frames : List ScriptFrame) (places : List Place) : Type 0 where
     pub good : AllByRecursion IsFrame frames
@@ -40,10 +35,15 @@ module _ (left left' held held' : Option (List ℕ)) (source source' sink sink' 
     pub possible : ArePossible start places
     pub begins : IfSome left (λ text. (rest : List ℕ) × (text ≡ texts frames ++ rest))
     pub counted : RoseBy (keeper_losses places) keeper keeper'
+    -- a keeper that held the rows of the start holds those of the past after them
+    pub kept : honest → holds (rows start) → holds' (rows (past_after start places))
     -- a turn was lost or a request unread exactly where the reply is 503 or 507
     pub losses : AreLossesTold start places
     -- and each good submission among them was answered as its sender expects
     pub submissions : AreWellAnswered start places
+    -- the replies keep identities, and forget reports that are purged
+    pub identities : KeepsIdentities start frames places
+    pub absence : ForgetsReports start frames places
 
   -- and wrote each reply
   pub record Wrote (frames : List ScriptFrame) (places : List Place) : Type 0 where
@@ -72,6 +72,7 @@ module _ (left left' held held' : Option (List ℕ)) (source source' sink sink' 
   pub record IsUntouched : Type 0 where
     pub left_as_it_was : Keeps left left'
     pub held_as_it_was : Keeps held held'
+    pub kept_as_it_was : (honest → (kept : List Row) → holds kept → holds' kept) × (keeper' ≡ keeper)
 
   -- what a run with this status did
   abbrev pub Ran : Status → Type 0

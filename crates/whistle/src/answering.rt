@@ -7,7 +7,7 @@ ghost use Rattle.wb_model.specs.Pasts.{AllOpened};
 ghost use Rattle.wb_model.specs.Playing.{written};
 ghost use Rattle.wb_model.specs.Replies.{fault_told, fault_allow};
 ghost use Rattle.wb_model.specs.Scripts.{Place};
-ghost use Rattle.wb_desk.specs.Standing.{hosts_of};
+ghost use Rattle.wb_tables.specs.Standing.{hosts_of};
 ghost use Rattle.wb_desk.specs.Turns.{StandsFor};
 ghost use Rattle.whistle.specs.Answered.{reply_of, IsAnswer};
 
@@ -69,9 +69,9 @@ pub fn answer_frame<K: Keeper>(
     frame: &ScriptFrame,
 ) -> Answer
     requires { desk.old.turns < 1_000_000_000_000_000 }
-    ensures answer { (past : Past AllOpened) → StandsFor (hosts_of desk.old) past → (place : Place) × IsAnswer past frame.now result (hosts_of desk.new) (K.count keeper.old) (K.count keeper.new) place }
+    ensures answer { (past : Past AllOpened) → StandsFor (hosts_of desk.old) past → (place : Place) × IsAnswer (K.honest keeper.new) (K.holds keeper.old) (K.holds keeper.new) past frame.now result (hosts_of desk.new) (K.count keeper.old) (K.count keeper.new) place }
     ensures turns { desk.new.turns ≤ desk.old.turns + 1 }
-    ensures keeper { keeper.new ≡ keeper.old }
+    ensures back { K.honest keeper.new → K.honest keeper.old }
 {
     match read_request(alloc, routes, frame.bytes.as_slice()) {
         Ok(asked) => Answer {

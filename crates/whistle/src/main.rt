@@ -2,9 +2,11 @@
 #![tactic(auto)]
 
 mod answering;
+mod exits;
 mod playing;
 mod status;
 
+pub use exits::{end, run_to_end, words_of};
 pub use playing::run;
 pub use status::{Status, exit_line};
 use std::alloc::Global;
@@ -15,20 +17,13 @@ use wb_base::{MemKeeper, StdSink, StdSource, Text};
 
 // The words after the program's name. Words that are not UTF-8 are no form of any call.
 fn words(rt: &HostRuntime) -> Result<Vec<Text>, Status> {
-    let alloc = rt.alloc();
-    let all = match env::args(rt) {
-        Ok(all) => all,
+    match env::args(rt) {
+        Ok(all) => words_of(rt.alloc(), all).map_err(|_| Status::NoMemory),
         Err(error) => match error.kind() {
-            ErrorKind::OutOfMemory => return Err(Status::NoMemory),
-            _ => return Err(Status::Usage),
+            ErrorKind::OutOfMemory => Err(Status::NoMemory),
+            _ => Err(Status::Usage),
         },
-    };
-    let mut words = Vec::new(alloc);
-    for word in all.skip(1) {
-        let text = Text::from_str(alloc, &word).map_err(|_| Status::NoMemory)?;
-        words.push(text).map_err(|_| Status::NoMemory)?;
     }
-    Ok(words)
 }
 
 // A keeper of no rows yet.
@@ -36,26 +31,31 @@ fn rows_in_memory(alloc: Global) -> MemKeeper {
     MemKeeper::new(Vec::new(alloc), Vec::new(alloc))
 }
 
-// Runs the words over standard input and output, and keeps rows in memory.
-fn run_words(rt: &HostRuntime, words: &[Text]) -> Status {
+// Runs the words over standard input, output and error, and keeps rows in memory.
+fn run_words(rt: &HostRuntime, words: &[Text]) -> u8 {
     let alloc = rt.alloc();
+    let mut errors = StdSink::new(rt.stderr());
     let Ok(input) = BufReader::new(alloc, rt.stdin()) else {
-        return Status::NoMemory;
+        return end(&Status::NoMemory, &mut errors);
     };
     let mut source = StdSource::new(input);
     let mut sink = StdSink::new(rt.stdout());
     let mut keeper = rows_in_memory(alloc);
-    run(alloc, words, &mut source, &mut sink, &mut keeper)
+    run_to_end(
+        alloc,
+        words,
+        &mut source,
+        &mut sink,
+        &mut keeper,
+        &mut errors,
+    )
 }
 
 fn main(rt: HostRuntime) -> ExitCode {
-    let status = match words(&rt) {
+    ExitCode::from(match words(&rt) {
         Ok(words) => run_words(&rt, &words),
-        Err(status) => status,
-    };
-    // Where standard error fails too, the number is all that is left to tell.
-    let _line = exit_line(&status, &mut StdSink::new(rt.stderr()));
-    ExitCode::from(status.number())
+        Err(status) => end(&status, &mut StdSink::new(rt.stderr())),
+    })
 }
 
 #[cfg(test)]

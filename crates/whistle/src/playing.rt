@@ -4,18 +4,16 @@ ghost use Rattle.std.specs.List.{AllByRecursion};
 ghost use Rattle.wb_base.specs.Outside.{Rose};
 ghost use Rattle.wb_model.specs.declared.wire.ScriptFrame.{ScriptFrame};
 ghost use Rattle.wb_model.specs.FrameTexts.{texts, IsFrame};
-ghost use Rattle.wb_desk.specs.Standing.{hosts_of};
+ghost use Rattle.wb_tables.specs.Standing.{hosts_of};
 ghost use Rattle.wb_desk.specs.Turns.{StandsFor};
-ghost use Rattle.wb_model.specs.Scripts.{Place};
-ghost use Rattle.whistle.specs.Headline.{KeepsIdentities};
-ghost use Rattle.whistle.specs.Runs.{Ran, Played, start};
+ghost use Rattle.whistle.specs.Runs.{Ran, start};
 
 use crate::answering::{answer_frame, write_answer};
 use crate::status::Status;
 use std::alloc::Global;
 use wb_base::{Keeper, Memory, Sink, Source, Text};
 use wb_desk::Desk;
-use wb_model::alike_scripts_get_the_same_replies;
+use wb_model::{absence_over_scripts, alike_scripts_get_the_same_replies, losses_are_told};
 use wb_wire::{FrameNo, FrameReader, Routes, one_frame, one_reading};
 
 // Whether the word is `play`.
@@ -51,10 +49,14 @@ fn play<S: Source, W: Sink, K: Keeper>(
     keeper: &mut K,
 ) -> Status
     requires { StandsFor (hosts_of desk.old) start }
-    ensures ran { Ran (S.left source.old) (S.left source.new) (W.held sink.old) (W.held sink.new) (S.count source.old) (S.count source.new) (W.count sink.old) (W.count sink.new) (K.count keeper.old) (K.count keeper.new) result }
+    ensures ran { Ran (S.left source.old) (S.left source.new) (W.held sink.old) (W.held sink.new) (S.count source.old) (S.count source.new) (W.count sink.old) (W.count sink.new) (K.count keeper.old) (K.count keeper.new) (K.honest keeper.new) (K.holds keeper.old) (K.holds keeper.new) result }
     ensures no_usage { result ≢ Status.Usage }
-    ensures keeper { keeper.new ≡ keeper.old }
+    ensures back { K.honest keeper.new → K.honest keeper.old }
 {
+    one_reading();
+    losses_are_told();
+    alike_scripts_get_the_same_replies();
+    absence_over_scripts();
     let mut reader = FrameReader::new();
     loop {
         match reader.next(alloc, source) {
@@ -84,17 +86,12 @@ pub fn run<S: Source, W: Sink, K: Keeper>(
     keeper: &mut K,
 ) -> Status
     ensures usage { (result ≡ Status.Usage) ↔ (words.now ≢ codes "play" ∷ []) }
-    ensures ran { Ran (S.left source.old) (S.left source.new) (W.held sink.old) (W.held sink.new) (S.count source.old) (S.count source.new) (W.count sink.old) (W.count sink.new) (K.count keeper.old) (K.count keeper.new) result }
-    ensures keeper { keeper.new ≡ keeper.old }
-    // The replies to the frames that were played, of which none is 503 or 507, are byte for byte those of each script that
-    // differs in one report's valid identity answers alone, but at the places where one of that report's readers asks.
-    ensures identities { (frames : List ScriptFrame) (places : List Place) → Played (S.left source.old) (S.left source.new) (W.held sink.old) (W.held sink.new) (S.count source.old) (S.count source.new) (W.count sink.old) (W.count sink.new) (K.count keeper.old) (K.count keeper.new) frames places → KeepsIdentities start frames places }
+    ensures ran { Ran (S.left source.old) (S.left source.new) (W.held sink.old) (W.held sink.new) (S.count source.old) (S.count source.new) (W.count sink.old) (W.count sink.new) (K.count keeper.old) (K.count keeper.new) (K.honest keeper.new) (K.holds keeper.old) (K.holds keeper.new) result }
+    ensures back { K.honest keeper.new → K.honest keeper.old }
     // A whole script is played to its end where nothing failed, or there was no memory.
     ensures complete { (frames : List ScriptFrame) → AllByRecursion IsFrame frames → S.left source.old ≡ Some (texts frames) → length (texts frames) < 2 ^ 40 → words.now ≡ codes "play" ∷ [] → (Rose (S.count source.old) (S.count source.new) → ⊥) → (Rose (W.count sink.old) (W.count sink.new) → ⊥) → (result ≡ Status.Done) ⊎ (result ≡ Status.NoMemory) }
 {
     one_frame();
-    one_reading();
-    alike_scripts_get_the_same_replies();
     if !is_play(words) {
         return Status::Usage;
     }

@@ -4,7 +4,7 @@ use super::*;
 use crate::rows_in_memory;
 use std::alloc::Global;
 use std::test::Fail;
-use wb_base::{MemSink, MemSource, Text};
+use wb_base::{Keeper, MemKeeper, MemSink, MemSource, Text};
 
 const BRIBE: &str = "{\"context\":1,\"answers\":{\"what\":\"Bribe\",\"name\":\"Eve\"}}";
 
@@ -56,11 +56,17 @@ fn request(alloc: Global, row: &Row) -> Result<String, Fail> {
     Ok(format!(in alloc; "{method} {path} HTTP/1.1\r\nHost: h\r\n{fields}\r\n{body}")?)
 }
 
-// A frame with the words 0, 42, 0, 0.
-fn push_frame(alloc: Global, script: &mut Vec<u8>, moment: u64, bytes: &[u8]) -> Result<(), Fail> {
+// A frame with the words 0, `word`, 0, 0.
+fn push_frame(
+    alloc: Global,
+    script: &mut Vec<u8>,
+    moment: u64,
+    word: u64,
+    bytes: &[u8],
+) -> Result<(), Fail> {
     let size = bytes.len();
     let line = format!(in alloc;
-        "@{moment} 0000000000000000 000000000000002a 0000000000000000 0000000000000000 {size}\n"
+        "@{moment} 0000000000000000 {word:016x} 0000000000000000 0000000000000000 {size}\n"
     )?;
     push(script, line.as_bytes())?;
     push(script, bytes)?;
@@ -88,20 +94,26 @@ fn source(alloc: Global, bytes: &[u8], size: usize, fail: &[u64]) -> Result<MemS
     Ok(MemSource::new(bytes.to_vec(alloc)?, pieces, fail.to_vec(alloc)?))
 }
 
-// Runs `play` on a script, and gives the status and the output.
+// Runs `play` on a script over rows that are kept in memory, and gives the status and the output.
 fn play(alloc: Global, script: &[u8], ends: &Ends) -> Result<(Status, Vec<u8>), Fail>
+    requires { 0 < ends.now.size }
+{
+    play_over(alloc, script, ends, &mut rows_in_memory(alloc))
+}
+
+// The same over a keeper's rows.
+fn play_over(
+    alloc: Global,
+    script: &[u8],
+    ends: &Ends,
+    keeper: &mut MemKeeper,
+) -> Result<(Status, Vec<u8>), Fail>
     requires { 0 < ends.now.size }
 {
     let mut source = source(alloc, script, ends.size, ends.reads)?;
     let mut sink = MemSink::new(Vec::new(alloc), ROOM, ends.writes.to_vec(alloc)?)?;
     let words = [Text::from_str(alloc, "play")?];
-    let status = run(
-        alloc,
-        &words,
-        &mut source,
-        &mut sink,
-        &mut rows_in_memory(alloc),
-    );
+    let status = run(alloc, &words, &mut source, &mut sink, keeper);
     Ok((status, sink.held().to_vec(alloc)?))
 }
 
@@ -158,7 +170,7 @@ fn rows<'a>(body: &'a str) -> [Row<'a>; 8] {
         ),
         post(
             "{\"context\":2,\"answers\":{\"what\":\"x\"}}",
-            created("{\"number\":2,\"receipt\":\"0000000000000042\"}"),
+            created("{\"number\":2,\"receipt\":\"0000000000000046\"}"),
         ),
         get("/t/1/reports/2?why", NOT_FOUND),
         get("/t/1/reports/99", NOT_FOUND),
@@ -166,20 +178,24 @@ fn rows<'a>(body: &'a str) -> [Row<'a>; 8] {
     ]
 }
 
+// The word of the first frame; each frame has one more than the frame before.
+const WORD: u64 = 42;
+
 // The script of these rows and `hello`, and the output that it has.
 fn script_of(alloc: Global, rows: &[Row]) -> Result<(Vec<u8>, Vec<u8>), Fail> {
     let mut script = Vec::new(alloc);
     let mut output = Vec::new(alloc);
-    for row in rows {
+    for (at, row) in rows.iter().enumerate() {
         push_frame(
             alloc,
             &mut script,
             row.moment,
+            WORD + at as u64,
             request(alloc, row)?.as_bytes(),
         )?;
         push_reply(alloc, &mut output, row.reply)?;
     }
-    push_frame(alloc, &mut script, 0, b"hello")?;
+    push_frame(alloc, &mut script, 0, 0, b"hello")?;
     push_reply(
         alloc,
         &mut output,
@@ -206,6 +222,149 @@ fn each_request_gets_its_reply_whatever_the_name_and_the_pieces(
             assert!(rt; held == output);
         }
     }
+    Ok(())
+}
+
+const WHOLE: Ends<'static> = Ends {
+    size: 100_000,
+    reads: &[],
+    writes: &[],
+};
+
+// The row at another moment.
+fn later<'a>(moment: u64, row: Row<'a>) -> Row<'a> {
+    Row { moment, ..row }
+}
+
+// The last second of the day on which a report of the new year's day expires in the context 1.
+const LAST: u64 = 1_738_281_599;
+
+// The kinds and numbers of the rows that a keeper holds.
+fn kept(alloc: Global, keeper: &MemKeeper) -> Result<Vec<(u8, u32, u32)>, Fail> {
+    let mut keys = Vec::new(alloc);
+    for row in keeper.rows() {
+        keys.push((row.key.kind, row.key.a, row.key.b))?;
+    }
+    Ok(keys)
+}
+
+#[test]
+fn an_expired_report_is_gone_and_so_are_its_rows(rt: HostRuntime) -> Result<(), Fail> {
+    let alloc = rt.alloc();
+    let health: Reply = (200, "OK", "{\"status\":\"ok\"}", "");
+    let rows = [
+        post(
+            BRIBE,
+            created("{\"number\":1,\"receipt\":\"0000000000000042\"}"),
+        ),
+        later(LAST, get("/t/1/reports/1", (200, "OK", VIEW, ""))),
+        later(LAST + 1, get("/health", health)),
+        later(LAST, get("/t/1/reports/1", NOT_FOUND)),
+        later(
+            LAST,
+            post(
+                "{\"context\":1,\"answers\":{\"what\":\"x\"}}",
+                created("{\"number\":2,\"receipt\":\"0000000000000046\"}"),
+            ),
+        ),
+    ];
+    let held: [&[(u8, u32, u32)]; 6] = [
+        &[],
+        &[(2, 0, 0), (6, 1, 1), (7, 1, 0)],
+        &[(2, 0, 0), (6, 1, 1), (7, 1, 0)],
+        &[(2, 0, 0)],
+        &[(2, 0, 0)],
+        &[(2, 0, 0), (6, 2, 1)],
+    ];
+    for (turns, wanted) in held.iter().enumerate() {
+        let (script, output) = script_of(alloc, &rows[..turns])?;
+        let mut keeper = rows_in_memory(alloc);
+        let (status, written) = play_over(alloc, &script, &WHOLE, &mut keeper)?;
+        assert!(rt; status == Status::Done && written == output, "{turns}");
+        assert!(rt; kept(alloc, &keeper)?.as_slice() == *wanted, "{turns}");
+    }
+    Ok(())
+}
+
+#[test]
+fn a_turn_that_the_keeper_fails_is_lost_and_can_be_made_again(rt: HostRuntime) -> Result<(), Fail> {
+    let alloc = rt.alloc();
+    let lost: Reply = (503, "Service Unavailable", "{\"code\":\"keeper\"}", "");
+    let body = "{\"context\":1,\"answers\":{\"what\":\"x\"}}";
+    let rows = [
+        post(
+            body,
+            created("{\"number\":1,\"receipt\":\"0000000000000042\"}"),
+        ),
+        post(body, lost),
+        get("/t/1/reports/2", NOT_FOUND),
+        post(
+            body,
+            created("{\"number\":2,\"receipt\":\"0000000000000045\"}"),
+        ),
+        // What fell due is purged by the next turn.
+        later(LAST + 1, get("/health", lost)),
+        later(
+            LAST + 1,
+            get("/health", (200, "OK", "{\"status\":\"ok\"}", "")),
+        ),
+        later(LAST + 1, get("/t/1/reports/1", NOT_FOUND)),
+    ];
+    let (script, output) = script_of(alloc, &rows)?;
+    let mut keeper = MemKeeper::new(Vec::new(alloc), [2, 4].to_vec(alloc)?);
+    let (status, written) = play_over(alloc, &script, &WHOLE, &mut keeper)?;
+    assert!(rt; status == Status::Done);
+    assert!(rt; written == output);
+    assert!(rt; kept(alloc, &keeper)?.as_slice() == [(2, 0, 0)].as_slice());
+    assert!(rt; keeper.faults() == 2);
+    Ok(())
+}
+
+#[test]
+fn a_day_has_its_quota_and_a_receipt_its_report(rt: HostRuntime) -> Result<(), Fail> {
+    let alloc = rt.alloc();
+    let body = "{\"context\":1,\"answers\":{\"what\":\"x\"}}";
+    let request = request(alloc, &post(body, (201, "", "", "")))?;
+    let mut script = Vec::new(alloc);
+    for word in 1..51 {
+        push_frame(alloc, &mut script, 1_735_689_600, word, request.as_bytes())?;
+    }
+    let (status, before) = play(alloc, &script, &WHOLE)?;
+    assert!(rt; status == Status::Done);
+    let mut wanted = before.as_slice().to_vec(alloc)?;
+    for (moment, word, reply) in [
+        (
+            1_735_775_999,
+            51,
+            (
+                429,
+                "Too Many Requests",
+                "{\"code\":\"quota\",\"kept\":50}",
+                "",
+            ),
+        ),
+        (
+            1_735_776_000,
+            50,
+            (
+                409,
+                "Conflict",
+                "{\"code\":\"receipt_taken\",\"kept\":null}",
+                "",
+            ),
+        ),
+        (
+            1_735_776_000,
+            51,
+            created("{\"number\":51,\"receipt\":\"0000000000000051\"}"),
+        ),
+    ] {
+        push_frame(alloc, &mut script, moment, word, request.as_bytes())?;
+        push_reply(alloc, &mut wanted, reply)?;
+    }
+    let (status, held) = play(alloc, &script, &WHOLE)?;
+    assert!(rt; status == Status::Done);
+    assert!(rt; held == wanted);
     Ok(())
 }
 
@@ -242,9 +401,9 @@ fn wire_rows<'a>(
     file: &'a str,
     cut: &'a str,
 ) -> [Row<'a>; 18] {
-    let first = created("{\"number\":1,\"receipt\":\"0000000000000042\"}");
-    let second = created("{\"number\":2,\"receipt\":\"0000000000000042\"}");
-    let third = created("{\"number\":3,\"receipt\":\"0000000000000042\"}");
+    let first = created("{\"number\":1,\"receipt\":\"0000000000000043\"}");
+    let second = created("{\"number\":2,\"receipt\":\"0000000000000044\"}");
+    let third = created("{\"number\":3,\"receipt\":\"0000000000000049\"}");
     let other_session = "X-Session: 1-00000000000000000000000000000000\r\n";
     let no_session: Reply = (401, "Unauthorized", "{\"code\":\"no_session\"}", "");
     [
@@ -430,7 +589,7 @@ fn a_body_may_have_262_144_bytes(rt: HostRuntime) -> Result<(), Fail> {
         }
         let mut script = Vec::new(alloc);
         let request = request(alloc, &post(&body, (201, "", "", "")))?;
-        push_frame(alloc, &mut script, 0, request.as_bytes())?;
+        push_frame(alloc, &mut script, 0, WORD, request.as_bytes())?;
         assert!(rt; play(alloc, &script, &ends)?.1.starts_with(status));
     }
     Ok(())
@@ -480,5 +639,37 @@ fn each_status_has_its_line(rt: HostRuntime) -> Result<(), Fail> {
     }
     let mut sink = MemSink::new(Vec::new(alloc), ROOM, [1].to_vec(alloc)?)?;
     assert!(rt; exit_line(&Status::Usage, &mut sink).is_err());
+    Ok(())
+}
+
+#[test]
+fn the_program_ends_with_the_number_and_the_line_of_its_status(
+    rt: HostRuntime,
+) -> Result<(), Fail> {
+    let alloc = rt.alloc();
+    for (word, script, number, line) in [
+        ("play", b"".as_slice(), 0, ""),
+        ("play", b"@".as_slice(), 6, "bad frame 1\n"),
+        (
+            "serve",
+            b"".as_slice(),
+            2,
+            "usage: whistle play [--store PATH], make N, tally N, serve --setup PATH --listen ADDRESS --workers N [--store PATH]\n",
+        ),
+    ] {
+        let mut source = source(alloc, script, 1, &[])?;
+        let mut sink = MemSink::new(Vec::new(alloc), ROOM, Vec::new(alloc))?;
+        let mut errors = MemSink::new(Vec::new(alloc), ROOM, Vec::new(alloc))?;
+        let ended = run_to_end(
+            alloc,
+            &[Text::from_str(alloc, word)?],
+            &mut source,
+            &mut sink,
+            &mut rows_in_memory(alloc),
+            &mut errors,
+        );
+        assert!(rt; ended == number && errors.held() == line.as_bytes());
+        assert!(rt; sink.held().is_empty());
+    }
     Ok(())
 }

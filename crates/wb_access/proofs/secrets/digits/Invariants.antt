@@ -1,5 +1,5 @@
 use Rattle.std.proofs.Common.{◌≡◌, ◌≤◌, ◌++◌, length, drop}
-use Rattle.wb_model.specs.Secrets.{last_digits}
+use Rattle.wb_base.specs.Secrets.{last_digits}
 use Rattle.wb_access.proofs.secrets.digits.Given as goal
 
 abbrev pub invariant-loop-at : goal.invariant-loop-at

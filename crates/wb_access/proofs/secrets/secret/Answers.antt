@@ -1,7 +1,7 @@
 use Rattle.std.proofs.Common.{ap, ◌∙◌}
 use Rattle.std.specs.Int.{to_be_bytes, w128}
 use Rattle.hex.specs.Hex.{encode_lower}
-use Rattle.wb_model.specs.Secrets.{secret_text}
+use Rattle.wb_base.specs.Secrets.{secret_text}
 use Rattle.wb_access.proofs.secrets.secret.Goals as goal
 
 pub returns : goal.returns

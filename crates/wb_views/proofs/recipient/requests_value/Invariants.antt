@@ -1,7 +1,6 @@
 use Rattle.std.proofs.Common.{◌≡◌, ◌+◌, ◌++◌, map, drop}
 use Rattle.serde_json.specs.View.{view}
-use Rattle.wb_model.specs.Views.{requests_from}
-use Rattle.wb_views.specs.Seen.{request_seen}
+use Rattle.wb_views.specs.Seen.{request_seen, requests_from}
 use Rattle.wb_views.proofs.recipient.requests_value.Given as goal
 
 abbrev pub invariant-loop-at : goal.invariant-loop-at

@@ -5,7 +5,7 @@ use Rattle.wb_base.proofs.AnswerLemmas.{answer-found}
 use Rattle.wb_base.proofs.answers.Answers.find.Goals as goal
 
 pub returns-in-Some : goal.returns-in-Some
-returns-in-Some c = rw (← c.self.view_is) (ap (option_map (λ (entry : List ℕ × Given). entry.1)) c.in-Some.ensures ∙ sym (answer-found c.self.inside.entries.items c.args.id.now))
+returns-in-Some c = rw (← c.self.view_is) (ap (option_map (λ (entry : List ℕ × Given). entry.1)) c.in-Some.ensures.item ∙ sym (answer-found c.self.inside.entries.items c.args.id.now))
 
 pub returns-in-None : goal.returns-in-None
-returns-in-None c = rw (← c.self.view_is) (ap (option_map (λ (entry : List ℕ × Given). entry.1)) c.in-None.ensures ∙ sym (answer-found c.self.inside.entries.items c.args.id.now))
+returns-in-None c = rw (← c.self.view_is) (ap (option_map (λ (entry : List ℕ × Given). entry.1)) c.in-None.ensures.item ∙ sym (answer-found c.self.inside.entries.items c.args.id.now))

@@ -1,8 +1,13 @@
-use Rattle.std.proofs.Common.{◌≡◌, length}
+use Rattle.std.proofs.Common.{◌≡◌, ◌++◌, List, ℕ, length}
+use Rattle.std.specs.Io.KnownBytes.{Appends}
 use Rattle.wb_base.proofs.std_ends.StdSinkSink.write_all.Given as goal
 
+-- what was written so far and what is left are the bytes
 abbrev pub invariant-loop-rest : goal.invariant-loop-rest
-invariant-loop-rest g l = l.self-inside.faults ≡ l.initial.self-inside.faults
+invariant-loop-rest g l = record {
+  faults : l.self-inside.faults ≡ l.initial.self-inside.faults;
+  written : (front : List ℕ) × (l.fn.bytes ≡ front ++ l.rest) × Appends (g.W.Write.contents l.initial.self-inside.inner) (g.W.Write.contents l.self-inside.inner) front;
+}
 
 abbrev pub decreases-loop-rest : goal.decreases-loop-rest
 decreases-loop-rest g l = length l.rest

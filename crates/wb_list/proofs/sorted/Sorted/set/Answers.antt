@@ -1,6 +1,7 @@
 use Rattle.std.proofs.Common.{ap, sym}
 use Rattle.wb_list.specs.Room.{Room}
 use Rattle.wb_list.proofs.KeyedLemmas.{set_at_place, insert_in_gap, ascending-insert_item}
+use Rattle.wb_list.proofs.KeyedLookups.{find-after}
 use Rattle.wb_list.proofs.sorted.Sorted.set.Goals as goal
 
 pub returns-in-Ok-clause-items : goal.returns-in-Ok-clause-items
@@ -24,3 +25,9 @@ pub invariant_of-self-in-Err : goal.invariant_of-self-in-Err
 invariant_of-self-in-Err g c =
     let same = ap (λ (r : Room _). r.items) c.self.view_is in
     rw (returns-in-Err-clause-items g c, ← same) (ascending-insert_item g.met.T.Key.Ord.total g.T.Keyed.key_of _ c.args.item c.self.invariant)
+
+pub returns-in-Ok-clause-found : goal.returns-in-Ok-clause-found
+returns-in-Ok-clause-found g c key = rw (returns-in-Ok-clause-items g c) (find-after g.met.T.Key.Ord.total g.T.Keyed.key_of c.args.self.now.items c.args.item key)
+
+pub returns-in-Err-clause-found : goal.returns-in-Err-clause-found
+returns-in-Err-clause-found g c key = rw (returns-in-Err-clause-items g c) (find-after g.met.T.Key.Ord.total g.T.Keyed.key_of c.args.self.now.items c.args.item key)

@@ -1,7 +1,7 @@
 use Rattle.std.proofs.Common.{ap, sym, ◌∙◌, Some}
 use Rattle.wb_list.specs.Room.{Room}
 use Rattle.wb_list.proofs.KeyedLemmas.{find_at_place, find_in_gap, remove_at_place, without_absent, ascending-without_first}
-use Rattle.wb_list.proofs.KeyedLookups.{find-taken}
+use Rattle.wb_list.proofs.KeyedLookups.{find-taken, filter-others}
 use Rattle.wb_list.proofs.sorted.Sorted.take.Goals as goal
 
 pub returns-in-Ok-clause-item : goal.returns-in-Ok-clause-item
@@ -33,3 +33,13 @@ returns-in-Ok-clause-gone g c =
 
 pub returns-in-Err-clause-gone : goal.returns-in-Err-clause-gone
 returns-in-Err-clause-gone g c = find_in_gap g.met.T.Key.Ord.total g.T.Keyed.key_of _ _ _ c.in-Err.ensures.absent
+
+pub returns-in-Ok-clause-others : goal.returns-in-Ok-clause-others
+returns-in-Ok-clause-others g c =
+    let same = ap (λ (r : Room _). r.items) c.self.view_is in
+    rw (returns-in-Ok-clause-items g c) (rw (← same) (filter-others g.met.T.Key.Ord.total g.T.Keyed.key_of c.self.inside.items.items c.args.key.now c.self.invariant))
+
+pub returns-in-Err-clause-others : goal.returns-in-Err-clause-others
+returns-in-Err-clause-others g c =
+    let same = ap (λ (r : Room _). r.items) c.self.view_is in
+    returns-in-Err-clause-items g c ∙ rw (← same) (filter-others g.met.T.Key.Ord.total g.T.Keyed.key_of c.self.inside.items.items c.args.key.now c.self.invariant)

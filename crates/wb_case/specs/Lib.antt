@@ -1,0 +1,4 @@
+pub mod Summaries
+pub mod Rooms
+pub mod Plans
+pub mod Standing

@@ -1,0 +1,88 @@
+//! What an act puts on a trail.
+ghost use Rattle.std.specs.Prelude.{◌≡◌, ◌<◌, ◌≤◌, ◌++◌, ◌∷◌, [], ℤ, true, OnOk, IfOk};
+ghost use Rattle.std.specs.Int.{int_max};
+ghost use Rattle.wb_model.specs.Acts.{act_deed};
+ghost use Rattle.wb_model.specs.Doings.{Acts};
+ghost use Rattle.wb_model.specs.Legal.{is_legal, is_next, last_at, AsksRightly};
+ghost use Rattle.wb_case.specs.Plans.{IsInRange, IsPlanned, GivesPlan};
+ghost use Rattle.wb_case.specs.Summaries.{needed_by};
+
+use crate::Case;
+use wb_base::{Day, Moment};
+use wb_model::{Act, Actor, CaseFault, Deed, Entry, what_is_not_refused_is_legal};
+use wb_terms::{expiry, feedback_due};
+
+// The later of two days.
+fn later(day: Day, other: Day) -> Day
+    ensures { result ≡ int_max day other }
+{
+    if day < other { other } else { day }
+}
+
+impl Case {
+    // The deed that an act is.
+    fn deed(&self, act: Act) -> Deed
+        requires { IsInRange act }
+        ensures { result ≡ act_deed self.now.items act }
+    {
+        match act {
+            Act::Comment { internal, text } => Deed::Comment { internal, text },
+            Act::Label(text) => Deed::Label { text },
+            Act::SetStatus(status) => Deed::SetStatus { status },
+            Act::Acknowledge { today } => Deed::Acknowledged {
+                day: today,
+                // The three months are counted from the acknowledgement alone.
+                feedback_due: feedback_due(today, Some(today)),
+            },
+            Act::Feedback(text) => Deed::Feedback { text },
+            Act::Share(user) => Deed::Shared { user },
+            Act::Unshare(user) => Deed::Unshared { user },
+            Act::Transfer {
+                context,
+                readers,
+                ..
+            } => Deed::Transferred { context, readers },
+            Act::Postpone { today, retention } => Deed::Postponed {
+                expires: later(self.summary().expires, expiry(today, retention)),
+            },
+            Act::Identity => Deed::Identity,
+        }
+    }
+
+    // The entry of an act, or the first rule that refuses it. It takes no memory.
+    fn judge(&self, at: Moment, by: Actor, act: Act) -> Result<Entry, CaseFault>
+        requires { IsInRange act }
+        ensures { IsPlanned self.now.items at by act result }
+    {
+        match self.fault(&act) {
+            Some(fault) => Err(fault),
+            None => Ok(Entry {
+                at,
+                by,
+                deed: self.deed(act),
+            }),
+        }
+    }
+
+    /// The entry of an act, and room for it, or the first rule that refuses it.
+    ///
+    /// It looks at no entry of the trail. Where who acts, the day and the moment are right, the entry is legal after the trail.
+    pub fn plan(&mut self, at: Moment, by: Actor, act: Act) -> Result<Entry, CaseFault>
+        requires { IsInRange act }
+        ensures plan { GivesPlan self.old.items at by act result }
+        ensures items { self.new.items ≡ self.old.items }
+        ensures room { OnOk result (0 < self.new.spare) }
+        ensures kept { self.old.spare ≤ self.new.spare }
+        ensures few { IfOk result (λ entry. needed_by entry.deed ≤ 32) }
+        ensures legal { IfOk result (λ entry. (offset : ℤ) → AsksRightly offset at by (Acts act) → last_at 0 self.old.items ≤ at → is_next offset (last_at 0 self.old.items) self.old.items entry ≡ true) }
+    {
+        what_is_not_refused_is_legal();
+        match self.judge(at, by, act) {
+            Ok(entry) => match self.reserve() {
+                Ok(()) => Ok(entry),
+                Err(_) => Err(CaseFault::Memory),
+            },
+            Err(fault) => Err(fault),
+        }
+    }
+}

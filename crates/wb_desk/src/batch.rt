@@ -1,0 +1,117 @@
+//! What a turn has to keep, and the one call of the keeper.
+ghost use Rattle.std.specs.Prelude.{◌≡◌, ◌≢◌, ◌≤◌, ◌<◌, ◌++◌, ◌∷◌, [], List, All, OnOk, OnErr};
+ghost use Rattle.wb_base.specs.Days.{IsOffset};
+ghost use Rattle.wb_base.specs.KeptRows.{all_changed, IsGoodChange};
+ghost use Rattle.wb_base.specs.Outside.{Rose};
+ghost use Rattle.wb_base.specs.declared.rows.Row.{Row as KeptRow};
+ghost use Rattle.wb_base.specs.declared.rows.Change.TheVariants.{Put};
+ghost use Rattle.wb_model.specs.Host.{drawn};
+ghost use Rattle.wb_model.specs.Rows.{row, numbering_data, entry_data};
+ghost use Rattle.wb_desk.specs.Puts.{sealed_put, opening_puts};
+ghost use Rattle.wb_tables.specs.Kept.{place_of};
+
+use crate::take::draw_number;
+use std::alloc::Global;
+use wb_base::{Answers, Change, KeepErr, Keeper, Memory, Moment, Number, Tenant};
+use wb_model::{Entry, Numbering};
+use wb_plan::Opening;
+use wb_rows::{entry_row, numbering_row, sealed_row};
+use wb_tables::Tenancy;
+
+/// Why a turn is lost.
+#[derive(Clone, Copy, Debug, PartialEq, Eq)]
+pub enum Lost {
+    /// The keeper failed.
+    Keeper,
+    /// Memory was wanted.
+    Memory,
+}
+
+// The numbering is to be put.
+fn put_numbering(
+    alloc: Global,
+    batch: &mut Vec<Change>,
+    tenant: Tenant,
+    numbering: &Numbering,
+) -> Result<(), Memory>
+    ensures { OnOk result (batch.new.items ≡ batch.old.items ++ Put (row 2 tenant 0 0 (numbering_data numbering.now)) ∷ []) }
+{
+    let row = numbering_row(alloc, tenant, numbering)?;
+    batch.push(Change::Put(row))?;
+    Ok(())
+}
+
+// The first entry of a report is to be put.
+fn put_entry(
+    alloc: Global,
+    batch: &mut Vec<Change>,
+    tenant: Tenant,
+    number: Number,
+    entry: &Entry,
+) -> Result<(), Memory>
+    ensures { OnOk result (batch.new.items ≡ batch.old.items ++ Put (row 6 tenant number 1 (entry_data entry.now)) ∷ []) }
+{
+    let row = entry_row(alloc, tenant, number, 1, entry)?;
+    batch.push(Change::Put(row))?;
+    Ok(())
+}
+
+// The identity answers of a report are to be put, where there are any.
+fn put_sealed(
+    alloc: Global,
+    batch: &mut Vec<Change>,
+    tenant: Tenant,
+    number: Number,
+    secret: &Option<Answers>,
+) -> Result<(), Memory>
+    ensures { OnOk result (batch.new.items ≡ batch.old.items ++ sealed_put tenant number secret.now) }
+{
+    if let Some(answers) = secret {
+        let row = sealed_row(alloc, tenant, number, answers)?;
+        batch.push(Change::Put(row))?;
+    }
+    Ok(())
+}
+
+/// A report that begins is to be put: the numbering after its draw, its first entry and its identity answers.
+pub fn put_opening(
+    alloc: Global,
+    batch: &mut Vec<Change>,
+    tenancy: &Tenancy,
+    time: Moment,
+    opening: &Opening,
+) -> Result<(), Memory>
+    requires offset { IsOffset tenancy.now.settings.offset }
+    requires last { tenancy.now.numbering.last < 4_294_967_295 }
+    requires drawn { tenancy.now.numbering.drawn ≤ tenancy.now.numbering.last }
+    ensures { OnOk result (batch.new.items ≡ batch.old.items ++ opening_puts time (place_of tenancy.now) opening.now) }
+{
+    let Some(number) = Number::try_new(tenancy.numbering.last + 1) else {
+        unreachable!();
+    };
+    let tenant = tenancy.settings.tenant;
+    let numbering = draw_number(&tenancy.settings, tenancy.numbering, time);
+    put_numbering(alloc, batch, tenant, &numbering)?;
+    put_entry(alloc, batch, tenant, number, &opening.entry)?;
+    put_sealed(alloc, batch, tenant, number, &opening.secret)
+}
+
+/// Keeps a batch in one call, or makes none where there is nothing to keep.
+pub fn keep<K: Keeper>(keeper: &mut K, batch: &[Change]) -> Result<(), Lost>
+    requires { All IsGoodChange batch.now }
+    ensures back { K.honest keeper.new → K.honest keeper.old }
+    ensures ok { K.honest keeper.new → (rows : List KeptRow) → K.holds keeper.old rows → OnOk result (K.holds keeper.new (all_changed rows batch.now)) }
+    ensures err { K.honest keeper.new → (rows : List KeptRow) → K.holds keeper.old rows → OnErr result (K.holds keeper.new rows) }
+    ensures later { K.count keeper.old ≤ K.count keeper.new }
+    ensures fault { result ≡ Err Lost.Keeper → Rose (K.count keeper.old) (K.count keeper.new) }
+    ensures asked { OnErr result (batch.now ≢ []) }
+{
+    if batch.is_empty() {
+        return Ok(());
+    }
+    match keeper.apply(batch) {
+        Ok(()) => Ok(()),
+        Err(KeepErr::Failed) => Err(Lost::Keeper),
+        Err(KeepErr::Memory) => Err(Lost::Memory),
+    }
+}

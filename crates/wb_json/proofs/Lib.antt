@@ -1,0 +1,2 @@
+pub mod DateBytes
+pub mod NoFloats

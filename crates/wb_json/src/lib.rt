@@ -1,0 +1,11 @@
+//! Writing JSON (RFC 8259): members of objects, lists, dates and answers, as the bodies of replies and the kept rows have them.
+#![tactic(auto)]
+
+mod members;
+mod values;
+
+pub use members::{
+    put_date, put_date_or_null, put_flag, put_null, put_text, put_value, put_whole,
+    put_whole_or_null, text_of,
+};
+pub use values::{Showing, answers_value, list_value};

@@ -1,0 +1,160 @@
+-- What the rules of a setup, and those of kept rows, let through is what a host may be opened with.
+use Rattle.std.proofs.Common.{◌≡◌, inl, inr, ℕ, ◌≤◌, Bool, true, false, cond, eqb, not, List, [], ◌∷◌, Some, None, refl, sym, ap, ◌∙◌, subst, arith, ℤ}
+use Rattle.std.specs.Prelude.{◌==◌, ◌&&◌, ◌||◌, nat_lt, nat_le, map, filter, find, is_some, unwrap_or}
+use Rattle.std.specs.List.{list_all, list_any}
+use Rattle.std.proofs.lemmas.Bool.Decides.{nat_tests}
+use Rattle.wb_base.specs.declared.words.Digest.{Digest}
+use Rattle.wb_base.specs.AnswerList.{is_text}
+use Rattle.wb_model.specs.declared.numbering.Numbering.{Numbering}
+use Rattle.wb_model.specs.declared.registry.ContextItem.{ContextItem}
+use Rattle.wb_model.specs.declared.registry.FormItem.{FormItem}
+use Rattle.wb_model.specs.declared.registry.Lists.{Lists}
+use Rattle.wb_model.specs.declared.registry.TenantItem.{TenantItem}
+use Rattle.wb_model.specs.Trails.{receipt}
+use Rattle.wb_model.specs.Tables.{Case, has_receipt}
+use Rattle.wb_model.specs.Requests.{form_of_trail}
+use Rattle.wb_model.specs.Host.{Tables}
+use Rattle.wb_model.specs.Fits.{is_between, has_bytes}
+use Rattle.wb_model.specs.Legal.{ascends_from, are_readers, is_legal, last_at, AreSound, IsSound, AreLegal}
+use Rattle.wb_model.specs.Opened.{Ascend, AtMost, AreStarters, Apart, has_turn, begun, AreBegunBy, HaveForms, IsNumbered, AreOpened}
+use Rattle.wb_model.specs.SetUps.{is_offset, is_tenant_item, is_context_item, are_apart, AreSetUp}
+use Rattle.wb_model.specs.KeptRules.{is_numbering, same_receipt, AreKept}
+use Rattle.wb_model.specs.Openings.{no_settings, registry_of, empty_tables}
+use Rattle.wb_model.proofs.Receipts.{same_text}
+
+-- ---- parts
+
+both : (a b : Bool) → (a && b) ≡ true → (a ≡ true) × (b ≡ true)
+both true true e = (refl, refl)
+both true false e = absurd (grind (arith, e))
+both false b e = absurd (grind (arith, e))
+
+at_most : (a b : ℕ) → nat_le a b ≡ true → a ≤ b
+at_most a b e = grind (arith, nat_tests, e)
+
+third : (a b c d e : Bool) → (a && b && c && d && e) ≡ true → c ≡ true
+third a b c d e is = (both (a && b) c (both (a && b && c) d (both (a && b && c && d) e is).0).0).1
+
+notice_in : (x : TenantItem) → is_tenant_item x ≡ true → x.notice_days ≤ 30
+notice_in x e = at_most x.notice_days 30 (third (is_between 1 64 x.tenant) (has_bytes 1 128 x.name) (nat_le x.notice_days 30) (is_offset x.offset) (is_between 1 100_000 x.quota) e)
+
+context_in : (x : ContextItem) → is_context_item x ≡ true → (1 ≤ x.retention) × (x.retention ≤ 3_650) × (are_readers x.recipients ≡ true)
+context_in x e =
+    let whole = both (is_between 1 64 x.id && has_bytes 1 128 x.name && is_between 1 3_650 x.retention) (are_readers x.recipients) e in
+    let days = both (nat_le 1 x.retention) (nat_le x.retention 3_650) (both (is_between 1 64 x.id && has_bytes 1 128 x.name) (is_between 1 3_650 x.retention) whole.0).1 in
+    (at_most 1 x.retention days.0, at_most x.retention 3_650 days.1, whole.1)
+
+contexts_in : (cs : List ContextItem) → list_all is_context_item cs ≡ true → AreSound cs
+contexts_in [] e = tt
+contexts_in (c ∷ cs) e = let parts = both (is_context_item c) (list_all is_context_item cs) e in (context_in c parts.0, contexts_in cs parts.1)
+
+-- ---- setups
+
+filter_all : {X : Type 0} (p q : X → Bool) (xs : List X) → list_all q xs ≡ true → list_all q (filter p xs) ≡ true
+filter_all p q [] e = refl
+filter_all p q (x ∷ xs) e = by (p x) (both (q x) (list_all q xs) e) (filter_all p q xs (both (q x) (list_all q xs) e).1)
+  where
+    by : (b : Bool) → (q x ≡ true) × (list_all q xs ≡ true) → list_all q (filter p xs) ≡ true → list_all q (cond b (x ∷ filter p xs) (filter p xs)) ≡ true
+    by true h ih = ap (λ b. b && list_all q (filter p xs)) h.0 ∙ ih
+    by false h ih = ih
+
+found_notice : (t : ℕ) (xs : List TenantItem) → list_all is_tenant_item xs ≡ true → (unwrap_or (find (λ (x : TenantItem). x.tenant == t) xs) (no_settings t)).notice_days ≤ 30
+found_notice t [] e = omega arith
+found_notice t (x ∷ xs) e = by (eqb x.tenant t) (found_notice t xs (both (is_tenant_item x) (list_all is_tenant_item xs) e).1)
+  where
+    by : (b : Bool) → (unwrap_or (find (λ (y : TenantItem). y.tenant == t) xs) (no_settings t)).notice_days ≤ 30 → (unwrap_or (cond b (Some x) (find (λ (y : TenantItem). y.tenant == t) xs)) (no_settings t)).notice_days ≤ 30
+    by true ih = notice_in x (both (is_tenant_item x) (list_all is_tenant_item xs) e).0
+    by false ih = ih
+
+registry_sound : (lists : Lists) (t : ℕ) → AreSetUp lists → IsSound (registry_of lists t)
+registry_sound lists t up = record {
+  notice = found_notice t lists.tenants up.tenants;
+  contexts = contexts_in (filter (λ (x : ContextItem). x.tenant == t) lists.contexts) (filter_all (λ (x : ContextItem). x.tenant == t) is_context_item lists.contexts up.contexts);
+}
+
+pub set_up_opened : (lists : Lists) → AreSetUp lists → (t : ℕ) → AreOpened 0 (empty_tables (registry_of lists t))
+set_up_opened lists up t = record {
+  sound = registry_sound lists t up;
+  numbering = inl (refl, refl, refl);
+  drawn = omega arith;
+  ascend = tt;
+  most = tt;
+  begun = tt;
+  legal = tt;
+  forms = tt;
+  receipts = tt;
+  marks = λ r. refl;
+  sessions = tt;
+  logins = tt;
+}
+
+-- ---- kept rows
+
+kept_ascend : (k : ℕ) (cs : List Case) → ascends_from k (map (λ (c : Case). c.number) cs) ≡ true → Ascend k cs
+kept_ascend k [] e = tt
+kept_ascend k (c ∷ cs) e =
+    let parts = both (nat_lt k c.number) (ascends_from c.number (map (λ (x : Case). x.number) cs)) e in
+    (grind (arith, nat_tests, parts.0), kept_ascend c.number cs parts.1)
+
+kept_most : (last : ℕ) (cs : List Case) → list_all (λ (c : Case). nat_le c.number last) cs ≡ true → AtMost last cs
+kept_most last [] e = tt
+kept_most last (c ∷ cs) e = let parts = both (nat_le c.number last) (list_all (λ (x : Case). nat_le x.number last) cs) e in (at_most c.number last parts.0, kept_most last cs parts.1)
+
+kept_begun : (at : ℕ) (cs : List Case) → list_all (λ (c : Case). nat_le (begun c.trail) at) cs ≡ true → AreBegunBy at cs
+kept_begun at [] e = tt
+kept_begun at (c ∷ cs) e = let parts = both (nat_le (begun c.trail) at) (list_all (λ (x : Case). nat_le (begun x.trail) at) cs) e in (at_most (begun c.trail) at parts.0, kept_begun at cs parts.1)
+
+kept_legal : (offset : ℤ) (at : ℕ) (cs : List Case) → list_all (λ (c : Case). is_legal offset c.trail) cs ≡ true → list_all (λ (c : Case). nat_le (last_at 0 c.trail) at) cs ≡ true → AreLegal offset at cs
+kept_legal offset at [] e f = tt
+kept_legal offset at (c ∷ cs) e f =
+    let legal = both (is_legal offset c.trail) (list_all (λ (x : Case). is_legal offset x.trail) cs) e in
+    let past = both (nat_le (last_at 0 c.trail) at) (list_all (λ (x : Case). nat_le (last_at 0 x.trail) at) cs) f in
+    ((legal.0, at_most (last_at 0 c.trail) at past.0), kept_legal offset at cs legal.1 past.1)
+
+kept_forms : (forms : List FormItem) (cs : List Case) → list_all (λ (c : Case). is_some (form_of_trail c.trail forms)) cs ≡ true → HaveForms forms cs
+kept_forms forms [] e = tt
+kept_forms forms (c ∷ cs) e = let parts = both (is_some (form_of_trail c.trail forms)) (list_all (λ (x : Case). is_some (form_of_trail x.trail forms)) cs) e in (parts.0, kept_forms forms cs parts.1)
+
+none_other : (c : Case) (cs : List Case) (k : Digest) → list_any (same_receipt c) cs ≡ false → has_receipt k c ≡ true → find (has_receipt k) cs ≡ None
+none_other c [] k e is = refl
+none_other c (d ∷ cs) k e is = by (has_receipt k d) refl (same_receipt c d) refl e (none_other c cs k)
+  where
+    by : (b : Bool) → has_receipt k d ≡ b → (x : Bool) → same_receipt c d ≡ x → (x || list_any (same_receipt c) cs) ≡ false → (list_any (same_receipt c) cs ≡ false → has_receipt k c ≡ true → find (has_receipt k) cs ≡ None) → cond b (Some d) (find (has_receipt k) cs) ≡ None
+    by b h true g f ih = absurd (grind (arith, f))
+    by false h false g f ih = ih f is
+    by true h false g f ih =
+        let one : receipt c.trail ≡ k.0 = same_text (receipt c.trail) k.0 is in
+        let other : receipt d.trail ≡ k.0 = same_text (receipt d.trail) k.0 h in
+        absurd (let bad : false ≡ true = sym g ∙ (ap (λ r. is_text r (receipt d.trail)) (one ∙ sym other) ∙ (ap (λ r. is_text r (receipt d.trail)) other ∙ (ap (is_text k.0) other ∙ (ap (λ r. is_text r k.0) (sym other) ∙ h)))) in grind (arith, bad))
+
+kept_apart : (cs : List Case) → are_apart same_receipt cs ≡ true → Apart has_receipt cs
+kept_apart [] e = tt
+kept_apart (c ∷ cs) e =
+    let parts = both (not (list_any (same_receipt c) cs)) (are_apart same_receipt cs) e in
+    ((λ k is. none_other c cs k (grind (arith, parts.0)) is), kept_apart cs parts.1)
+
+kept_numbered : (n : Numbering) → is_numbering n ≡ true → IsNumbered n
+kept_numbered n e = by ((n.at == 0) && (n.drawn == 0) && (n.last == 0)) refl e
+  where
+    by : (b : Bool) → ((n.at == 0) && (n.drawn == 0) && (n.last == 0)) ≡ b → (b || (nat_le 1 n.drawn && nat_le n.drawn n.last)) ≡ true → IsNumbered n
+    by true is f =
+        let whole = both ((n.at == 0) && (n.drawn == 0)) (n.last == 0) is in
+        let rest = both (n.at == 0) (n.drawn == 0) whole.0 in
+        inl (grind (arith, nat_tests, rest.0), grind (arith, nat_tests, rest.1), grind (arith, nat_tests, whole.1))
+    by false is f = let parts = both (nat_le 1 n.drawn) (nat_le n.drawn n.last) f in inr (at_most 1 n.drawn parts.0, at_most n.drawn n.last parts.1)
+
+pub kept_opened : (at : ℕ) (lists : Lists) (tenant : ℕ) (t : Tables) → AreKept at lists tenant t → AreOpened at t
+kept_opened at lists tenant t kept = record {
+  sound = subst IsSound (sym kept.registry) (registry_sound lists tenant kept.set_up);
+  numbering = kept_numbered t.plain.numbering kept.numbering;
+  drawn = at_most t.plain.numbering.at at kept.drawn;
+  ascend = kept_ascend 0 t.plain.cases kept.keys;
+  most = kept_most t.plain.numbering.last t.plain.cases kept.numbers;
+  begun = kept_begun t.plain.numbering.at t.plain.cases kept.begun;
+  legal = kept_legal t.plain.registry.settings.offset at t.plain.cases kept.legal kept.entries;
+  forms = kept_forms t.plain.registry.forms t.plain.cases kept.forms;
+  receipts = kept_apart t.plain.cases kept.receipts;
+  marks = kept.marks;
+  sessions = subst AreStarters (sym kept.sessions) tt;
+  logins = subst (Apart has_turn) (sym kept.sessions) tt;
+}

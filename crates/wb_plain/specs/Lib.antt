@@ -1,4 +1,0 @@
-pub mod Pasts
-pub mod Setups
-pub mod Facts
-pub mod Verdicts

@@ -1,0 +1,4 @@
+pub mod ReaderLists
+pub mod Requests
+pub mod Results
+pub mod Submissions

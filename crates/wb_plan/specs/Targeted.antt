@@ -1,0 +1,25 @@
+-- What the code's refusals and targets stand for.
+use Rattle.std.specs.Prelude.{option_map}
+use Rattle.wb_model.specs.declared.body.Told.{Told}
+use Rattle.wb_model.specs.Refusals.{not_found, no_session, wrong_role, wrong_right, bad_login, numbers_spent, quota_spent, receipt_taken}
+use Rattle.wb_model.specs.Targets.{Target, Nobody, Alone, On}
+use Rattle.wb_tables.specs.Kept.{who_of, case_of}
+use Rattle.wb_plan.specs.declared.refused.Refusal.{Refusal}
+use Rattle.wb_plan.specs.declared.refused.Refusal.TheVariants as refusals
+use Rattle.wb_plan.specs.declared.target.Target.{Target as KeptTarget}
+use Rattle.wb_plan.specs.declared.target.Target.TheVariants as targets
+
+abbrev pub told_of : Refusal → Told
+told_of refusals.NotFound = not_found
+told_of refusals.NoSession = no_session
+told_of refusals.WrongRole = wrong_role
+told_of refusals.WrongRight = wrong_right
+told_of refusals.BadLogin = bad_login
+told_of refusals.NumbersSpent = numbers_spent
+told_of (refusals.QuotaSpent quota) = quota_spent quota
+told_of refusals.ReceiptTaken = receipt_taken
+
+abbrev pub target_of : KeptTarget → Target
+target_of (targets.Nobody refusal) = Nobody (told_of refusal)
+target_of (targets.Alone who) = Alone (option_map who_of who)
+target_of (targets.On who case) = On (who_of who) (case_of case.now)

@@ -1,0 +1,230 @@
+//! Submissions: a report begins under the next number.
+ghost use Rattle.std.specs.Prelude.{◌≡◌, ◌≢◌, ◌≤◌, ◌<◌, ◌+◌, ℕ, Some, None, if◌then◌else◌, MatchOption, IfOk, OnOk, option_map};
+ghost use Rattle.wb_base.specs.Days.{IsOffset, day_of as day_at};
+ghost use Rattle.wb_base.specs.AnswerList.{Answered};
+ghost use Rattle.wb_base.specs.Secrets.{receipt_text};
+ghost use Rattle.wb_model.specs.Json.{told};
+ghost use Rattle.wb_model.specs.Refusals.{faulty as faulty_told};
+ghost use Rattle.wb_model.specs.Requests.{Checked, open_form};
+ghost use Rattle.wb_model.specs.ShortViews.{submission_view as submission_data};
+ghost use Rattle.wb_model.specs.Submissions.{drawing, submission_entry};
+ghost use Rattle.wb_model.specs.Tables.{context as context_by, drawn_on};
+ghost use Rattle.wb_plan.specs.Plans.{at_of, drawing_refusal, HasNumber, IsAsking, IsSplit, PlansSubmission};
+ghost use Rattle.wb_plan.specs.Targeted.{told_of};
+ghost use Rattle.wb_tables.specs.Kept.{plain_of, registry_of, live_plain};
+ghost use Rattle.wb_tables.specs.Places.{IsLookedUp};
+
+use crate::plan::{At, Opening, Plan, Planned, answering, refusing};
+use crate::refused::{Refusal, refuse_answers};
+use std::alloc::Global;
+use wb_access::{digest, draw};
+use wb_base::{AnswerFault, Answers, Memory, Moment, Words};
+use wb_list::TryClone;
+use wb_model::{Actor, Body, ContextItem, Deed, Entry, FormItem, Numbering, TenantItem, Told};
+use wb_tables::{Tenancy, context, newest_form, report_of_receipt};
+use wb_terms::{ack_due, day_of, expiry, feedback_due};
+use wb_trigger::{Split, check};
+use wb_views::submission_view;
+
+/// An open context, and the form in which it asks.
+#[derive(Drop)]
+struct Asking<'a> {
+    context: &'a ContextItem,
+    item: &'a FormItem,
+}
+
+// The open context of an id, with its form in the newest version.
+fn find_asking(tenancy: &Tenancy, id: u32) -> Option<Asking<'_>>
+    ensures { MatchOption result (open_form (context_by id tenancy.now.contexts) tenancy.now.forms ≡ None) (λ a. IsAsking (registry_of tenancy.now) id a.context.now a.item.now) }
+{
+    match context(tenancy.contexts.as_slice(), id) {
+        Some(context) if context.is_open => {
+            match newest_form(tenancy.forms.as_slice(), context.form) {
+                Some(item) => Some(Asking { context, item }),
+                None => None,
+            }
+        }
+        _ => None,
+    }
+}
+
+// How many numbers were drawn on the day of this moment.
+fn drawn_today(settings: &TenantItem, numbering: Numbering, time: Moment) -> u32
+    requires offset { IsOffset settings.now.offset }
+    ensures { result ≡ drawn_on (day_at time settings.now.offset) settings.now numbering }
+{
+    if day_of(numbering.at, settings.offset) == day_of(time, settings.offset) {
+        numbering.drawn
+    } else {
+        0
+    }
+}
+
+// Whether a live report has the receipt that is drawn.
+fn is_taken(tenancy: &Tenancy, at: &At) -> bool
+    requires place { IsLookedUp (plain_of tenancy.now) }
+    ensures { result ≡ (drawing (at_of at.now) (live_plain at.now.time (plain_of tenancy.now))).taken }
+{
+    let receipt = draw(&at.words);
+    report_of_receipt(
+        tenancy,
+        at.time,
+        &digest(&tenancy.settings.salt, receipt.as_slice()),
+    )
+    .is_some()
+}
+
+// What stands in the way of a draw: the last number is drawn, the day's quota, or a live report's receipt.
+fn hindrance(tenancy: &Tenancy, at: &At) -> Option<Refusal>
+    requires place { IsLookedUp (plain_of tenancy.now) }
+    ensures { option_map told_of result ≡ drawing_refusal tenancy.now.settings.quota (drawing (at_of at.now) (live_plain at.now.time (plain_of tenancy.now))) }
+{
+    let quota = tenancy.settings.quota;
+    if tenancy.numbering.last == u32::MAX {
+        Some(Refusal::NumbersSpent)
+    } else if drawn_today(&tenancy.settings, tenancy.numbering, at.time) >= quota {
+        Some(Refusal::QuotaSpent(quota))
+    } else if is_taken(tenancy, at) {
+        Some(Refusal::ReceiptTaken)
+    } else {
+        None
+    }
+}
+
+// The entry with which a report begins.
+#[tactic(auto, unfolding(wb_model::specs::Submissions::submission_entry))]
+fn first_entry(
+    tenancy: &Tenancy,
+    at: &At,
+    context: &ContextItem,
+    item: &FormItem,
+    public: Answers,
+    mark: bool,
+) -> Result<Entry, Memory>
+    requires place { IsLookedUp (plain_of tenancy.now) }
+    requires low { 1 ≤ context.now.retention }
+    requires high { context.now.retention ≤ 3_650 }
+    ensures { IfOk result (λ entry. entry ≡ submission_entry (at_of at.now) (registry_of tenancy.now) (Checked None public mark) context.now item.now) }
+{
+    let received = day_of(at.time, tenancy.settings.offset);
+    let receipt = draw(&at.words);
+    Ok(Entry {
+        at: at.time,
+        by: Actor::Reporter,
+        deed: Deed::Submitted {
+            ack_due: ack_due(received),
+            answers: public,
+            context: context.id,
+            expires: expiry(received, context.retention),
+            feedback_due: feedback_due(received, None),
+            form: item.id,
+            mark,
+            readers: context.recipients.try_clone()?,
+            receipt: digest(&tenancy.settings.salt, receipt.as_slice()),
+            received,
+            version: item.version,
+        },
+    })
+}
+
+// The reply to a submission that draws a number.
+fn submitted(alloc: Global, number: u32, words: &Words) -> Result<Told, Memory>
+    ensures { IfOk result (λ t. t ≡ told 201 (submission_data number (receipt_text words.now))) }
+{
+    let receipt = draw(words);
+    Ok(Told {
+        status: 201,
+        body: Body::of(submission_view(alloc, number, &receipt)?),
+    })
+}
+
+// The identity answers, where there are any.
+fn secret_in(mark: bool, sealed: Answers) -> Option<Answers>
+    ensures { result ≡ (if mark then Some sealed else None) }
+{
+    if mark { Some(sealed) } else { None }
+}
+
+// The plan of a report that begins.
+fn begin(
+    alloc: Global,
+    tenancy: &Tenancy,
+    at: &At,
+    asking: &Asking<'_>,
+    split: Split,
+) -> Result<Plan, Memory>
+    requires place { IsLookedUp (plain_of tenancy.now) }
+    requires number { tenancy.now.numbering.last < 4_294_967_295 }
+    requires low { 1 ≤ asking.now.context.now.retention }
+    requires high { asking.now.context.now.retention ≤ 3_650 }
+    ensures told { IfOk result (λ plan. plan.told ≡ told 201 (submission_data (tenancy.now.numbering.last + 1) (receipt_text at.now.words))) }
+    ensures change { IfOk result (λ plan. plan.change ≡ Planned.Begins (record { entry = submission_entry (at_of at.now) (registry_of tenancy.now) (Checked None split.public split.mark) asking.now.context.now asking.now.item.now; secret = if split.mark then Some split.sealed else None })) }
+{
+    let told = submitted(alloc, tenancy.numbering.last + 1, &at.words)?;
+    let Split {
+        public,
+        sealed,
+        mark,
+    } = split;
+    let entry = first_entry(tenancy, at, asking.context, asking.item, public, mark)?;
+    Ok(Plan {
+        told,
+        change: Planned::Begins(Opening {
+            entry,
+            secret: secret_in(mark, sealed),
+        }),
+    })
+}
+
+// The plan of a submission whose answers are right.
+fn draw_number(
+    alloc: Global,
+    tenancy: &Tenancy,
+    at: &At,
+    asking: &Asking<'_>,
+    split: Split,
+) -> Result<Plan, Memory>
+    requires place { IsLookedUp (plain_of tenancy.now) }
+    requires asking { (id : ℕ) × IsAsking (registry_of tenancy.now) id asking.now.context.now asking.now.item.now }
+    ensures plan { IfOk result (λ plan. (id : ℕ) (answers : Answered) → IsAsking (registry_of tenancy.now) id asking.now.context.now asking.now.item.now → IsSplit asking.now.item.now.form answers split → PlansSubmission (live_plain at.now.time (plain_of tenancy.now)) (at_of at.now) id answers plan) }
+    ensures number { IfOk result (λ plan. HasNumber tenancy.now.numbering.last plan.change) }
+{
+    match hindrance(tenancy, at) {
+        Some(why) => refusing(alloc, why),
+        None => begin(alloc, tenancy, at, asking, split),
+    }
+}
+
+// The plan that refuses answers for a fault, which may be want of memory.
+fn faulty(alloc: Global, fault: AnswerFault) -> Result<Plan, Memory>
+    ensures code { OnOk result (fault.code ≢ AnswerFault.MEMORY) }
+    ensures told { IfOk result (λ plan. plan.told ≡ faulty_told fault) }
+    ensures change { IfOk result (λ plan. plan.change ≡ Planned.Nothing) }
+{
+    if fault.code == AnswerFault::MEMORY {
+        Err(Memory)
+    } else {
+        Ok(answering(refuse_answers(alloc, fault)?))
+    }
+}
+
+/// The plan of a submission to a context.
+pub fn submit(
+    alloc: Global,
+    tenancy: &Tenancy,
+    at: &At,
+    id: u32,
+    answers: &Answers,
+) -> Result<Plan, Memory>
+    requires place { IsLookedUp (plain_of tenancy.now) }
+    ensures plan { IfOk result (PlansSubmission (live_plain at.now.time (plain_of tenancy.now)) (at_of at.now) id answers.now) }
+    ensures number { IfOk result (λ plan. HasNumber tenancy.now.numbering.last plan.change) }
+{
+    let Some(asking) = find_asking(tenancy, id) else {
+        return refusing(alloc, Refusal::NotFound);
+    };
+    match check(alloc, &asking.item.form, answers) {
+        Ok(split) => draw_number(alloc, tenancy, at, &asking, split),
+        Err(fault) => faulty(alloc, fault),
+    }
+}

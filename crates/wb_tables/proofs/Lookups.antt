@@ -1,0 +1,90 @@
+-- What is found among what passes a test: what was found, where that passes.
+use Rattle.std.proofs.Common.{◌≡◌, ℕ, ℤ, Bor, Bool, true, false, cond, List, [], ◌∷◌, map, find, Option, Some, None, refl, sym, ap, ◌∙◌}
+use Rattle.std.specs.Prelude.{filter, ◌&&◌, ◌||◌, option_map, is_some, if◌then◌else◌}
+use Rattle.std.specs.Ordering.{nat_cmp}
+use Rattle.std.specs.Cmp.{unsigned_ties}
+use Rattle.wb_base.specs.declared.words.Digest.{Digest}
+use Rattle.wb_base.proofs.AnswerLemmas.{find-same}
+use Rattle.wb_list.specs.Keyed.{has_key}
+use Rattle.wb_model.specs.Tables.{Case, Session, has_number, report, is_there, is_live, same_digest}
+use Rattle.wb_model.specs.Opened.{Apart, has_turn}
+use Rattle.wb_tables.specs.Kept.{case_of, session_of, plain_of, live_plain, lives_on, is_session}
+use Rattle.wb_base.specs.Days.{day_of}
+use Rattle.std.specs.Option.{option_copied}
+use Rattle.wb_tables.specs.declared.tenancy.Case.{Case as KeptCase}
+use Rattle.wb_tables.specs.declared.tenancy.Session.{Session as KeptSession}
+use Rattle.wb_tables.specs.declared.tenancy.Tenancy.{Tenancy as KeptTenancy}
+use Rattle.wb_tables.proofs.CaseLists.{number_of, find-map, report-found}
+
+abbrev pub kept : {X : Type 0} → (X → Bool) → Option X → Option X
+kept Q None = None
+kept Q (Some x) = if Q x then Some x else None
+
+-- of the items with a key, of which there is one at most
+pub find_under : {K X : Type 0} (P : K → X → Bool) (k : K) (D Q : X → Bool) (xs : List X) → Apart P xs → find (λ x. P k x && D x) (filter Q xs) ≡ kept (λ x. D x && Q x) (find (P k) xs)
+find_under P k D Q [] o = refl
+find_under {K} {X} P k D Q (x ∷ xs) o = let rest = find_under P k D Q xs o.1 in by rest (λ is. rest ∙ ap (kept (λ y. D y && Q y)) (o.0 k is)) (P k x) (D x) (Q x) refl refl refl
+  where
+    by : (rest : find (λ y. P k y && D y) (filter Q xs) ≡ kept (λ y. D y && Q y) (find (P k) xs)) → (none : P k x ≡ true → find (λ y. P k y && D y) (filter Q xs) ≡ None) → (a d q : Bool) → P k x ≡ a → D x ≡ d → Q x ≡ q → find (λ y. P k y && D y) (cond q (x ∷ filter Q xs) (filter Q xs)) ≡ kept (λ y. D y && Q y) (cond a (Some x) (find (P k) xs))
+    by rest none true true true a d q = rw (a, d, q) refl
+    by rest none true true false a d q = rw (d, q) (none a)
+    by rest none true false true a d q = rw (a, d) (none a)
+    by rest none true false false a d q = rw d (none a)
+    by rest none false d true a e q = rw a rest
+    by rest none false d false a e q = rest
+
+pub find_kept : {K X : Type 0} (P : K → X → Bool) (k : K) (Q : X → Bool) (xs : List X) → Apart P xs → find (P k) (filter Q xs) ≡ kept Q (find (P k) xs)
+find_kept P k Q [] o = refl
+find_kept {K} {X} P k Q (x ∷ xs) o = by (find_kept P k Q xs o.1) (P k x) (Q x) refl refl
+  where
+    by : (rest : find (P k) (filter Q xs) ≡ kept Q (find (P k) xs)) → (a q : Bool) → P k x ≡ a → Q x ≡ q → find (P k) (cond q (x ∷ filter Q xs) (filter Q xs)) ≡ kept Q (cond a (Some x) (find (P k) xs))
+    by rest true true a q = rw (a, q) refl
+    by rest true false a q = rw q (rest ∙ ap (kept Q) (o.0 k a))
+    by rest false true a q = rw a rest
+    by rest false false a q = rest
+
+-- ---- reports
+
+pub live_report : (x : KeptTenancy) (time n : ℕ) → Apart has_number (plain_of x).cases → report n (live_plain time (plain_of x)).cases ≡ kept (is_live x.settings time) (option_map case_of (find (has_key nat_cmp number_of n) x.cases.items))
+live_report x time n apart = find_kept has_number n (is_live x.settings time) (map case_of x.cases.items) apart ∙ ap (kept (is_live x.settings time)) (report-found n x.cases.items)
+
+-- what the code found
+pub report_kept : (x : KeptTenancy) (time n : ℕ) (today : ℤ) (o : Option KeptCase) → Apart has_number (plain_of x).cases → today ≡ day_of time x.settings.offset → o ≡ find (has_key nat_cmp number_of n) x.cases.items
+    → kept (lives_on today) (option_map case_of o) ≡ report n (live_plain time (plain_of x)).cases
+report_kept x time n today o apart day found =
+    ap (λ d. kept (lives_on d) (option_map case_of o)) day ∙ (ap (λ f. kept (is_live x.settings time) (option_map case_of f)) found ∙ sym (live_report x time n apart))
+
+pub there-found : (n : ℕ) (cs : List Case) → is_there n cs ≡ is_some (report n cs)
+there-found n [] = refl
+there-found n (c ∷ cs) = by (there-found n cs) (has_number n c) refl
+  where
+    by : is_there n cs ≡ is_some (report n cs) → (b : Bool) → has_number n c ≡ b → (b || is_there n cs) ≡ is_some (cond b (Some c) (report n cs))
+    by rest true e = refl
+    by rest false e = rest
+
+-- ---- sessions
+
+abbrev pub turn_of : KeptSession → ℕ
+turn_of s = s.turn
+
+pub session-found : (turn : ℕ) (ss : List KeptSession) → find (has_turn turn) (map session_of ss) ≡ option_map session_of (find (has_key nat_cmp turn_of turn) ss)
+session-found turn ss = find-map session_of (has_turn turn) ss ∙ ap (option_map session_of) (find-same (λ s. has_turn turn (session_of s)) (has_key nat_cmp turn_of turn) (λ s. unsigned_ties s.turn turn) ss)
+
+pub live_session : (Q : Session → Bool) (turn : ℕ) (d : Digest) (ss : List KeptSession) → Apart has_turn (map session_of ss) → find (is_session turn d) (filter Q (map session_of ss)) ≡ kept (λ s. same_digest s.digest d && Q s) (option_map session_of (find (has_key nat_cmp turn_of turn) ss))
+live_session Q turn d ss apart = find_under has_turn turn (λ s. same_digest s.digest d) Q (map session_of ss) apart ∙ ap (kept (λ s. same_digest s.digest d && Q s)) (session-found turn ss)
+
+pub session_kept : (Q : Session → Bool) (turn : ℕ) (d : Digest) (ss : List KeptSession) (o : Option KeptSession) → Apart has_turn (map session_of ss) → o ≡ find (has_key nat_cmp turn_of turn) ss
+    → kept (λ s. same_digest s.digest d && Q s) (option_map session_of o) ≡ find (is_session turn d) (filter Q (map session_of ss))
+session_kept Q turn d ss o apart found = ap (λ f. kept (λ s. same_digest s.digest d && Q s) (option_map session_of f)) found ∙ sym (live_session Q turn d ss apart)
+
+some_mapped : {X Y : Type 0} (f : X → Y) (o : Option X) → is_some (option_map f o) ≡ is_some o
+some_mapped f None = refl
+some_mapped f (Some x) = refl
+
+some_copied : {X : Type 0} (o : Option (Bor X)) → is_some (option_copied o) ≡ is_some o
+some_copied None = refl
+some_copied (Some x) = refl
+
+-- whether a report was found
+pub there_found : (n : ℕ) (cs : List Case) (o : Option (Bor KeptCase)) → option_map case_of (option_copied o) ≡ report n cs → is_some o ≡ is_there n cs
+there_found n cs o found = sym (some_copied o) ∙ (sym (some_mapped case_of (option_copied o)) ∙ (ap is_some found ∙ sym (there-found n cs)))

@@ -1,0 +1,87 @@
+-- What the kept tables stand for.
+use Rattle.std.specs.Prelude.{ℕ, ℤ, ◌==◌, ◌&&◌, not, int_lt, Bool, List, map, filter, length}
+use Rattle.std.specs.List.{sum_by}
+use Rattle.wb_base.specs.declared.words.Digest.{Digest}
+use Rattle.wb_custody.specs.declared.sealed.SealedItem.{SealedItem}
+use Rattle.wb_custody.specs.SealedAnswers.{answers_of}
+use Rattle.wb_model.specs.Tables.{Registry, Plain, Case, Session, Who, TheUser, TheReporter, lasts, same_digest}
+use Rattle.wb_model.specs.Trails.{expires}
+use Rattle.wb_model.specs.Host.{Sealed, Tables, live_cases, purged}
+use Rattle.wb_model.specs.Tenants.{Tenancy}
+use Rattle.wb_tables.specs.declared.counts.Counts.{Counts}
+use Rattle.wb_tables.specs.declared.tenancy.Case.{Case as KeptCase}
+use Rattle.wb_tables.specs.declared.tenancy.Session.{Session as KeptSession}
+use Rattle.wb_tables.specs.declared.tenancy.Who.{Who as KeptWho}
+use Rattle.wb_tables.specs.declared.tenancy.Who.TheVariants as kept
+use Rattle.wb_tables.specs.declared.tenancy.Tenancy.{Tenancy as KeptTenancy}
+
+abbrev pub who_of : KeptWho → Who
+who_of (kept.User u) = TheUser u
+who_of (kept.Reporter n) = TheReporter n
+
+abbrev pub case_of : KeptCase → Case
+case_of c = record { number = c.number; trail = c.trail.items }
+
+abbrev pub session_of : KeptSession → Session
+session_of s = record { turn = s.turn; digest = s.digest; role = s.role; who = who_of s.who; at = s.at }
+
+abbrev pub registry_of : KeptTenancy → Registry
+registry_of x = record { settings = x.settings; users = x.users; forms = x.forms; contexts = x.contexts }
+
+abbrev pub plain_of : KeptTenancy → Plain
+plain_of x = record { registry = registry_of x; numbering = x.numbering; cases = map case_of x.cases.items; sessions = map session_of x.sessions.items }
+
+-- a tenant's tables but for identity answers, under its id
+pub record Place : Type 0 where
+  pub id : ℕ
+  pub plain : Plain
+
+abbrev pub place_of : KeptTenancy → Place
+place_of x = record { id = x.settings.tenant; plain = plain_of x }
+
+-- the identity answers of a tenant's reports
+abbrev pub sealed_of : List SealedItem → ℕ → Sealed
+sealed_of items t = λ n. answers_of items t n
+
+abbrev pub tables_of : List SealedItem → Place → Tables
+tables_of items x = record { plain = x.plain; sealed = sealed_of items x.id }
+
+abbrev pub tenancy_of : List SealedItem → Place → Tenancy
+tenancy_of items x = record { id = x.id; tables = tables_of items x }
+
+-- ---- what is there at a time
+
+-- a tenant's tables but for identity answers, once they are purged
+abbrev pub live_plain : ℕ → Plain → Plain
+live_plain now p = record p { cases = live_cases p now; sessions = filter (lasts now (live_cases p now)) p.sessions }
+
+abbrev pub live_place : ℕ → Place → Place
+live_place now x = record { id = x.id; plain = live_plain now x.plain }
+
+abbrev pub purged_tenancy : ℕ → Tenancy → Tenancy
+purged_tenancy now x = record { id = x.id; tables = purged now x.tables }
+
+-- a report has a trail and expires after this day
+abbrev pub lives_on : ℤ → Case → Bool
+lives_on today c = not (length c.trail == 0) && int_lt today (expires c.trail)
+
+-- the session of a turn and a secret's digest
+abbrev pub is_session : ℕ → Digest → Session → Bool
+is_session turn digest s = (s.turn == turn) && same_digest s.digest digest
+
+-- ---- counts
+
+-- the reports that are held, of all tenants
+abbrev pub live_at : List Place → ℕ
+live_at xs = sum_by (λ x. length x.plain.cases) xs
+
+-- the sum of their last numbers
+abbrev pub numbers_at : List Place → ℕ
+numbers_at xs = sum_by (λ x. x.plain.numbering.last) xs
+
+-- their standing sessions
+abbrev pub sessions_at : List Place → ℕ
+sessions_at xs = sum_by (λ x. length x.plain.sessions) xs
+
+abbrev pub counts_at : ℕ → List Place → Counts
+counts_at turns xs = record { turns = turns; live = live_at xs; numbers = numbers_at xs; sessions = sessions_at xs }

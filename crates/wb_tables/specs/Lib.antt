@@ -1,0 +1,4 @@
+pub mod Dead
+pub mod Kept
+pub mod Places
+pub mod Standing

@@ -1,0 +1,75 @@
+-- What holds of each tenant that is kept.
+use Rattle.std.specs.Prelude.{◌≡◌, ℕ, ℤ, ◌<◌, ◌≤◌, ◌==◌, ◌&&◌, not, Bool, true, false, slice_index_or, List, [], ◌∷◌, length, Option, None, if◌then◌else◌}
+use Rattle.std.specs.List.{list_any}
+use Rattle.wb_base.specs.AnswerList.{Answered}
+use Rattle.wb_base.specs.Days.{IsOffset}
+use Rattle.wb_base.specs.FormFaults.{is_good}
+use Rattle.wb_custody.specs.declared.sealed.SealedItem.{SealedItem}
+use Rattle.wb_custody.specs.SealedAnswers.{answers_of}
+use Rattle.wb_model.specs.declared.registry.FormItem.{FormItem}
+use Rattle.wb_model.specs.Legal.{IsSound}
+use Rattle.wb_model.specs.Opened.{AtMost, AreWithin, Apart, has_turn}
+use Rattle.wb_model.specs.Tables.{Registry, Plain, Case, has_number, has_receipt, is_there}
+use Rattle.wb_tables.specs.Kept.{Place, lives_on}
+use Rattle.wb_tables.specs.declared.tenancy.Tenancy.{Tenancy as KeptTenancy}
+
+abbrev pub AreGoodForms : List FormItem → Type 0
+AreGoodForms [] = Unit {0}
+AreGoodForms (x ∷ xs) = (is_good x.form ≡ true) × AreGoodForms xs
+
+-- what a tenant may be set up with: its offset is in range, its days of notice and contexts are, and its forms are good
+pub record IsRegistry (g : Registry) : Type 0 where
+  pub offset : IsOffset g.settings.offset
+  pub sound : IsSound g
+  pub forms : AreGoodForms g.forms
+
+-- tables that can be looked up in: no two reports have the same number or the same receipt, and no two sessions are of one turn
+pub record IsLookedUp (p : Plain) : Type 0 where
+  pub registry : IsRegistry p.registry
+  pub cases : Apart has_number p.cases
+  pub receipts : Apart has_receipt p.cases
+  pub logins : Apart has_turn p.sessions
+
+-- a tenant after so many turns
+pub record IsPlace (turns : ℕ) (items : List SealedItem) (x : Place) : Type 0 where
+  pub id : x.id ≤ 64
+  pub plain : IsLookedUp x.plain
+  pub drawn : x.plain.numbering.drawn ≤ x.plain.numbering.last
+  -- each number was drawn
+  pub most : AtMost x.plain.numbering.last x.plain.cases
+  -- each session was made by a turn, and for a report whose number was drawn
+  pub sessions : AreWithin turns x.plain.numbering.last x.plain.sessions
+  -- identity answers stand under reports that are there
+  pub unsealed : (n : ℕ) → is_there n x.plain.cases ≡ false → answers_of items x.id n ≡ None
+
+-- the tenants ascend by their ids, from one that is above k
+abbrev pub ArePlaces : ℕ → ℕ → List SealedItem → List Place → Type 0
+ArePlaces turns k sealed [] = Unit {0}
+ArePlaces turns k sealed (x ∷ xs) = ((k < x.id) × IsPlace turns sealed x) × ArePlaces turns x.id sealed xs
+
+-- ---- a purge
+
+-- the report of a number is there, and does not live on this day
+abbrev pub is_dead : ℕ → ℤ → List Case → Bool
+is_dead n today cs = list_any (λ c. has_number n c && not (lives_on today c)) cs
+
+-- identity answers once those of such a report are dropped
+abbrev pub gone_under : ℕ → ℤ → List Case → Option Answered → Option Answered
+gone_under n today cs given = if is_dead n today cs then None else given
+
+-- each tenant has as much room for reports as before
+abbrev pub AreRoomy : List KeptTenancy → List KeptTenancy → Type 0
+AreRoomy [] [] = Unit {0}
+AreRoomy [] (y ∷ ys) = ⊥
+AreRoomy (x ∷ xs) [] = ⊥
+AreRoomy (x ∷ xs) (y ∷ ys) = (x.cases.spare ≤ y.cases.spare) × AreRoomy xs ys
+
+-- ---- where a tenant is
+
+abbrev pub is_tenant : ℕ → Place → Bool
+is_tenant t x = x.id == t
+
+-- the tenancy at this place is the tenant's
+pub record IsAt (t : ℕ) (kept : List KeptTenancy) (i : ℕ) : Type 0 where
+  pub within : i < length kept
+  pub id : (d : KeptTenancy) → (slice_index_or kept i d).settings.tenant ≡ t

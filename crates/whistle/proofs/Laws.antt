@@ -1,0 +1,32 @@
+-- The laws of scripts, said of what a run played from the start.
+use Rattle.std.proofs.Common.{◌≡◌, ℕ, true, List, Some}
+use Rattle.std.specs.Prelude.{map}
+use Rattle.wb_model.specs.declared.wire.ScriptFrame.{ScriptFrame}
+use Rattle.wb_model.specs.Absence.{replies, past_with, without_place, AreApart, BeginsAt, DrawOthersAfter, is_purged_after, replies_after}
+use Rattle.wb_model.specs.Past.{Past, Opening}
+use Rattle.wb_model.specs.Pasts.{AllOpened, standing_hosts}
+use Rattle.wb_model.specs.Playing.{ArePlacesOf, AreLossesTold}
+use Rattle.wb_model.specs.Readings.{Reading, Reads}
+use Rattle.wb_model.specs.Scripts.{Place, ArePossible, script_replies, past_after}
+use Rattle.wb_model.specs.ScriptsAlike.{PlacesAlike, hidden_replies}
+use Rattle.wb_model.specs.Starter.{starter_opening}
+use Rattle.whistle.specs.Runs.{start}
+use Rattle.whistle.proofs.Forgetting.{forgets}
+use Rattle.whistle.proofs.Identities.{keeps}
+use Rattle.whistle.proofs.PlayLemmas.{Laws}
+
+module _ (one_reading : (bytes : List ℕ) (a b : Reading) → Reads bytes a → Reads bytes b → a ≡ b)
+    (told : (past : Past AllOpened) (frames : List ScriptFrame) (places : List Place) → ArePlacesOf frames places → ArePossible past places → AreLossesTold past places)
+    (alike : (i t r : ℕ) (past : Past AllOpened) (places others : List Place) → PlacesAlike i t r past places others → hidden_replies t r past places (script_replies past places) ≡ hidden_replies t r past places (script_replies past others))
+    (opening : (t : ℕ) (o : AllOpened) → AreApart t (Opening o))
+    (by_replies : (i t r : ℕ) (past : Past AllOpened) (places : List Place) → AreApart t past → BeginsAt i t r past places → DrawOthersAfter i t r past places
+    → replies_after i t r past places (map Some (script_replies past places)) ≡ replies_after i t r past places (replies past (without_place i t places)))
+    (by_hosts : (i t r : ℕ) (past : Past AllOpened) (places : List Place) → AreApart t past → BeginsAt i t r past places → DrawOthersAfter i t r past places → is_purged_after i t r past places ≡ true
+    → standing_hosts (past_with past (without_place i t places)) ≡ standing_hosts (past_after past places))
+  where
+    pub laws_of : Laws
+    laws_of = record {
+      losses = told start;
+      identities = keeps one_reading alike start;
+      absence = forgets one_reading by_replies by_hosts start (λ t. opening t starter_opening);
+    }
