@@ -66,13 +66,13 @@ decide_is P k g trail decision reason withhold missed found = found_is P (λ (r 
 
 -- ---- submissions
 
--- a report begins by a submission alone, and in a context of the tenant
+-- a report begins by a submission alone, in a context of the tenant and in the form in which it asks while it is open
 abbrev pub IsSubmitted : Registry → Command → Effect → Type 0
-IsSubmitted g d (Submits x form) = (is_submission d ≡ true) × ((c : ℕ) × (context c g.contexts ≡ Some x))
+IsSubmitted g d (Submits x form) = (is_submission d ≡ true) × ((c : ℕ) × (context c g.contexts ≡ Some x) × (open_form (context c g.contexts) g.forms ≡ Some form))
 IsSubmitted g d e = Unit {0}
 
 pub submitted : (at : At) (g : Registry) (who : Option Who) (s : Presented) (trail : List Entry) (d : Command) → IsSubmitted g d (effect_of at g who s trail d)
-submitted at g who s trail (commands.Submit t c answers) = in_open_is (IsSubmitted g (commands.Submit t c answers)) Submits c g tt (λ x y is form. (refl, (c, is)))
+submitted at g who s trail (commands.Submit t c answers) = in_open_is (IsSubmitted g (commands.Submit t c answers)) Submits c g tt (λ x y is form. (refl, (c, is, form)))
 submitted at g who s trail (commands.ContextOf t c) = in_open_is (IsSubmitted g (commands.ContextOf t c)) _ c g tt (λ x y is form. tt)
 submitted at g who s trail (commands.Login t name password) = comes_is (IsSubmitted g (commands.Login t name password)) who g.users tt (λ role. tt)
 submitted at g who s trail (commands.ReceiptLogin t receipt) = comes_is (IsSubmitted g (commands.ReceiptLogin t receipt)) who g.users tt (λ role. tt)

@@ -45,6 +45,9 @@ pub mod AbsentTurns
 pub mod AbsentScripts
 pub mod Purged
 pub mod OpeningReceipts
+pub mod KeptForms
+pub mod KeptPasts
+pub mod Reopenings
 pub mod Answered
 pub mod RowsAlike
 pub mod Marked

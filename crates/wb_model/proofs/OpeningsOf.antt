@@ -5,19 +5,20 @@ use Rattle.std.specs.List.{list_all, list_any}
 use Rattle.std.proofs.lemmas.Bool.Decides.{nat_tests}
 use Rattle.wb_base.specs.declared.words.Digest.{Digest}
 use Rattle.wb_base.specs.AnswerList.{is_text}
+use Rattle.wb_base.specs.FormFaults.{is_good}
 use Rattle.wb_model.specs.declared.numbering.Numbering.{Numbering}
 use Rattle.wb_model.specs.declared.registry.ContextItem.{ContextItem}
 use Rattle.wb_model.specs.declared.registry.FormItem.{FormItem}
 use Rattle.wb_model.specs.declared.registry.Lists.{Lists}
 use Rattle.wb_model.specs.declared.registry.TenantItem.{TenantItem}
 use Rattle.wb_model.specs.Trails.{receipt}
-use Rattle.wb_model.specs.Tables.{Case, has_receipt}
+use Rattle.wb_model.specs.Tables.{Registry, Case, has_receipt}
 use Rattle.wb_model.specs.Requests.{form_of_trail}
 use Rattle.wb_model.specs.Host.{Tables}
 use Rattle.wb_model.specs.Fits.{is_between, has_bytes}
 use Rattle.wb_model.specs.Legal.{ascends_from, are_readers, is_legal, last_at, AreSound, IsSound, AreLegal}
-use Rattle.wb_model.specs.Opened.{Ascend, AtMost, AreStarters, Apart, has_turn, begun, AreBegunBy, HaveForms, IsNumbered, AreOpened}
-use Rattle.wb_model.specs.SetUps.{is_offset, is_tenant_item, is_context_item, are_apart, AreSetUp}
+use Rattle.wb_model.specs.Opened.{Ascend, AtMost, AreStarters, AreVersions, Apart, has_turn, begun, AreBegunBy, HaveForms, IsNumbered, AreOpened}
+use Rattle.wb_model.specs.SetUps.{is_offset, is_tenant_item, is_form_item, is_context_item, are_apart, AreSetUp}
 use Rattle.wb_model.specs.KeptRules.{is_numbering, same_receipt, AreKept}
 use Rattle.wb_model.specs.Openings.{no_settings, registry_of, empty_tables}
 use Rattle.wb_model.proofs.Receipts.{same_text}
@@ -66,6 +67,17 @@ found_notice t (x ∷ xs) e = by (eqb x.tenant t) (found_notice t xs (both (is_t
     by true ih = notice_in x (both (is_tenant_item x) (list_all is_tenant_item xs) e).0
     by false ih = ih
 
+forms_in : (xs : List FormItem) → list_all is_form_item xs ≡ true → AreVersions xs
+forms_in [] e = tt
+forms_in (x ∷ xs) e =
+    let parts = both (is_form_item x) (list_all is_form_item xs) e in
+    let version = both (is_between 1 16 x.id) (is_between 1 99 x.version) (both (is_between 1 16 x.id && is_between 1 99 x.version) (is_good x.form) parts.0).0 in
+    let range = both (nat_le 1 x.version) (nat_le x.version 99) version.1 in
+    ((at_most 1 x.version range.0, at_most x.version 99 range.1), forms_in xs parts.1)
+
+registry_versions : (lists : Lists) (t : ℕ) → AreSetUp lists → AreVersions (registry_of lists t).forms
+registry_versions lists t up = forms_in (filter (λ (x : FormItem). x.tenant == t) lists.forms) (filter_all (λ (x : FormItem). x.tenant == t) is_form_item lists.forms up.forms)
+
 registry_sound : (lists : Lists) (t : ℕ) → AreSetUp lists → IsSound (registry_of lists t)
 registry_sound lists t up = record {
   notice = found_notice t lists.tenants up.tenants;
@@ -75,6 +87,7 @@ registry_sound lists t up = record {
 pub set_up_opened : (lists : Lists) → AreSetUp lists → (t : ℕ) → AreOpened 0 (empty_tables (registry_of lists t))
 set_up_opened lists up t = record {
   sound = registry_sound lists t up;
+  versions = registry_versions lists t up;
   numbering = inl (refl, refl, refl);
   drawn = omega arith;
   ascend = tt;
@@ -146,6 +159,7 @@ kept_numbered n e = by ((n.at == 0) && (n.drawn == 0) && (n.last == 0)) refl e
 pub kept_opened : (at : ℕ) (lists : Lists) (tenant : ℕ) (t : Tables) → AreKept at lists tenant t → AreOpened at t
 kept_opened at lists tenant t kept = record {
   sound = subst IsSound (sym kept.registry) (registry_sound lists tenant kept.set_up);
+  versions = subst (λ (g : Registry). AreVersions g.forms) (sym kept.registry) (registry_versions lists tenant kept.set_up);
   numbering = kept_numbered t.plain.numbering kept.numbering;
   drawn = at_most t.plain.numbering.at at kept.drawn;
   ascend = kept_ascend 0 t.plain.cases kept.keys;

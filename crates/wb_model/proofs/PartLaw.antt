@@ -52,7 +52,7 @@ reply_in_law past f = ap (tenancy_reply (standing_hosts past) f) (found_tenancy 
     by true = ap (λ h. reply_to h f) (part_stands (tenant_at f) past) ∙ reply_law (part (tenant_at f) past) f
     by false = refl
 
-map_in : (f : Tenancy → Tenancy) (g k : ℕ → Tenancy) (ts : List ℕ) → ((u : ℕ) → list_any (λ v. eqb v u) ts ≡ true → f (g u) ≡ k u) → map f (map g ts) ≡ map k ts
+pub map_in : (f : Tenancy → Tenancy) (g k : ℕ → Tenancy) (ts : List ℕ) → ((u : ℕ) → list_any (λ v. eqb v u) ts ≡ true → f (g u) ≡ k u) → map f (map g ts) ≡ map k ts
 map_in f g k [] same = refl
 map_in f g k (t ∷ ts) same =
     ap (λ x. x ∷ map f (map g ts)) (same t (grind (arith, nat_tests)))

@@ -114,7 +114,7 @@ apart_changed p (Begins e) last own a = apart_push has_receipt p.cases (record {
 apart_changed p (Notes n e) last own a = apart_map has_receipt (noted n e) p.cases (noted_receipt n e own) a
 apart_changed p _ last own a = a
 
-receipts_request : (u : ℕ) (past : Past Opened) (f : Frame) → Receipts past → Receipts (Turn (event f (what_at u past f)) past)
+pub receipts_request : (u : ℕ) (past : Past Opened) (f : Frame) → Receipts past → Receipts (Turn (event f (what_at u past f)) past)
 receipts_request u past f a =
     let p : Plain = plain past (at_frame past f).time in
     subst (Apart has_receipt) (sym (ap (λ (t : Tables). t.plain.cases) (turn_tables u past f)))

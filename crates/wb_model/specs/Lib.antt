@@ -48,6 +48,7 @@ pub mod Cuts
 pub mod Replies
 pub mod Scripts
 pub mod ByVerdicts
+pub mod Reopened
 pub mod ScriptsAlike
 pub mod Playing
 pub mod Absence

@@ -35,6 +35,11 @@ abbrev pub AreKeeping : List ContextItem → Type 0
 AreKeeping [] = Unit {0}
 AreKeeping (c ∷ cs) = (1 ≤ c.retention) × AreKeeping cs
 
+-- the version of each form is from 1 to 99
+abbrev pub AreVersions : List FormItem → Type 0
+AreVersions [] = Unit {0}
+AreVersions (x ∷ xs) = ((1 ≤ x.version) × (x.version ≤ 99)) × AreVersions xs
+
 -- no two have the same key
 abbrev pub Apart : {K X : Type 0} → (K → X → Bool) → List X → Type 0
 Apart P [] = Unit {0}
@@ -79,6 +84,8 @@ AreStarters (s ∷ ss) = ((s.turn ≡ 0) × IsOfUser s.who) × AreStarters ss
 pub record AreOpened (at : ℕ) (t : Tables) : Type 0 where
   -- what the tenant is set up with is in its ranges: the days of notice, and each context's retention and recipients
   pub sound : IsSound t.plain.registry
+  -- and so are the versions of its forms
+  pub versions : AreVersions t.plain.registry.forms
   -- a numbering that draws may have left, and no draw is to come
   pub numbering : IsNumbered t.plain.numbering
   pub drawn : t.plain.numbering.at ≤ at

@@ -100,6 +100,7 @@ starter_opening = record {
   tables = λ t. starter_tables;
   sound = λ t. record {
     sound = record { notice = omega arith; contexts = ((omega arith, omega arith, refl), ((omega arith, omega arith, refl), tt)) };
+    versions = ((omega arith, omega arith), tt);
     numbering = inl (refl, refl, refl);
     drawn = omega arith;
     ascend = tt;

@@ -34,7 +34,7 @@ ghost use Rattle.wb_model.specs.Past.{registry, numbering, held, sealed, trail, 
 ghost use Rattle.wb_model.specs.PastTurns.{verdict_at, reply_at, at_frame, what_at};
 ghost use Rattle.wb_model.specs.Opened.{IsNumbered, AreOpened, Opened};
 ghost use Rattle.wb_model.specs.Tables.{lasts};
-ghost use Rattle.wb_model.specs.Pasts.{AllOpened, part, time, standing_hosts, reply_in, with_turn, with_loss};
+ghost use Rattle.wb_model.specs.Pasts.{AllOpened, part, tenants, time, standing_hosts, reply_in, with_turn, with_loss};
 ghost use Rattle.wb_model.specs.Alike.{HostsAlike, LaterAlike, SubmissionsAlike, is_reader};
 ghost use Rattle.wb_model.specs.Rows.{rows, rows_but};
 ghost use Rattle.wb_model.specs.declared.wire.ScriptFrame.{ScriptFrame};
@@ -45,6 +45,7 @@ ghost use Rattle.wb_model.specs.SetUps.{AreSetUp, tenant_ids};
 ghost use Rattle.wb_model.specs.KeptRules.{AreKept};
 ghost use Rattle.wb_model.specs.Openings.{registry_of, empty_tables};
 ghost use Rattle.wb_model.specs.ByVerdicts.{AreByVerdicts, AskInRange};
+ghost use Rattle.wb_model.specs.Reopened.{left_time, left_tables, left_hosts, reopening};
 ghost use Rattle.wb_model.specs.ScriptsAlike.{PlacesAlike, hidden_replies};
 
 /// A turn does not tell two hosts apart that differ in the identity answers of report r alone.
@@ -124,6 +125,17 @@ pub fn setups_and_kept_rows_make_openings()
     ensures setups { (lists : Lists) → AreSetUp lists → (t : ℕ) → AreOpened 0 (empty_tables (registry_of lists t)) }
     ensures tenants { (lists : Lists) → AreSetUp lists → ascends (tenant_ids lists) ≡ true }
     ensures kept_rows { (at : ℕ) (lists : Lists) (tenant : ℕ) (t : Tables) → AreKept at lists tenant t → AreOpened at t }
+{}
+
+/// What a host leaves of a past that verdicts made is what a host may be opened with again: all that it holds but its
+/// sessions, at the greatest moment of the entries and draws that are kept, which may be earlier than the past's time.
+///
+/// The hosts that stand for that opening made no turn, and their rows are those that were left.
+pub fn a_host_opens_again()
+    ensures opened { (past : Past AllOpened) → ((t : ℕ) → AreByVerdicts t (part t past)) → (t : ℕ) → AreOpened (left_time past) (left_tables past t) }
+    ensures tenants { (past : Past AllOpened) → ascends (tenants past) ≡ true }
+    ensures hosts { (past : Past AllOpened) (ids : ascends (tenants past) ≡ true) (sound : (t : ℕ) → AreOpened (left_time past) (left_tables past t)) → standing_hosts (Opening (reopening past ids sound)) ≡ left_hosts past }
+    ensures rows { (past : Past AllOpened) (ids : ascends (tenants past) ≡ true) (sound : (t : ℕ) → AreOpened (left_time past) (left_tables past t)) → rows (Opening (reopening past ids sound)) ≡ rows past }
 {}
 
 /// The numbering of each past is one that draws may have left: none, or some, of which some are of the last draw's day.

@@ -24,7 +24,7 @@ pub use command::{Asked, Command, ContextSet, Decision, SettingsSet, UserSet};
 pub use entry::{Actor, Deed, Entry, Status};
 pub use event::{Event, What};
 pub use laws::{
-    a_dialogue_stands_at_its_places, a_gapped_past_lacks_the_report, a_numbering_is_left_by_draws,
+    a_dialogue_stands_at_its_places, a_gapped_past_lacks_the_report, a_host_opens_again, a_numbering_is_left_by_draws,
     a_submission_begins_a_report, a_submission_makes_hosts_alike, a_turn_is_a_step_on_the_tables,
     a_turn_is_told_by_the_tables, a_turn_keeps_all_hosts_alike, a_turn_keeps_hosts_alike,
     a_turn_keeps_trails_legal, absence_on_one_past, absence_over_scripts,
