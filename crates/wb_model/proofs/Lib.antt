@@ -27,6 +27,8 @@ pub mod ActRows
 pub mod CustodyRows
 pub mod RouteRows
 pub mod KeptRowsRows
+pub mod SetUpRows
+pub mod KeptRuleRows
 pub mod EightsOf
 pub mod Eights
 pub mod RecentSessions
