@@ -27,6 +27,7 @@ use Rattle.wb_model.proofs.Receipts.{Receipts, later_receipts, receipts_request}
 use Rattle.wb_model.proofs.LegalPasts.{live_up, trails_legal, registries_sound}
 use Rattle.wb_model.proofs.Marked.{marked}
 use Rattle.wb_model.proofs.Numberings.{numbered}
+use Rattle.wb_model.proofs.InOrder.{past_ordered}
 use Rattle.wb_model.proofs.KeptForms.{later_begun, AreMade, change_made, verdict_made}
 
 -- ---- what passes
@@ -163,6 +164,7 @@ tables_opened t at past verdicts le =
     record {
       sound = registries_sound t past verdicts;
       versions = is.made.versions;
+      ordered = past_ordered past;
       numbering = numbered past;
       drawn = omega (arith, le);
       ascend = live_up past (now past);
@@ -181,6 +183,7 @@ pub held_opened : (t at : ℕ) (past : Past Opened) → AreByVerdicts t past →
 held_opened t at (Opening o) verdicts le = record {
   sound = o.sound.sound;
   versions = o.sound.versions;
+  ordered = o.sound.ordered;
   numbering = o.sound.numbering;
   drawn = omega (arith, le);
   ascend = o.sound.ascend;

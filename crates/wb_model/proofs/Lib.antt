@@ -47,6 +47,7 @@ pub mod AbsentTurns
 pub mod AbsentScripts
 pub mod Purged
 pub mod OpeningReceipts
+pub mod InOrder
 pub mod KeptForms
 pub mod KeptPasts
 pub mod Reopenings

@@ -11,14 +11,16 @@ use Rattle.wb_model.specs.declared.registry.ContextItem.{ContextItem}
 use Rattle.wb_model.specs.declared.registry.FormItem.{FormItem}
 use Rattle.wb_model.specs.declared.registry.Lists.{Lists}
 use Rattle.wb_model.specs.declared.registry.TenantItem.{TenantItem}
+use Rattle.wb_model.specs.declared.registry.UserItem.{UserItem}
+use Rattle.wb_model.specs.Settings.{form_key}
 use Rattle.wb_model.specs.Trails.{receipt}
 use Rattle.wb_model.specs.Tables.{Registry, Case, has_receipt}
 use Rattle.wb_model.specs.Requests.{form_of_trail}
 use Rattle.wb_model.specs.Host.{Tables}
 use Rattle.wb_model.specs.Fits.{is_between, has_bytes}
-use Rattle.wb_model.specs.Legal.{ascends_from, are_readers, is_legal, last_at, AreSound, IsSound, AreLegal}
-use Rattle.wb_model.specs.Opened.{Ascend, AtMost, AreStarters, AreVersions, Apart, has_turn, begun, AreBegunBy, HaveForms, IsNumbered, AreOpened}
-use Rattle.wb_model.specs.SetUps.{is_offset, is_tenant_item, is_form_item, is_context_item, are_apart, AreSetUp}
+use Rattle.wb_model.specs.Legal.{ascends, ascends_from, are_readers, is_legal, last_at, AreSound, IsSound, AreLegal}
+use Rattle.wb_model.specs.Opened.{Ascend, AtMost, AreStarters, AreVersions, AreOrdered, Apart, has_turn, begun, AreBegunBy, HaveForms, IsNumbered, AreOpened}
+use Rattle.wb_model.specs.SetUps.{is_offset, is_tenant_item, is_form_item, is_context_item, are_apart, are_ordered, is_user_before, is_version_before, is_context_before, AreSetUp}
 use Rattle.wb_model.specs.KeptRules.{is_numbering, same_receipt, AreKept}
 use Rattle.wb_model.specs.Openings.{no_settings, registry_of, empty_tables}
 use Rattle.wb_model.proofs.Receipts.{same_text}
@@ -78,6 +80,42 @@ forms_in (x ∷ xs) e =
 registry_versions : (lists : Lists) (t : ℕ) → AreSetUp lists → AreVersions (registry_of lists t).forms
 registry_versions lists t up = forms_in (filter (λ (x : FormItem). x.tenant == t) lists.forms) (filter_all (λ (x : FormItem). x.tenant == t) is_form_item lists.forms up.forms)
 
+-- one tenant's part of a list that is in order is in order
+ordered_from : {X : Type 0} (tenant key : X → ℕ) (is_before : X → X → Bool) (t : ℕ) → ((x y : X) → is_before x y ≡ true → tenant x ≡ t → tenant y ≡ t → nat_lt (key x) (key y) ≡ true) →
+    (x : X) → tenant x ≡ t → (ys : List X) → list_all (is_before x) ys ≡ true → are_ordered is_before ys ≡ true → ascends_from (key x) (map key (filter (λ (y : X). tenant y == t) ys)) ≡ true
+ordered_from tenant key is_before t up x here [] all order = refl
+ordered_from {X} tenant key is_before t up x here (y ∷ ys) all order =
+    let first = both (is_before x y) (list_all (is_before x) ys) all in
+    let rest = both (list_all (is_before y) ys) (are_ordered is_before ys) order in
+    by (tenant y == t) refl (λ there. ordered_from tenant key is_before t up y there ys rest.0 rest.1) (ordered_from tenant key is_before t up x here ys first.1 rest.1) (λ there. up x y first.0 here there)
+  where
+    by : (b : Bool) → (tenant y == t) ≡ b → (tenant y ≡ t → ascends_from (key y) (map key (filter (λ (z : X). tenant z == t) ys)) ≡ true) → ascends_from (key x) (map key (filter (λ (z : X). tenant z == t) ys)) ≡ true → (tenant y ≡ t → nat_lt (key x) (key y) ≡ true) →
+        ascends_from (key x) (map key (cond b (y ∷ filter (λ (z : X). tenant z == t) ys) (filter (λ (z : X). tenant z == t) ys))) ≡ true
+    by true is own ih lt = let there : tenant y ≡ t = grind (arith, nat_tests, is) in ap (λ b. b && ascends_from (key y) (map key (filter (λ (z : X). tenant z == t) ys))) (lt there) ∙ own there
+    by false is own ih lt = ih
+
+tenant_ordered : {X : Type 0} (tenant key : X → ℕ) (is_before : X → X → Bool) (t : ℕ) → ((x y : X) → is_before x y ≡ true → tenant x ≡ t → tenant y ≡ t → nat_lt (key x) (key y) ≡ true) →
+    (xs : List X) → are_ordered is_before xs ≡ true → ascends (map key (filter (λ (x : X). tenant x == t) xs)) ≡ true
+tenant_ordered tenant key is_before t up [] order = refl
+tenant_ordered {X} tenant key is_before t up (x ∷ xs) order =
+    let parts = both (list_all (is_before x) xs) (are_ordered is_before xs) order in
+    by (tenant x == t) refl (λ there. ordered_from tenant key is_before t up x there xs parts.0 parts.1) (tenant_ordered tenant key is_before t up xs parts.1)
+  where
+    by : (b : Bool) → (tenant x == t) ≡ b → (tenant x ≡ t → ascends_from (key x) (map key (filter (λ (z : X). tenant z == t) xs)) ≡ true) → ascends (map key (filter (λ (z : X). tenant z == t) xs)) ≡ true →
+        ascends (map key (cond b (x ∷ filter (λ (z : X). tenant z == t) xs) (filter (λ (z : X). tenant z == t) xs))) ≡ true
+    by true is own ih = own (grind (arith, nat_tests, is))
+    by false is own ih = ih
+
+before_in : (a b k l t : ℕ) → (nat_lt a b || ((a == b) && nat_lt k l)) ≡ true → a ≡ t → b ≡ t → nat_lt k l ≡ true
+before_in a b k l t e here there = let same : a ≡ b = here ∙ sym there in grind (arith, nat_tests, e, same)
+
+registry_ordered : (lists : Lists) (t : ℕ) → AreSetUp lists → AreOrdered (registry_of lists t)
+registry_ordered lists t up = record {
+  users = tenant_ordered (λ (x : UserItem). x.tenant) (λ (x : UserItem). x.id) is_user_before t (λ x y e here there. before_in x.tenant y.tenant x.id y.id t e here there) lists.users up.user_ids;
+  forms = tenant_ordered (λ (x : FormItem). x.tenant) form_key is_version_before t (λ x y e here there. before_in x.tenant y.tenant (form_key x) (form_key y) t e here there) lists.forms up.versions;
+  contexts = tenant_ordered (λ (x : ContextItem). x.tenant) (λ (x : ContextItem). x.id) is_context_before t (λ x y e here there. before_in x.tenant y.tenant x.id y.id t e here there) lists.contexts up.context_ids;
+}
+
 registry_sound : (lists : Lists) (t : ℕ) → AreSetUp lists → IsSound (registry_of lists t)
 registry_sound lists t up = record {
   notice = found_notice t lists.tenants up.tenants;
@@ -88,6 +126,7 @@ pub set_up_opened : (lists : Lists) → AreSetUp lists → (t : ℕ) → AreOpen
 set_up_opened lists up t = record {
   sound = registry_sound lists t up;
   versions = registry_versions lists t up;
+  ordered = registry_ordered lists t up;
   numbering = inl (refl, refl, refl);
   drawn = omega arith;
   ascend = tt;
@@ -160,6 +199,7 @@ pub kept_opened : (at : ℕ) (lists : Lists) (tenant : ℕ) (t : Tables) → Are
 kept_opened at lists tenant t kept = record {
   sound = subst IsSound (sym kept.registry) (registry_sound lists tenant kept.set_up);
   versions = subst (λ (g : Registry). AreVersions g.forms) (sym kept.registry) (registry_versions lists tenant kept.set_up);
+  ordered = subst AreOrdered (sym kept.registry) (registry_ordered lists tenant kept.set_up);
   numbering = kept_numbered t.plain.numbering kept.numbering;
   drawn = at_most t.plain.numbering.at at kept.drawn;
   ascend = kept_ascend 0 t.plain.cases kept.keys;

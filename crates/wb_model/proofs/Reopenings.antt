@@ -43,6 +43,7 @@ nothing_opened : (at t : ℕ) → AreOpened at (empty_tables (record { settings 
 nothing_opened at t = record {
   sound = record { notice = omega arith; contexts = tt };
   versions = tt;
+  ordered = record { users = refl; forms = refl; contexts = refl };
   numbering = inl (refl, refl, refl);
   drawn = omega arith;
   ascend = tt;

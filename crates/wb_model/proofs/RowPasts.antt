@@ -65,7 +65,7 @@ opened = Opening (record {
     };
     sealed = opened_sealed;
   };
-  sound = record { sound = starter_sound; versions = ((omega arith, omega arith), tt); numbering = inr (omega arith, omega arith); drawn = omega arith; ascend = (omega arith, tt); most = (omega arith, tt); begun = (omega arith, tt); legal = ((opened_legal, omega arith), tt); forms = (refl, tt); receipts = ((λ k is. refl), tt); marks = opened_marks; sessions = tt; logins = tt };
+  sound = record { sound = starter_sound; versions = ((omega arith, omega arith), tt); ordered = record { users = refl; forms = refl; contexts = refl }; numbering = inr (omega arith, omega arith); drawn = omega arith; ascend = (omega arith, tt); most = (omega arith, tt); begun = (omega arith, tt); legal = ((opened_legal, omega arith), tt); forms = (refl, tt); receipts = ((λ k is. refl), tt); marks = opened_marks; sessions = tt; logins = tt };
 })
 
 abbrev pub did : ℕ → ℕ → Command → Past Opened → Past Opened

@@ -18,7 +18,7 @@ use Rattle.wb_model.proofs.RowPasts.{starter_sound}
 -- the starter tenant without its session
 abbrev pub start : Past Opened
 unfolding starter_registry
-start = Opening (record { at = 0; tables = record starter_tables { plain = record starter_tables.plain { sessions = [] } }; sound = record { sound = starter_sound; versions = ((omega arith, omega arith), tt); numbering = inl (refl, refl, refl); drawn = omega arith; ascend = tt; most = tt; begun = tt; legal = tt; forms = tt; receipts = tt; marks = λ r. refl; sessions = tt; logins = tt } })
+start = Opening (record { at = 0; tables = record starter_tables { plain = record starter_tables.plain { sessions = [] } }; sound = record { sound = starter_sound; versions = ((omega arith, omega arith), tt); ordered = record { users = refl; forms = refl; contexts = refl }; numbering = inl (refl, refl, refl); drawn = omega arith; ascend = tt; most = tt; begun = tt; legal = tt; forms = tt; receipts = tt; marks = λ r. refl; sessions = tt; logins = tt } })
 
 abbrev did : ℕ → ℕ → Presented → Command → Event
 did moment u shown command = record { moment = moment; words = record { 0 = 0 ∷ 0 ∷ 0 ∷ 0 ∷ [] }; what = Did (record { command = command; session = shown; close = false }) (Some (principals.User 1 u)) }

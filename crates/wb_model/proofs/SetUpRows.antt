@@ -10,7 +10,7 @@ use Rattle.wb_model.specs.declared.registry.Lists.{Lists}
 use Rattle.wb_model.specs.declared.registry.TenantItem.{TenantItem}
 use Rattle.wb_model.specs.declared.registry.UserItem.{UserItem}
 use Rattle.wb_model.specs.Legal.{ascends}
-use Rattle.wb_model.specs.SetUps.{is_tenant_item, is_user_item, is_form_item, is_context_item, are_apart, tenant_ids, same_user, same_user_name, same_version, same_context, are_owned, has_form, has_recipients, follows, AreSetUp}
+use Rattle.wb_model.specs.SetUps.{is_tenant_item, is_user_item, is_form_item, is_context_item, are_apart, are_ordered, tenant_ids, is_user_before, same_user_name, is_version_before, is_context_before, are_owned, has_form, has_recipients, follows, AreSetUp}
 use Rattle.wb_model.specs.Starter.{starter_registry, starter_user, starter_context, starter_form}
 use Rattle.wb_model.proofs.StarterForm.{starter-good}
 
@@ -117,20 +117,30 @@ order-row : ascends (tenant_ids (record starter_lists { tenants = record setting
 unfolding starter_registry
 order-row = refl
 
--- of two users of a tenant neither id nor name is the same, and of two tenants both may be
-same-user-row : are_apart same_user (ada ∷ record ada { name = codes "eve" } ∷ []) ≡ false
+-- users stand in the order of their ids, each once, and no name stands twice; in two tenants both may be the same
+same-user-row : are_ordered is_user_before (ada ∷ record ada { name = codes "eve" } ∷ []) ≡ false
 same-user-row = refl
 
 same-name-row : are_apart same_user_name (ada ∷ record ada { id = 9 } ∷ []) ≡ false
 same-name-row = refl
 
-two-tenants-row : (are_apart same_user (ada ∷ record ada { tenant = 2 } ∷ []) && are_apart same_user_name (ada ∷ record ada { tenant = 2 } ∷ [])) ≡ true
+two-tenants-row : (are_ordered is_user_before (ada ∷ record ada { tenant = 2 } ∷ []) && are_apart same_user_name (ada ∷ record ada { tenant = 2 } ∷ [])) ≡ true
 two-tenants-row = refl
 
-same-version-row : are_apart same_version (first_form ∷ record first_form { version = 2 } ∷ first_form ∷ []) ≡ false
+same-version-row : are_ordered is_version_before (first_form ∷ record first_form { version = 2 } ∷ first_form ∷ []) ≡ false
 same-version-row = refl
 
-same-context-row : are_apart same_context (fraud ∷ fraud ∷ []) ≡ false
+-- the newest version of a form is the last of the list
+later-version-row : are_ordered is_version_before (record first_form { version = 2 } ∷ first_form ∷ []) ≡ false
+later-version-row = refl
+
+next-form-row : are_ordered is_version_before (record first_form { version = 99 } ∷ record first_form { id = 2 } ∷ []) ≡ true
+next-form-row = refl
+
+later-user-row : are_ordered is_user_before (record ada { id = 2 } ∷ ada ∷ []) ≡ false
+later-user-row = refl
+
+same-context-row : are_ordered is_context_before (fraud ∷ fraud ∷ []) ≡ false
 same-context-row = refl
 
 -- ---- what is there

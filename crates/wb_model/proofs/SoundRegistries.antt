@@ -32,7 +32,7 @@ use Rattle.wb_model.specs.Legal.{ascends_from, ascends, are_readers, AreSound, I
 
 -- ---- recipients, sorted
 
-abbrev put : List ℕ → ℕ → List ℕ
+abbrev pub put : List ℕ → ℕ → List ℕ
 put xs x = insert_item nat_cmp (λ (n : ℕ). n) xs x
 
 and_both : (a b : Bool) → (a && b) ≡ true → (a ≡ true) × (b ≡ true)
@@ -52,7 +52,7 @@ put_from k x (y ∷ ys) lt up = by (nat_lt y x) (eqb y x) refl refl (λ is. put_
     by false true is same ih = let here : y ≡ x = grind (arith, nat_tests, same) in ap (λ c. c && ascends_from x ys) lt ∙ (ap (λ n. ascends_from n ys) (sym here) ∙ parts.1)
     by false false is same ih = let more : nat_lt x y ≡ true = grind (arith, nat_tests, is, same) in ap (λ c. c && (nat_lt x y && ascends_from y ys)) lt ∙ (ap (λ c. c && ascends_from y ys) more ∙ parts.1)
 
-put_ascends : (x : ℕ) (ys : List ℕ) → ascends ys ≡ true → ascends (put ys x) ≡ true
+pub put_ascends : (x : ℕ) (ys : List ℕ) → ascends ys ≡ true → ascends (put ys x) ≡ true
 put_ascends x [] up = refl
 put_ascends x (y ∷ ys) up = by (nat_lt y x) (eqb y x) refl refl
   where

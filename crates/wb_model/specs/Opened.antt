@@ -1,13 +1,15 @@
 -- What a host of one tenant may be opened with.
-use Rattle.std.specs.Prelude.{is_some, ◌≡◌, ◌⊎◌, find, ℕ, ◌==◌, ◌<◌, ◌≤◌, Bool, true, List, [], ◌∷◌, Option, Some, None}
+use Rattle.std.specs.Prelude.{is_some, map, ◌≡◌, ◌⊎◌, find, ℕ, ◌==◌, ◌<◌, ◌≤◌, Bool, true, List, [], ◌∷◌, Option, Some, None}
 use Rattle.wb_model.specs.declared.entry.Entry.{Entry}
 use Rattle.wb_model.specs.declared.numbering.Numbering.{Numbering}
 use Rattle.wb_model.specs.declared.registry.ContextItem.{ContextItem}
 use Rattle.wb_model.specs.declared.registry.FormItem.{FormItem}
+use Rattle.wb_model.specs.declared.registry.UserItem.{UserItem}
 use Rattle.wb_model.specs.Trails.{has_identity}
-use Rattle.wb_model.specs.Tables.{has_receipt, Case, Session, Who, TheUser, TheReporter, report}
+use Rattle.wb_model.specs.Tables.{Registry, has_receipt, Case, Session, Who, TheUser, TheReporter, report}
 use Rattle.wb_model.specs.Requests.{form_of_trail}
-use Rattle.wb_model.specs.Legal.{IsSound, AreLegal}
+use Rattle.wb_model.specs.Settings.{form_key}
+use Rattle.wb_model.specs.Legal.{ascends, IsSound, AreLegal}
 use Rattle.wb_model.specs.Host.{Tables}
 
 -- the reports' numbers ascend from above this one
@@ -39,6 +41,12 @@ AreKeeping (c ∷ cs) = (1 ≤ c.retention) × AreKeeping cs
 abbrev pub AreVersions : List FormItem → Type 0
 AreVersions [] = Unit {0}
 AreVersions (x ∷ xs) = ((1 ≤ x.version) × (x.version ≤ 99)) × AreVersions xs
+
+-- users, forms in their versions, and contexts stand in the order of their numbers, each once
+pub record AreOrdered (g : Registry) : Type 0 where
+  pub users : ascends (map (λ (x : UserItem). x.id) g.users) ≡ true
+  pub forms : ascends (map form_key g.forms) ≡ true
+  pub contexts : ascends (map (λ (x : ContextItem). x.id) g.contexts) ≡ true
 
 -- no two have the same key
 abbrev pub Apart : {K X : Type 0} → (K → X → Bool) → List X → Type 0
@@ -84,8 +92,9 @@ AreStarters (s ∷ ss) = ((s.turn ≡ 0) × IsOfUser s.who) × AreStarters ss
 pub record AreOpened (at : ℕ) (t : Tables) : Type 0 where
   -- what the tenant is set up with is in its ranges: the days of notice, and each context's retention and recipients
   pub sound : IsSound t.plain.registry
-  -- and so are the versions of its forms
+  -- and so are the versions of its forms; and each of its lists is in order
   pub versions : AreVersions t.plain.registry.forms
+  pub ordered : AreOrdered t.plain.registry
   -- a numbering that draws may have left, and no draw is to come
   pub numbering : IsNumbered t.plain.numbering
   pub drawn : t.plain.numbering.at ≤ at

@@ -1,5 +1,5 @@
 -- The rules of what tenants are set up with, as lists of all tenants: the ranges, what is distinct, and what is there.
-use Rattle.std.specs.Prelude.{◌≡◌, ℕ, ◌==◌, ◌+◌, ◌&&◌, ◌||◌, nat_le, not, Bool, true, false, List, [], ◌∷◌, map, find, ℤ, pos, neg_ℤ, int_le}
+use Rattle.std.specs.Prelude.{◌≡◌, ℕ, ◌==◌, ◌+◌, ◌&&◌, ◌||◌, nat_lt, nat_le, not, Bool, true, false, List, [], ◌∷◌, map, find, ℤ, pos, neg_ℤ, int_le}
 use Rattle.std.specs.List.{list_all, list_any}
 use Rattle.std.specs.Option.{option_map_or}
 use Rattle.wb_base.specs.AnswerList.{is_text}
@@ -12,6 +12,7 @@ use Rattle.wb_model.specs.declared.registry.FormItem.{FormItem}
 use Rattle.wb_model.specs.declared.registry.ContextItem.{ContextItem}
 use Rattle.wb_model.specs.Targets.{same_role}
 use Rattle.wb_model.specs.Fits.{is_between, has_bytes, is_staff_role}
+use Rattle.wb_model.specs.Settings.{form_key}
 use Rattle.wb_model.specs.Legal.{are_readers, ascends}
 
 -- ---- ranges
@@ -33,27 +34,34 @@ is_form_item x = is_between 1 16 x.id && is_between 1 99 x.version && is_good x.
 abbrev pub is_context_item : ContextItem → Bool
 is_context_item x = is_between 1 64 x.id && has_bytes 1 128 x.name && is_between 1 3_650 x.retention && are_readers x.recipients
 
--- ---- what is distinct
+-- ---- what is distinct and in order
 
 -- no two of a list are the same by a test
 abbrev pub are_apart : {X : Type 0} → (X → X → Bool) → List X → Bool
 are_apart same [] = true
 are_apart same (x ∷ xs) = not (list_any (same x) xs) && are_apart same xs
 
+-- each of a list comes before all that follow it
+abbrev pub are_ordered : {X : Type 0} → (X → X → Bool) → List X → Bool
+are_ordered is_before [] = true
+are_ordered is_before (x ∷ xs) = list_all (is_before x) xs && are_ordered is_before xs
+
 abbrev pub tenant_ids : Lists → List ℕ
 tenant_ids lists = map (λ x. x.tenant) lists.tenants
 
-abbrev pub same_user : UserItem → UserItem → Bool
-same_user x y = (x.tenant == y.tenant) && (x.id == y.id)
+-- by their tenants, and in one tenant by their numbers
+abbrev pub is_user_before : UserItem → UserItem → Bool
+is_user_before x y = nat_lt x.tenant y.tenant || ((x.tenant == y.tenant) && nat_lt x.id y.id)
 
 abbrev pub same_user_name : UserItem → UserItem → Bool
 same_user_name x y = (x.tenant == y.tenant) && is_text x.name y.name
 
-abbrev pub same_version : FormItem → FormItem → Bool
-same_version x y = (x.tenant == y.tenant) && (x.id == y.id) && (x.version == y.version)
+-- the versions of one form by theirs
+abbrev pub is_version_before : FormItem → FormItem → Bool
+is_version_before x y = nat_lt x.tenant y.tenant || ((x.tenant == y.tenant) && nat_lt (form_key x) (form_key y))
 
-abbrev pub same_context : ContextItem → ContextItem → Bool
-same_context x y = (x.tenant == y.tenant) && (x.id == y.id)
+abbrev pub is_context_before : ContextItem → ContextItem → Bool
+is_context_before x y = nat_lt x.tenant y.tenant || ((x.tenant == y.tenant) && nat_lt x.id y.id)
 
 -- ---- what is there
 
@@ -86,12 +94,12 @@ pub record AreSetUp (lists : Lists) : Type 0 where
   pub users : list_all is_user_item lists.users ≡ true
   pub forms : list_all is_form_item lists.forms ≡ true
   pub contexts : list_all is_context_item lists.contexts ≡ true
-  -- tenants stand in the order of their ids, which are distinct; so are other ids in one tenant, and the names of its users
+  -- each list stands in the order of its ids, each once; and the names of a tenant's users are distinct
   pub order : ascends (tenant_ids lists) ≡ true
-  pub user_ids : are_apart same_user lists.users ≡ true
+  pub user_ids : are_ordered is_user_before lists.users ≡ true
   pub user_names : are_apart same_user_name lists.users ≡ true
-  pub versions : are_apart same_version lists.forms ≡ true
-  pub context_ids : are_apart same_context lists.contexts ≡ true
+  pub versions : are_ordered is_version_before lists.forms ≡ true
+  pub context_ids : are_ordered is_context_before lists.contexts ≡ true
   -- each tenant that is named is there
   pub owned : are_owned lists ≡ true
   -- the versions of a form run from 1 without a gap

@@ -101,6 +101,7 @@ starter_opening = record {
   sound = λ t. record {
     sound = record { notice = omega arith; contexts = ((omega arith, omega arith, refl), ((omega arith, omega arith, refl), tt)) };
     versions = ((omega arith, omega arith), tt);
+    ordered = record { users = refl; forms = refl; contexts = refl };
     numbering = inl (refl, refl, refl);
     drawn = omega arith;
     ascend = tt;

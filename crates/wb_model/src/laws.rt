@@ -32,7 +32,7 @@ ghost use Rattle.wb_model.specs.declared.event.Event.{Event};
 ghost use Rattle.wb_model.specs.Absence.{begins_here, AreApart, DrawOthersAfter, without, gapped, all_gapped, first_last, BeginsAt, replies, past_with, without_place, replies_without, replies_after, is_purged_after};
 ghost use Rattle.wb_model.specs.Past.{registry, numbering, held, sealed, trail, last, live, is_lost, Past, Opening, Turn, now, live_reports, recent, standing_sessions, tables};
 ghost use Rattle.wb_model.specs.PastTurns.{verdict_at, reply_at, at_frame, what_at};
-ghost use Rattle.wb_model.specs.Opened.{IsNumbered, AreOpened, Opened};
+ghost use Rattle.wb_model.specs.Opened.{IsNumbered, AreOrdered, AreOpened, Opened};
 ghost use Rattle.wb_model.specs.Tables.{lasts};
 ghost use Rattle.wb_model.specs.Pasts.{AllOpened, part, tenants, time, standing_hosts, reply_in, with_turn, with_loss};
 ghost use Rattle.wb_model.specs.Alike.{HostsAlike, LaterAlike, SubmissionsAlike, is_reader};
@@ -136,6 +136,11 @@ pub fn a_host_opens_again()
     ensures tenants { (past : Past AllOpened) → ascends (tenants past) ≡ true }
     ensures hosts { (past : Past AllOpened) (ids : ascends (tenants past) ≡ true) (sound : (t : ℕ) → AreOpened (left_time past) (left_tables past t)) → standing_hosts (Opening (reopening past ids sound)) ≡ left_hosts past }
     ensures rows { (past : Past AllOpened) (ids : ascends (tenants past) ≡ true) (sound : (t : ℕ) → AreOpened (left_time past) (left_tables past t)) → rows (Opening (reopening past ids sound)) ≡ rows past }
+{}
+
+/// The users, form versions and contexts of a tenant stand in the order of their numbers, each once, in each past.
+pub fn what_is_set_stands_in_order()
+    ensures { (past : Past Opened) → AreOrdered (registry past) }
 {}
 
 /// The numbering of each past is one that draws may have left: none, or some, of which some are of the last draw's day.

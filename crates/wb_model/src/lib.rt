@@ -31,7 +31,7 @@ pub use laws::{
     alike_scripts_get_the_same_replies, hosts_stand_for_their_past,
     identity_answers_stand_where_the_trail_says_so, losses_are_told, sessions_stand_turn_by_turn,
     setups_and_kept_rows_make_openings, the_starter_form_is_good, verdicts_keep_trails_legal,
-    what_is_not_refused_is_legal,
+    what_is_not_refused_is_legal, what_is_set_stands_in_order,
 };
 pub use numbering::Numbering;
 pub use registry::{ContextItem, FormItem, Lists, Rights, TenantItem, UserItem};
