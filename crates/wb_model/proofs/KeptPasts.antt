@@ -93,7 +93,7 @@ request_kept t past f verdicts is =
     let p : Plain = plain past at.time in
     record {
       made = subst AreMade (sym (ap (λ (x : Tables). x.plain) (turn_tables t past f)))
-        (change_made at.time p (change_of (ruling (tables past at.time) at f.asked)) (verdict_made p at (plain_part p f.asked) (target_at past f)) (let r : drawn_at past ≤ now past = reached past in omega (arith, r)) (trails_legal t at.time past verdicts (omega arith)) (later_made past at.time (omega arith) is.made));
+          (change_made at.time p (change_of (ruling (tables past at.time) at f.asked)) (verdict_made p at (plain_part p f.asked) (target_at past f)) (let r : drawn_at past ≤ now past = reached past in omega (arith, r)) (trails_legal t at.time past verdicts (omega arith)) (later_made past at.time (omega arith) is.made));
       receipts = receipts_request t past f is.receipts;
     }
 
