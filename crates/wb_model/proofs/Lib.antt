@@ -51,6 +51,7 @@ pub mod InOrder
 pub mod KeptForms
 pub mod KeptPasts
 pub mod Reopenings
+pub mod LeftTimes
 pub mod Answered
 pub mod RowsAlike
 pub mod Marked

@@ -128,11 +128,12 @@ pub fn setups_and_kept_rows_make_openings()
 {}
 
 /// What a host leaves of a past that verdicts made is what a host may be opened with again: all that it holds but its
-/// sessions, at the greatest moment of the entries and draws that are kept, which may be earlier than the past's time.
+/// sessions, at the greatest moment of the entries and draws that are kept, which is not after the past's time and may be before it.
 ///
 /// The hosts that stand for that opening made no turn, and their rows are those that were left.
 pub fn a_host_opens_again()
     ensures opened { (past : Past AllOpened) → ((t : ℕ) → AreByVerdicts t (part t past)) → (t : ℕ) → AreOpened (left_time past) (left_tables past t) }
+    ensures time { (past : Past AllOpened) → ((t : ℕ) → AreByVerdicts t (part t past)) → left_time past ≤ time past }
     ensures tenants { (past : Past AllOpened) → ascends (tenants past) ≡ true }
     ensures hosts { (past : Past AllOpened) (ids : ascends (tenants past) ≡ true) (sound : (t : ℕ) → AreOpened (left_time past) (left_tables past t)) → standing_hosts (Opening (reopening past ids sound)) ≡ left_hosts past }
     ensures rows { (past : Past AllOpened) (ids : ascends (tenants past) ≡ true) (sound : (t : ℕ) → AreOpened (left_time past) (left_tables past t)) → rows (Opening (reopening past ids sound)) ≡ rows past }

@@ -1,8 +1,12 @@
 use Rattle.wb_model.proofs.Reopenings.{left_opened, tenants_ascend, reopened_hosts, reopened_rows}
+use Rattle.wb_model.proofs.LeftTimes.{left_before}
 use Rattle.wb_model.proofs.laws.a_host_opens_again.Goals as goal
 
 pub returns-clause-opened : goal.returns-clause-opened
 returns-clause-opened c = left_opened
+
+pub returns-clause-time : goal.returns-clause-time
+returns-clause-time c = left_before
 
 pub returns-clause-tenants : goal.returns-clause-tenants
 returns-clause-tenants c = tenants_ascend
