@@ -1,6 +1,6 @@
 -- What a turn keeps of the reports: their forms are there, and none began after the last draw.
-use Rattle.std.proofs.Common.{◌≡◌, ◌⊎◌, inl, inr, ℕ, ◌+◌, ◌*◌, ◌≤◌, Bool, true, false, cond, eqb, not, List, [], ◌∷◌, ◌++◌, Option, Some, None, refl, sym, ap, ◌∙◌, subst, arith, option_map, ℤ}
-use Rattle.std.specs.Prelude.{map, find, fold, filter, is_some, unwrap_or, nat_lt, nat_le, ◌&&◌, ◌==◌, Ok, Err}
+use Rattle.std.proofs.Common.{◌≡◌, ◌⊎◌, inl, inr, ℕ, ◌+◌, ◌*◌, ◌≤◌, Bool, true, false, cond, eqb, not, List, [], ◌∷◌, ◌++◌, Option, Some, None, refl, sym, ap, ◌∙◌, arith, option_map, ℤ}
+use Rattle.std.specs.Prelude.{map, find, fold, is_some, unwrap_or, nat_lt, nat_le, ◌&&◌, ◌==◌, Ok, Err}
 use Rattle.std.specs.Option.{option_or, option_map_or}
 use Rattle.std.specs.Ordering.{nat_cmp, match_ordering}
 use Rattle.std.specs.declared.cmp.Ordering.TheVariants.{Less, Equal, Greater}
@@ -16,7 +16,6 @@ use Rattle.wb_model.specs.declared.command.Command.{Command}
 use Rattle.wb_model.specs.declared.entry.Entry.{Entry}
 use Rattle.wb_model.specs.declared.registry.ContextItem.{ContextItem}
 use Rattle.wb_model.specs.declared.registry.FormItem.{FormItem}
-use Rattle.wb_model.specs.declared.setting.AdminFault.{AdminFault}
 use Rattle.wb_model.specs.declared.setting.AdminFault.TheVariants.{NotFound, Full}
 use Rattle.wb_model.specs.Trails as trails
 use Rattle.wb_model.specs.Trails.{Submission, submission_in}
@@ -24,20 +23,20 @@ use Rattle.wb_model.specs.Tables.{Registry, Plain, Case, Who, context, newest_fo
 use Rattle.wb_model.specs.Faults.{admin_told}
 use Rattle.wb_model.specs.Refusing.{refuses_where}
 use Rattle.wb_model.specs.Requests.{Outcome, Request, open_form, form_of_trail}
-use Rattle.wb_model.specs.Settings.{Setting, OfTenant, OfUser, OfContext, OfForm, form_key, in_range, context_item, next_version, form_fault, Proposal, ToTenant, ToUser, ToContext, ToForm, proposal_refusal, setting_of}
+use Rattle.wb_model.specs.Settings.{OfTenant, OfUser, OfContext, OfForm, form_key, in_range, context_item, next_version, form_fault, Proposal, ToTenant, ToUser, ToContext, ToForm, proposal_refusal, setting_of}
 use Rattle.wb_model.specs.Changes.{At, Change, Nothing, Draws, Begins, Notes, Configures, Answer, judged}
 use Rattle.wb_model.specs.Effects.{Effect, Writes, Submits, Sets}
-use Rattle.wb_model.specs.Doings.{Doing, Acts, Moves, doing_entry, actor_of}
+use Rattle.wb_model.specs.Doings.{Doing, Acts, Moves, doing_entry}
 use Rattle.wb_model.specs.Acts.{act_deed}
 use Rattle.wb_model.specs.Moves.{move_deed}
 use Rattle.wb_model.specs.OnReports.{change_on}
 use Rattle.wb_model.specs.Rules.{refusal_alone, change_alone, effect_at, verdict_on}
 use Rattle.wb_model.specs.Submissions.{drawing, submission_entry}
 use Rattle.wb_model.specs.Targets.{Target, Nobody, Alone, On}
-use Rattle.wb_model.specs.Host.{noted, cases_after, registry_after, plain_after, change_of}
+use Rattle.wb_model.specs.Host.{noted, plain_after, change_of}
 use Rattle.wb_model.specs.Legal.{is_legal, AreLegal}
 use Rattle.wb_model.specs.Opened.{AreVersions, HaveForms, begun, AreBegunBy}
-use Rattle.wb_model.proofs.Found.{Held, find_held, find_true}
+use Rattle.wb_model.proofs.Found.{Held}
 use Rattle.wb_model.proofs.Effects.{IsSubmitted, submitted}
 
 -- ---- a form's version is found

@@ -1,5 +1,5 @@
 -- What a past that verdicts made keeps of its reports, and that a host may be opened with it again.
-use Rattle.std.proofs.Common.{◌≡◌, ℕ, ◌+◌, ◌≤◌, Bool, true, false, cond, eqb, List, [], ◌∷◌, ◌++◌, Option, Some, None, refl, sym, ap, ◌∙◌, subst, arith, ℤ}
+use Rattle.std.proofs.Common.{◌≡◌, ℕ, ◌≤◌, Bool, true, false, cond, eqb, List, [], ◌∷◌, ◌++◌, None, refl, sym, ap, ◌∙◌, subst, arith, ℤ}
 use Rattle.std.specs.Prelude.{map, filter, max, is_some}
 use Rattle.std.proofs.lemmas.Bool.Decides.{nat_tests}
 use Rattle.wb_model.specs.declared.entry.Entry.{Entry}
@@ -8,13 +8,13 @@ use Rattle.wb_model.specs.declared.event.What.{What}
 use Rattle.wb_model.specs.declared.event.What.TheVariants.{Did, Gap, Idle, Lost}
 use Rattle.wb_model.specs.declared.registry.FormItem.{FormItem}
 use Rattle.wb_model.specs.Trails.{has_identity}
-use Rattle.wb_model.specs.Requests.{Frame, form_of_trail, plain_part}
+use Rattle.wb_model.specs.Requests.{Frame, plain_part}
 use Rattle.wb_model.specs.Tables.{Plain, Case, has_receipt, is_live, is_there, report}
 use Rattle.wb_model.specs.Changes.{At}
 use Rattle.wb_model.specs.Host.{Tables, change_of, ruling}
 use Rattle.wb_model.specs.Legal.{last_at, AreLegal}
-use Rattle.wb_model.specs.Opened.{AtMost, AreVersions, HaveForms, begun, AreBegunBy, Apart, entries_of, AreOpened, Opened}
-use Rattle.wb_model.specs.Past.{Past, Opening, Turn, now, registry, last, drawn_at, numbers, case_of, trail, sealed, live, live_reports, plain, tables, held}
+use Rattle.wb_model.specs.Opened.{AtMost, HaveForms, AreBegunBy, Apart, entries_of, AreOpened, Opened}
+use Rattle.wb_model.specs.Past.{Past, Opening, Turn, now, registry, last, drawn_at, numbers, case_of, trail, sealed, live_reports, plain, tables, held}
 use Rattle.wb_model.specs.PastTurns.{at_frame, target_at, what_at}
 use Rattle.wb_model.specs.ByVerdicts.{IsByVerdict, AreByVerdicts}
 use Rattle.wb_model.specs.Reopened.{entry_moments, moments, latest, without_sessions}

@@ -1,12 +1,10 @@
 -- The rules of kept rows, computed: one report that keeps them all, and what breaks each.
-use Rattle.std.proofs.Common.{inl, inr, ◌≡◌, ℕ, Bool, true, false, cond, eqb, List, [], ◌∷◌, ◌++◌, Option, Some, None, refl, pos}
-use Rattle.std.specs.Prelude.{codes, is_some, map, nat_le}
-use Rattle.std.specs.Fmt.{digits}
+use Rattle.std.proofs.Common.{◌≡◌, ℕ, Bool, true, false, cond, eqb, List, [], ◌∷◌, ◌++◌, Option, Some, None, refl, pos}
+use Rattle.std.specs.Prelude.{codes, is_some, map}
 use Rattle.jiff_core.specs.Calendar.{days_from_civil, day_count, days_of_years, days_of_months}
 use Rattle.wb_base.specs.Days.{date_at}
 use Rattle.wb_base.specs.AnswerList.{Answered}
 use Rattle.wb_base.specs.declared.answers.Given.TheVariants as given
-use Rattle.wb_model.specs.declared.entry.Actor.{Actor}
 use Rattle.wb_model.specs.declared.entry.Actor.TheVariants as actors
 use Rattle.wb_model.specs.declared.entry.Deed.{Deed}
 use Rattle.wb_model.specs.declared.entry.Deed.TheVariants as deeds

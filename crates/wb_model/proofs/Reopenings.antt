@@ -2,9 +2,7 @@
 use Rattle.std.proofs.Common.{◌≡◌, ◌≢◌, ◌⊎◌, inl, inr, ℕ, ◌≤◌, Bool, true, false, cond, eqb, List, [], ◌∷◌, ◌++◌, refl, sym, ap, ◌∙◌, subst, arith}
 use Rattle.std.specs.Prelude.{map}
 use Rattle.std.specs.List.{list_any}
-use Rattle.std.proofs.lemmas.Bool.Decides.{nat_tests}
 use Rattle.wb_base.specs.declared.rows.Row.{Row}
-use Rattle.wb_model.specs.Host.{Tables}
 use Rattle.wb_model.specs.Legal.{ascends}
 use Rattle.wb_model.specs.Opened.{AreOpened}
 use Rattle.wb_model.specs.Openings.{no_settings, empty_tables}

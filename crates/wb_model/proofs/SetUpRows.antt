@@ -1,9 +1,8 @@
 -- The rules of what tenants are set up with, computed: the starter tenant keeps each, and a list that breaks one.
-use Rattle.std.proofs.Common.{◌≡◌, Bool, true, false, List, [], ◌∷◌, refl, ap, pos}
+use Rattle.std.proofs.Common.{◌≡◌, Bool, true, false, [], ◌∷◌, refl, ap, pos}
 use Rattle.std.specs.Prelude.{codes, ◌&&◌}
 use Rattle.std.specs.List.{list_all}
 use Rattle.wb_base.specs.declared.callers.Role.TheVariants as roles
-use Rattle.wb_base.specs.FormFaults.{is_good}
 use Rattle.wb_model.specs.declared.registry.ContextItem.{ContextItem}
 use Rattle.wb_model.specs.declared.registry.FormItem.{FormItem}
 use Rattle.wb_model.specs.declared.registry.Lists.{Lists}
