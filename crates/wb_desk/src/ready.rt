@@ -17,10 +17,9 @@ use crate::batch::put_opening;
 use std::alloc::Global;
 use wb_base::{Change, Memory, Moment};
 use wb_custody::SealedTable;
-use wb_list::Sorted;
 use wb_model::{Asked, Told, Trail};
 use wb_plan::{At, Opening, Plan, Planned, plan_turn, without_tenant};
-use wb_tables::{Case, Tenancy, dead_batch};
+use wb_tables::{Cases, Tenancy, dead_batch};
 
 /// A turn that is planned, and for which there is room: what it answers, and the report that begins.
 #[derive(Drop)]
@@ -53,7 +52,7 @@ pub struct Unnamed {
 // Makes room for a report: in a new trail, in the table of reports, and among the identity answers.
 fn make_room(
     alloc: Global,
-    cases: &mut Sorted<Case>,
+    cases: &mut Cases,
     sealed: &mut SealedTable,
 ) -> Result<Trail, Memory>
     ensures cases { cases.new.items ≡ cases.old.items }
@@ -65,7 +64,7 @@ fn make_room(
 {
     let mut trail = Trail::new(alloc);
     trail.reserve()?;
-    cases.reserve(1)?;
+    cases.reserve()?;
     sealed.reserve()?;
     Ok(trail)
 }

@@ -1,19 +1,19 @@
 //! The change of a turn. It takes no memory and cannot fail.
-ghost use Rattle.std.specs.Prelude.{◌≡◌, ◌≢◌, ◌<◌, ◌≤◌, ◌+◌, ◌++◌, ◌∷◌, [], ℕ, map};
+ghost use Rattle.std.specs.Prelude.{◌≡◌, ◌≢◌, ◌<◌, ◌≤◌, ◌+◌, ◌++◌, ◌∷◌, [], ℕ, true, map};
 ghost use Rattle.wb_base.specs.Days.{IsOffset};
 ghost use Rattle.wb_custody.specs.SealedAnswers.{answers_of};
 ghost use Rattle.wb_model.specs.Changes.{Begins};
 ghost use Rattle.wb_model.specs.Host.{plain_after, drawn, sealed_under};
 ghost use Rattle.wb_model.specs.Opened.{AtMost};
+ghost use Rattle.wb_tables.specs.Indexed.{is_begun};
 ghost use Rattle.wb_tables.specs.Kept.{case_of, plain_of, place_of, sealed_of};
 ghost use Rattle.wb_tables.specs.Places.{IsPlace};
 
 use wb_base::{Answers, Moment, Number, Tenant};
 use wb_custody::SealedTable;
-use wb_list::Sorted;
 use wb_model::{Numbering, TenantItem, Trail};
 use wb_plan::Opening;
-use wb_tables::{Case, Tenancy};
+use wb_tables::{Case, Cases, Tenancy};
 use wb_terms::day_of;
 
 /// The numbering after a draw.
@@ -36,9 +36,10 @@ pub fn draw_number(settings: &TenantItem, numbering: Numbering, time: Moment) ->
 }
 
 // Puts a report with the greatest number into the table, into room that was made.
-fn add_case(cases: &mut Sorted<Case>, number: Number, trail: Trail)
+fn add_case(cases: &mut Cases, number: Number, trail: Trail)
     requires room { 0 < cases.old.spare }
     requires above { (last : ℕ) × (AtMost last (map case_of cases.old.items) × (last < number)) }
+    requires begun { is_begun (record { number = number; trail = trail.items }) ≡ true }
     ensures { cases.new.items ≡ cases.old.items ++ record { number = number; trail = trail } ∷ [] }
 {
     cases.add(Case { number, trail });

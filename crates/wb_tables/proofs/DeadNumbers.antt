@@ -1,11 +1,9 @@
 -- The numbers of reports that are not live, and the drops that they are.
-use Rattle.std.proofs.Common.{drop, add-one, drop-cons, ◌≡◌, ◌≢◌, ℕ, ℤ, ◌<◌, ◌≤◌, ◌+◌, Bool, true, false, cond, not, zero, suc, length, get_or, List, [], ◌∷◌, ◌++◌, map, find, None, refl, sym, ap, ◌∙◌, subst, arith}
-use Rattle.std.specs.Prelude.{◌==◌, ◌&&◌, ◌||◌, filter, All, Result, Ok, Err, IfOk, OnErr, if◌then◌else◌}
+use Rattle.std.proofs.Common.{drop, add-one, drop-cons, ◌≡◌, ◌≢◌, ℕ, ◌<◌, ◌≤◌, ◌+◌, Bool, true, false, cond, not, zero, suc, length, get_or, List, [], ◌∷◌, ◌++◌, map, find, None, refl, sym, ap, ◌∙◌, subst, arith}
+use Rattle.std.specs.Prelude.{◌==◌, ◌&&◌, ◌||◌, filter, All, Result, Ok, Err, IfOk, IfErr, OnErr}
 use Rattle.std.specs.List.{list_any}
 use Rattle.std.proofs.lemmas.Bool.Decides.{nat_tests}
-use Rattle.std.proofs.lemmas.List.{append_assoc, append-nil}
 use Rattle.std.proofs.lemmas.List.Elements.{All-nil, All-cons}
-use Rattle.wb_base.specs.Days.{day_of}
 use Rattle.wb_base.specs.KeptRows.{all_changed, IsGoodChange}
 use Rattle.wb_base.specs.declared.rows.Change.{Change as RowChange}
 use Rattle.wb_base.specs.declared.rows.Change.TheVariants.{Put, DropReport}
@@ -17,23 +15,12 @@ use Rattle.wb_model.specs.Tenants.{Tenancy, has_id}
 use Rattle.wb_model.proofs.KindRows.{drops_in, drops}
 use Rattle.wb_model.proofs.RowLaw.{is_dropped, AreDrops, AreNumbered, DropsDead, dropped_append, drops_append, dropped_is}
 use Rattle.wb_model.proofs.TurnRows.{purge_rows}
-use Rattle.wb_tables.specs.Dead.{each, dead_one, has_dead, any_dead, AreDead, AreDropped}
-use Rattle.wb_tables.specs.Kept.{Place, case_of, plain_of, place_of, tenancy_of, purged_tenancy, lives_on}
-use Rattle.wb_tables.specs.declared.tenancy.Case.{Case as KeptCase}
+use Rattle.wb_tables.specs.Dead.{has_dead, any_dead, AreDead, AreDropped}
+use Rattle.wb_tables.specs.Kept.{Place, place_of, tenancy_of, purged_tenancy}
 use Rattle.wb_tables.specs.declared.tenancy.Tenancy.{Tenancy as KeptTenancy}
 use Rattle.wb_tables.specs.Places.{ArePlaces}
 
--- ---- one after another
-
--- of all, those before these were pushed
-abbrev pub IsPushed : {X Y : Type 0} → (X → List Y) → List X → List X → List Y → Type 0
-IsPushed f all left new = new ++ each f left ≡ each f all
-
-pub pushed_next : {X Y : Type 0} (f : X → List Y) (all left : List X) (x : X) (mid new : List Y) → IsPushed f all (x ∷ left) mid → new ≡ mid ++ f x → IsPushed f all left new
-pushed_next f all left x mid new h e = ap (λ l. l ++ each f left) e ∙ (append_assoc mid (f x) (each f left) ∙ h)
-
-pub pushed_all : {X Y : Type 0} (f : X → List Y) (all : List X) (new : List Y) → IsPushed f all [] new → new ≡ each f all
-pushed_all f all new h = sym (append-nil new) ∙ h
+-- ---- lists
 
 -- one of them passes
 pub any_at : {W X : Type 0} (p : X → Bool) (g : W → X) (i : ℕ) (xs : List W) (d : W) → i < length xs → p (g (get_or xs i d)) ≡ true → list_any p (map g xs) ≡ true
@@ -57,24 +44,6 @@ eq_swap a b = by (a == b) refl
     by : (h : Bool) → (a == b) ≡ h → h ≡ (b == a)
     by true e = grind (arith, nat_tests, e)
     by false e = grind (arith, nat_tests, e)
-
--- the numbers that are given for reports one after another
-pub numbers_dead : (n : ℕ) (today : ℤ) (cs : List Case) → list_any (λ m. m == n) (each (dead_one today) cs) ≡ list_any (λ c. has_number n c && not (lives_on today c)) cs
-numbers_dead n today [] = refl
-numbers_dead n today (c ∷ cs) = by (numbers_dead n today cs) (lives_on today c) (has_number n c)
-  where
-    by : list_any (λ m. m == n) (each (dead_one today) cs) ≡ list_any (λ c. has_number n c && not (lives_on today c)) cs → (l h : Bool)
-        → list_any (λ m. m == n) ((if l then [] else (c.number ∷ [])) ++ each (dead_one today) cs) ≡ ((has_number n c && not l) || list_any (λ c. has_number n c && not (lives_on today c)) cs)
-    by ih true h = ih ∙ off (has_number n c)
-      where
-        off : (b : Bool) → list_any (λ c. has_number n c && not (lives_on today c)) cs ≡ ((b && false) || list_any (λ c. has_number n c && not (lives_on today c)) cs)
-        off true = refl
-        off false = refl
-    by ih false h = ap (λ b. (c.number == n) || b) ih ∙ on (c.number == n)
-      where
-        on : (b : Bool) → (b || list_any (λ c. has_number n c && not (lives_on today c)) cs) ≡ ((b && true) || list_any (λ c. has_number n c && not (lives_on today c)) cs)
-        on true = refl
-        on false = refl
 
 -- some number stands where some report is not live
 pub dead_some : (now : ℕ) (p : Plain) (ns : List ℕ) → AreDead now p ns → ns ≢ [] → has_dead now p ≡ true
@@ -249,13 +218,13 @@ pub on_ok : {X E : Type 0} {P Q : X → Type 0} (r : Result X E) → ((x : X) �
 on_ok (Ok x) f h = f x h
 on_ok (Err e) f h = tt
 
+pub err_some : {X E : Type 0} {A B : Type 0} (r : Result X E) → (A → B) → IfErr r (λ e. A) → OnErr r B
+err_some (Ok x) f h = tt
+err_some (Err e) f h = f h
+
 pub on_err : {X E : Type 0} {A B : Type 0} (r : Result X E) → (A → B) → OnErr r A → OnErr r B
 on_err (Ok x) f h = tt
 on_err (Err e) f h = f h
-
-pub are_dead : (time : ℕ) (x : KeptTenancy) (today : ℤ) (cs : List KeptCase) (ns : List ℕ) → today ≡ day_of time x.settings.offset → cs ≡ x.cases.items → ns ≡ each (dead_one today) (map case_of cs) → AreDead time (plain_of x) ns
-are_dead time x today cs ns day all made = λ n.
-    ap (list_any (λ m. m == n)) (made ∙ (λ i. each (dead_one (day i)) (map case_of (all i)))) ∙ numbers_dead n (day_of time x.settings.offset) (map case_of x.cases.items)
 
 -- ---- at the loop's end and at its next step
 

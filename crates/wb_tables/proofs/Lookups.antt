@@ -14,7 +14,7 @@ use Rattle.std.specs.Option.{option_copied}
 use Rattle.wb_tables.specs.declared.tenancy.Case.{Case as KeptCase}
 use Rattle.wb_tables.specs.declared.tenancy.Session.{Session as KeptSession}
 use Rattle.wb_tables.specs.declared.tenancy.Tenancy.{Tenancy as KeptTenancy}
-use Rattle.wb_tables.proofs.CaseLists.{number_of, find-map, report-found}
+use Rattle.wb_tables.proofs.CaseLists.{find-map}
 
 abbrev pub kept : {X : Type 0} → (X → Bool) → Option X → Option X
 kept Q None = None
@@ -45,14 +45,11 @@ find_kept {K} {X} P k Q (x ∷ xs) o = by (find_kept P k Q xs o.1) (P k x) (Q x)
 
 -- ---- reports
 
-pub live_report : (x : KeptTenancy) (time n : ℕ) → Apart has_number (plain_of x).cases → report n (live_plain time (plain_of x)).cases ≡ kept (is_live x.settings time) (option_map case_of (find (has_key nat_cmp number_of n) x.cases.items))
-live_report x time n apart = find_kept has_number n (is_live x.settings time) (map case_of x.cases.items) apart ∙ ap (kept (is_live x.settings time)) (report-found n x.cases.items)
-
 -- what the code found
-pub report_kept : (x : KeptTenancy) (time n : ℕ) (today : ℤ) (o : Option KeptCase) → Apart has_number (plain_of x).cases → today ≡ day_of time x.settings.offset → o ≡ find (has_key nat_cmp number_of n) x.cases.items
+pub report_kept : (x : KeptTenancy) (time n : ℕ) (today : ℤ) (o : Option KeptCase) → Apart has_number (plain_of x).cases → today ≡ day_of time x.settings.offset → option_map case_of o ≡ report n (map case_of x.cases.items)
     → kept (lives_on today) (option_map case_of o) ≡ report n (live_plain time (plain_of x)).cases
 report_kept x time n today o apart day found =
-    ap (λ d. kept (lives_on d) (option_map case_of o)) day ∙ (ap (λ f. kept (is_live x.settings time) (option_map case_of f)) found ∙ sym (live_report x time n apart))
+    ap (λ d. kept (lives_on d) (option_map case_of o)) day ∙ (ap (kept (is_live x.settings time)) found ∙ sym (find_kept has_number n (is_live x.settings time) (map case_of x.cases.items) apart))
 
 pub there-found : (n : ℕ) (cs : List Case) → is_there n cs ≡ is_some (report n cs)
 there-found n [] = refl

@@ -1,7 +1,8 @@
 -- A purge of what is not live, in one tenant and in all.
-use Rattle.std.proofs.Common.{◌≡◌, ◌≢◌, ◌⊎◌, inl, inr, ℕ, ◌≤◌, ℤ, Bool, true, false, cond, not, List, [], ◌∷◌, map, find, Option, Some, None, refl, sym, ap, ◌∙◌, subst, arith}
+use Rattle.std.proofs.Common.{◌≡◌, ◌≢◌, ◌⊎◌, inl, inr, ℕ, suc, ◌<◌, ◌≤◌, length, ℤ, Bool, true, false, cond, not, List, [], ◌∷◌, map, find, Option, Some, None, refl, sym, ap, ◌∙◌, subst, arith}
 use mathlib.Core.Path.{fun_ext}
 use Rattle.std.specs.Prelude.{filter, ◌==◌, ◌&&◌, ◌||◌, if◌then◌else◌}
+use Rattle.std.specs.List.{list_any}
 use Rattle.std.proofs.lemmas.Bool.Decides.{nat_tests}
 use Rattle.wb_base.specs.AnswerList.{Answered}
 use Rattle.wb_model.specs.Tables.{Case, Session, has_number, has_receipt, is_live, is_there, lasts}
@@ -12,6 +13,7 @@ use Rattle.wb_model.proofs.Leaving.{apart_filter}
 use Rattle.wb_list.specs.Room.{Room}
 use Rattle.wb_custody.specs.declared.sealed.SealedItem.{SealedItem}
 use Rattle.wb_custody.specs.SealedAnswers.{answers_of}
+use Rattle.wb_tables.specs.Indexed.{IsTakenOut}
 use Rattle.wb_tables.specs.Kept.{Place, place_of, tables_of, tenancy_of, sealed_of, live_place, purged_tenancy, live_plain, lives_on}
 use Rattle.wb_tables.specs.Places.{IsPlace, ArePlaces, is_tenant, is_dead, gone_under}
 use Rattle.wb_tables.specs.declared.tenancy.Tenancy.{Tenancy as KeptTenancy}
@@ -36,23 +38,6 @@ most_filter last p [] all = tt
 most_filter last p (c ∷ cs) all = most_cond last (p c) c (filter p cs) all.0 (most_filter last p cs all.1)
 
 -- ---- identity answers
-
--- a report that does not live is passed
-pub gone_dead : (n : ℕ) (today : ℤ) (c : Case) (cs : List Case) (a b : Option Answered) → lives_on today c ≡ false → (n ≡ c.number → b ≡ None) → (n ≢ c.number → b ≡ a) → gone_under n today cs b ≡ gone_under n today (c ∷ cs) a
-gone_dead n today c cs a b dead here other = by (has_number n c) refl (is_dead n today cs) refl
-  where
-    by : (h : Bool) → has_number n c ≡ h → (d : Bool) → is_dead n today cs ≡ d → cond d None b ≡ cond ((h && not (lives_on today c)) || d) None a
-    by true e true k = rw dead refl
-    by true e false k = let is : n ≡ c.number = grind (arith, nat_tests, e) in rw dead (here is)
-    by false e true k = refl
-    by false e false k = let ne : n ≢ c.number = λ is. absurd (grind (arith, nat_tests, e, is)) in other ne
-
-pub gone_live : (n : ℕ) (today : ℤ) (c : Case) (cs : List Case) (a : Option Answered) → lives_on today c ≡ true → gone_under n today cs a ≡ gone_under n today (c ∷ cs) a
-gone_live n today c cs a live = by (has_number n c) refl
-  where
-    by : (h : Bool) → has_number n c ≡ h → gone_under n today cs a ≡ cond ((h && not (lives_on today c)) || is_dead n today cs) None a
-    by true e = rw live refl
-    by false e = refl
 
 none_dead : (n : ℕ) (today : ℤ) (cs : List Case) → find (has_number n) cs ≡ None → is_dead n today cs ≡ false
 none_dead n today [] e = refl
@@ -82,34 +67,95 @@ gone_is n today (c ∷ cs) a apart none = by (gone_is n today cs a apart.1) (has
     by rest false e true l = rw e (rest (λ t. none (rw (e, t) refl)))
     by rest false e false l = rest (λ t. none (rw (e, t) refl))
 
--- of all reports, those before these were passed
-pub record IsUnsealed (t : ℕ) (today : ℤ) (all left : List Case) (old new : Room SealedItem) : Type 0 where
-  pub here : (n : ℕ) → gone_under n today left (answers_of new.items t n) ≡ gone_under n today all (answers_of old.items t n)
-  pub others : (u n : ℕ) → u ≢ t → answers_of new.items u n ≡ answers_of old.items u n
-  pub room : old.spare ≤ new.spare
-
 -- the identity answers of a report are removed
 pub record IsRemoved (t number : ℕ) (old new : Room SealedItem) : Type 0 where
   pub here : answers_of new.items t number ≡ None
   pub others : (u n : ℕ) → (u ≢ t) ⊎ (n ≢ number) → answers_of new.items u n ≡ answers_of old.items u n
   pub room : old.spare ≤ new.spare
 
-pub unsealed_dead : (t : ℕ) (today : ℤ) (all : List Case) (c : Case) (left : List Case) (old mid new : Room SealedItem) → IsUnsealed t today all (c ∷ left) old mid → lives_on today c ≡ false → IsRemoved t c.number mid new → IsUnsealed t today all left old new
-unsealed_dead t today all c left old mid new h dead gone = record {
-  here = λ n. gone_dead n today c left (answers_of mid.items t n) (answers_of new.items t n) dead (λ is. ap (answers_of new.items t) is ∙ gone.here) (λ ne. gone.others t n (inr ne)) ∙ h.here n;
+-- some of the reports that do not live were taken out, with their identity answers
+pub record IsPurging (t : ℕ) (today : ℤ) (all now : List Case) (old new : Room SealedItem) : Type 0 where
+  pub live : filter (lives_on today) now ≡ filter (lives_on today) all
+  pub here : (n : ℕ) → gone_under n today now (answers_of new.items t n) ≡ gone_under n today all (answers_of old.items t n)
+  pub others : (u n : ℕ) → u ≢ t → answers_of new.items u n ≡ answers_of old.items u n
+  pub room : old.spare ≤ new.spare
+
+pub purging_start : (t : ℕ) (today : ℤ) (all : List Case) (old : Room SealedItem) → IsPurging t today all all old old
+purging_start t today all old = record { live = refl; here = λ n. refl; others = λ u n ne. refl; room = omega arith }
+
+none_both : (b : Bool) → cond {A = Option Answered} b None None ≡ None
+none_both true = refl
+none_both false = refl
+
+dead_without : (n m : ℕ) (today : ℤ) (cs : List Case) → n ≢ m → is_dead n today (filter (λ c. not (has_number m c)) cs) ≡ is_dead n today cs
+dead_without n m today [] ne = refl
+dead_without n m today (c ∷ cs) ne = by (dead_without n m today cs ne) (has_number m c) refl
+  where
+    by : is_dead n today (filter (λ c. not (has_number m c)) cs) ≡ is_dead n today cs → (b : Bool) → has_number m c ≡ b
+        → is_dead n today (cond (not b) (c ∷ filter (λ c. not (has_number m c)) cs) (filter (λ c. not (has_number m c)) cs)) ≡ ((has_number n c && not (lives_on today c)) || is_dead n today cs)
+    by rest true is =
+        let same : c.number ≡ m = grind (arith, nat_tests, is) in
+        let other : has_number n c ≡ false = grind (arith, nat_tests, same, ne) in
+        rw other rest
+    by rest false is = ap (λ b. (has_number n c && not (lives_on today c)) || b) rest
+
+pub purging_next : (t : ℕ) (today : ℤ) (m : ℕ) (all now next : List Case) (old mid new : Room SealedItem) → IsPurging t today all now old mid → IsTakenOut today m now next → IsRemoved t m mid new → IsPurging t today all next old new
+purging_next t today m all now next old mid new h taken gone = record {
+  live = taken.live ∙ h.live;
+  here = λ n. by n (n == m) refl ∙ h.here n;
   others = λ u n ne. gone.others u n (inl ne) ∙ h.others u n ne;
   room = omega (arith, h.room, gone.room);
 }
+  where
+    by : (n : ℕ) (b : Bool) → (n == m) ≡ b → gone_under n today next (answers_of new.items t n) ≡ gone_under n today now (answers_of mid.items t n)
+    by n true e =
+        let same : n ≡ m = grind (arith, nat_tests, e) in
+        let dead : is_dead n today now ≡ true = ap (λ k. is_dead k today now) same ∙ taken.dead in
+        ap (gone_under n today next) (ap (answers_of new.items t) same ∙ gone.here) ∙ (none_both (is_dead n today next) ∙ rw dead refl)
+    by n false e =
+        let other : n ≢ m = λ same. absurd (grind (arith, nat_tests, e, same)) in
+        ap (gone_under n today next) (gone.others t n (inr other)) ∙ ap (λ b. if b then None else answers_of mid.items t n) (ap (is_dead n today) taken.left ∙ dead_without n m today now other)
 
-pub unsealed_live : (t : ℕ) (today : ℤ) (all : List Case) (c : Case) (left : List Case) (old new : Room SealedItem) → IsUnsealed t today all (c ∷ left) old new → lives_on today c ≡ true → IsUnsealed t today all left old new
-unsealed_live t today all c left old new h live = record {
-  here = λ n. gone_live n today c left (answers_of new.items t n) live ∙ h.here n;
-  others = h.others;
-  room = h.room;
-}
+-- where all that are left live, all is purged
+all_kept : (today : ℤ) (cs : List Case) → list_any (λ c. not (lives_on today c)) cs ≡ false → filter (lives_on today) cs ≡ cs
+all_kept today [] e = refl
+all_kept today (c ∷ cs) e = by (λ g. all_kept today cs g) (lives_on today c) e
+  where
+    by : (list_any (λ c. not (lives_on today c)) cs ≡ false → filter (lives_on today) cs ≡ cs) → (b : Bool) → (not b || list_any (λ c. not (lives_on today c)) cs) ≡ false → cond b (c ∷ filter (lives_on today) cs) (filter (lives_on today) cs) ≡ c ∷ cs
+    by rest true f = ap (λ ds. c ∷ ds) (rest f)
+    by rest false f = absurd (grind (arith, f))
 
-pub unsealed_start : (t : ℕ) (today : ℤ) (all : List Case) (old : Room SealedItem) → IsUnsealed t today all all old old
-unsealed_start t today all old = record { here = λ n. refl; others = λ u n ne. refl; room = omega arith }
+none_of : (n : ℕ) (today : ℤ) (cs : List Case) → list_any (λ c. not (lives_on today c)) cs ≡ false → is_dead n today cs ≡ false
+none_of n today [] e = refl
+none_of n today (c ∷ cs) e = by (λ g. none_of n today cs g) (has_number n c) (lives_on today c) e
+  where
+    by : (list_any (λ c. not (lives_on today c)) cs ≡ false → is_dead n today cs ≡ false) → (h l : Bool) → (not l || list_any (λ c. not (lives_on today c)) cs) ≡ false → ((h && not l) || is_dead n today cs) ≡ false
+    by rest true true f = rest f
+    by rest false true f = rest f
+    by rest h false f = absurd (grind (arith, f))
+
+pub purging_cases : (t : ℕ) (today : ℤ) (all now : List Case) (old new : Room SealedItem) → IsPurging t today all now old new → list_any (λ c. not (lives_on today c)) now ≡ false → now ≡ filter (lives_on today) all
+purging_cases t today all now old new h live = sym (all_kept today now live) ∙ h.live
+
+pub purging_here : (t : ℕ) (today : ℤ) (all now : List Case) (old new : Room SealedItem) → IsPurging t today all now old new → list_any (λ c. not (lives_on today c)) now ≡ false → (n : ℕ) → answers_of new.items t n ≡ gone_under n today all (answers_of old.items t n)
+purging_here t today all now old new h live n = sym (ap (λ b. if b then None else answers_of new.items t n) (none_of n today now live)) ∙ h.here n
+
+-- fewer are left
+fewer_at_most : (m : ℕ) (cs : List Case) → length (filter (λ c. not (has_number m c)) cs) ≤ length cs
+fewer_at_most m [] = omega arith
+fewer_at_most m (c ∷ cs) = by (has_number m c) (fewer_at_most m cs)
+  where
+    by : (b : Bool) → length (filter (λ c. not (has_number m c)) cs) ≤ length cs → length (cond (not b) (c ∷ filter (λ c. not (has_number m c)) cs) (filter (λ c. not (has_number m c)) cs)) ≤ suc (length cs)
+    by true le = omega (arith, le)
+    by false le = omega (arith, le)
+
+pub fewer : (today : ℤ) (m : ℕ) (cs : List Case) → is_dead m today cs ≡ true → length (filter (λ c. not (has_number m c)) cs) < length cs
+fewer today m [] e = absurd (grind (arith, e))
+fewer today m (c ∷ cs) e = by (λ g. fewer today m cs g) (has_number m c) (not (lives_on today c)) e
+  where
+    by : (is_dead m today cs ≡ true → length (filter (λ c. not (has_number m c)) cs) < length cs) → (h d : Bool) → ((h && d) || is_dead m today cs) ≡ true → length (cond (not h) (c ∷ filter (λ c. not (has_number m c)) cs) (filter (λ c. not (has_number m c)) cs)) < suc (length cs)
+    by rest true d f = omega (arith, fewer_at_most m cs)
+    by rest false d f = omega (arith, rest f)
 
 pub same_tables : (t u : Tables) → t.plain ≡ u.plain → ((n : ℕ) → t.sealed n ≡ u.sealed n) → t ≡ u
 same_tables t u p s = λ i. record { plain = p i; sealed = fun_ext s i }

@@ -1,10 +1,10 @@
 -- The reports that are held and are not live, and what is dropped of the kept rows.
-use Rattle.std.specs.Prelude.{◌≡◌, ℕ, ℤ, ◌==◌, ◌&&◌, not, Bool, List, [], ◌∷◌, ◌++◌, map, if◌then◌else◌}
+use Rattle.std.specs.Prelude.{◌≡◌, ℕ, ◌==◌, ◌&&◌, not, Bool, List, ◌++◌, map}
 use Rattle.std.specs.List.{list_any}
 use Rattle.wb_base.specs.declared.rows.Change.{Change as RowChange}
 use Rattle.wb_base.specs.declared.rows.Change.TheVariants.{DropReport}
-use Rattle.wb_model.specs.Tables.{Plain, Case, has_number, is_live}
-use Rattle.wb_tables.specs.Kept.{Place, lives_on}
+use Rattle.wb_model.specs.Tables.{Plain, has_number, is_live}
+use Rattle.wb_tables.specs.Kept.{Place}
 
 -- a report is held that is not live
 abbrev pub has_dead : ℕ → Plain → Bool
@@ -13,15 +13,6 @@ has_dead now p = list_any (λ c. not (is_live p.registry.settings now c)) p.case
 -- so it is at some tenant
 abbrev pub any_dead : ℕ → List Place → Bool
 any_dead now xs = list_any (λ (x : Place). has_dead now x.plain) xs
-
--- what each of a list gives, one after another
-abbrev pub each : {X Y : Type 0} → (X → List Y) → List X → List Y
-each f [] = []
-each f (x ∷ xs) = f x ++ each f xs
-
--- the number of a report that does not live on this day
-abbrev pub dead_one : ℤ → Case → List ℕ
-dead_one today c = if lives_on today c then [] else (c.number ∷ [])
 
 -- these are the numbers of the reports that are not live, in whatever order
 abbrev pub AreDead : ℕ → Plain → List ℕ → Type 0

@@ -1,15 +1,14 @@
 -- What the kept tables stand for.
-use Rattle.std.specs.Prelude.{ℕ, ℤ, ◌==◌, ◌&&◌, not, int_lt, Bool, List, map, filter, length}
+use Rattle.std.specs.Prelude.{ℕ, ◌==◌, ◌&&◌, Bool, List, map, filter, length}
 use Rattle.std.specs.List.{sum_by}
 use Rattle.wb_base.specs.declared.words.Digest.{Digest}
 use Rattle.wb_custody.specs.declared.sealed.SealedItem.{SealedItem}
 use Rattle.wb_custody.specs.SealedAnswers.{answers_of}
-use Rattle.wb_model.specs.Tables.{Registry, Plain, Case, Session, Who, TheUser, TheReporter, lasts, same_digest}
-use Rattle.wb_model.specs.Trails.{expires}
+use Rattle.wb_model.specs.Tables.{Registry, Plain, Session, Who, TheUser, TheReporter, lasts, same_digest}
 use Rattle.wb_model.specs.Host.{Sealed, Tables, live_cases, purged}
 use Rattle.wb_model.specs.Tenants.{Tenancy}
+pub use Rattle.wb_tables.specs.Lives.{case_of, lives_on}
 use Rattle.wb_tables.specs.declared.counts.Counts.{Counts}
-use Rattle.wb_tables.specs.declared.tenancy.Case.{Case as KeptCase}
 use Rattle.wb_tables.specs.declared.tenancy.Session.{Session as KeptSession}
 use Rattle.wb_tables.specs.declared.tenancy.Who.{Who as KeptWho}
 use Rattle.wb_tables.specs.declared.tenancy.Who.TheVariants as kept
@@ -18,9 +17,6 @@ use Rattle.wb_tables.specs.declared.tenancy.Tenancy.{Tenancy as KeptTenancy}
 abbrev pub who_of : KeptWho → Who
 who_of (kept.User u) = TheUser u
 who_of (kept.Reporter n) = TheReporter n
-
-abbrev pub case_of : KeptCase → Case
-case_of c = record { number = c.number; trail = c.trail.items }
 
 abbrev pub session_of : KeptSession → Session
 session_of s = record { turn = s.turn; digest = s.digest; role = s.role; who = who_of s.who; at = s.at }
@@ -60,10 +56,6 @@ live_place now x = record { id = x.id; plain = live_plain now x.plain }
 
 abbrev pub purged_tenancy : ℕ → Tenancy → Tenancy
 purged_tenancy now x = record { id = x.id; tables = purged now x.tables }
-
--- a report has a trail and expires after this day
-abbrev pub lives_on : ℤ → Case → Bool
-lives_on today c = not (length c.trail == 0) && int_lt today (expires c.trail)
 
 -- the session of a turn and a secret's digest
 abbrev pub is_session : ℕ → Digest → Session → Bool

@@ -1,6 +1,5 @@
 -- What holds of each tenant that is kept.
-use Rattle.std.specs.Prelude.{◌≡◌, ℕ, ℤ, ◌<◌, ◌≤◌, ◌==◌, ◌&&◌, not, Bool, true, false, slice_index_or, List, [], ◌∷◌, length, Option, None, if◌then◌else◌}
-use Rattle.std.specs.List.{list_any}
+use Rattle.std.specs.Prelude.{◌≡◌, ℕ, ℤ, ◌<◌, ◌≤◌, ◌==◌, Bool, true, false, slice_index_or, List, [], ◌∷◌, length, Option, None, if◌then◌else◌}
 use Rattle.wb_base.specs.AnswerList.{Answered}
 use Rattle.wb_base.specs.Days.{IsOffset}
 use Rattle.wb_base.specs.FormFaults.{is_good}
@@ -10,7 +9,8 @@ use Rattle.wb_model.specs.declared.registry.FormItem.{FormItem}
 use Rattle.wb_model.specs.Legal.{IsSound}
 use Rattle.wb_model.specs.Opened.{AtMost, AreWithin, Apart, has_turn}
 use Rattle.wb_model.specs.Tables.{Registry, Plain, Case, has_number, has_receipt, is_there}
-use Rattle.wb_tables.specs.Kept.{Place, lives_on}
+pub use Rattle.wb_tables.specs.Lives.{is_dead}
+use Rattle.wb_tables.specs.Kept.{Place}
 use Rattle.wb_tables.specs.declared.tenancy.Tenancy.{Tenancy as KeptTenancy}
 
 abbrev pub AreGoodForms : List FormItem → Type 0
@@ -48,10 +48,6 @@ ArePlaces turns k sealed [] = Unit {0}
 ArePlaces turns k sealed (x ∷ xs) = ((k < x.id) × IsPlace turns sealed x) × ArePlaces turns x.id sealed xs
 
 -- ---- a purge
-
--- the report of a number is there, and does not live on this day
-abbrev pub is_dead : ℕ → ℤ → List Case → Bool
-is_dead n today cs = list_any (λ c. has_number n c && not (lives_on today c)) cs
 
 -- identity answers once those of such a report are dropped
 abbrev pub gone_under : ℕ → ℤ → List Case → Option Answered → Option Answered

@@ -1,50 +1,25 @@
 //! The reports that a purge drops.
-ghost use Rattle.std.specs.Prelude.{◌≡◌, ◌≢◌, ◌++◌, ℕ, [], List, All, map, not, true, false, IfOk, OnOk, OnErr};
-ghost use Rattle.std.specs.List.{list_any};
+ghost use Rattle.std.specs.Prelude.{◌≡◌, ◌≢◌, ◌++◌, ℕ, [], List, All, map, true, false, IfOk, OnOk, OnErr};
 ghost use Rattle.wb_base.specs.KeptRows.{all_changed, IsGoodChange};
 ghost use Rattle.wb_base.specs.declared.rows.Change.TheVariants.{DropReport};
 ghost use Rattle.wb_custody.specs.declared.sealed.SealedItem.{SealedItem};
 ghost use Rattle.wb_model.specs.Rows.{rows_of};
-ghost use Rattle.wb_tables.specs.Dead.{each, dead_one, has_dead, any_dead, AreDead, AreDropped};
-ghost use Rattle.wb_tables.specs.Kept.{case_of, place_of, plain_of, tenancy_of, lives_on, purged_tenancy};
+ghost use Rattle.wb_tables.specs.Dead.{has_dead, any_dead, AreDead, AreDropped};
+ghost use Rattle.wb_tables.specs.Kept.{place_of, plain_of, tenancy_of, purged_tenancy};
 ghost use Rattle.wb_tables.specs.Places.{IsLookedUp, ArePlaces};
 
-use crate::reports::{lives, today_at};
-use crate::tenancy::{Case, Tenancy};
+use crate::reports::today_at;
+use crate::tenancy::Tenancy;
 use std::alloc::Global;
-use wb_base::{Change, Day, Memory, Moment, Number, Tenant};
-
-// One more number, where its report is not live.
-fn push_dead(numbers: &mut Vec<Number>, case: &Case, today: Day) -> Result<(), Memory>
-    ensures ok { OnOk result (numbers.new.items ≡ numbers.old.items ++ dead_one today (case_of case.now)) }
-    ensures err { OnErr result (lives_on today (case_of case.now) ≡ false) }
-{
-    if !lives(case, today) {
-        numbers.push(case.number)?;
-    }
-    Ok(())
-}
-
-// The numbers of these reports that are not live on this day.
-fn dead_among(alloc: Global, cases: &[Case], today: Day) -> Result<Vec<Number>, Memory>
-    ensures ok { IfOk result (λ numbers. numbers.items ≡ each (dead_one today) (map case_of cases.now)) }
-    ensures err { OnErr result (list_any (λ c. not (lives_on today c)) (map case_of cases.now) ≡ true) }
-{
-    let mut numbers = Vec::new(alloc);
-    for case in cases {
-        push_dead(&mut numbers, case, today)?;
-    }
-    Ok(numbers)
-}
+use wb_base::{Change, Memory, Moment, Number, Tenant};
 
 // The numbers of a tenant's reports that are not live at a time. It takes no memory where there are none.
-fn dead_numbers(alloc: Global, tenancy: &Tenancy, time: Moment) -> Result<Vec<Number>, Memory>
+fn dead_numbers(tenancy: &Tenancy, time: Moment) -> Result<Vec<Number>, Memory>
     requires place { IsLookedUp (plain_of tenancy.now) }
     ensures dead { IfOk result (λ numbers. AreDead time (plain_of tenancy.now) numbers.items) }
     ensures err { OnErr result (has_dead time (plain_of tenancy.now) ≡ true) }
 {
-    let today = today_at(tenancy, time);
-    dead_among(alloc, tenancy.cases.as_slice(), today)
+    tenancy.cases.expired(today_at(tenancy, time))
 }
 
 // The reports of these numbers are to be dropped.
@@ -59,17 +34,12 @@ fn push_drops(batch: &mut Vec<Change>, tenant: Tenant, numbers: &[Number]) -> Re
 }
 
 // The reports of a tenant that are not live at a time are to be dropped.
-fn push_tenant(
-    alloc: Global,
-    batch: &mut Vec<Change>,
-    tenancy: &Tenancy,
-    time: Moment,
-) -> Result<(), Memory>
+fn push_tenant(batch: &mut Vec<Change>, tenancy: &Tenancy, time: Moment) -> Result<(), Memory>
     requires place { IsLookedUp (plain_of tenancy.now) }
     ensures ok { OnOk result (AreDropped time (place_of tenancy.now) batch.old.items batch.new.items) }
     ensures err { OnErr result (has_dead time (plain_of tenancy.now) ≡ true) }
 {
-    let numbers = dead_numbers(alloc, tenancy, time)?;
+    let numbers = dead_numbers(tenancy, time)?;
     push_drops(batch, tenancy.settings.tenant, numbers.as_slice())
 }
 
@@ -83,7 +53,7 @@ pub fn dead_batch(alloc: Global, tenancies: &[Tenancy], time: Moment) -> Result<
 {
     let mut batch = Vec::new(alloc);
     for tenancy in tenancies {
-        push_tenant(alloc, &mut batch, tenancy, time)?;
+        push_tenant(&mut batch, tenancy, time)?;
     }
     Ok(batch)
 }

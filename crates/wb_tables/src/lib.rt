@@ -1,6 +1,7 @@
 //! The tables of all tenants: what is kept, looked up at a time, purged and counted. They know no route.
 #![tactic(auto)]
 
+mod cases;
 mod counts;
 mod dead;
 mod purge;
@@ -10,6 +11,7 @@ mod sessions;
 mod tenancy;
 mod tenants;
 
+pub use cases::Cases;
 pub use counts::{Counts, count};
 pub use dead::dead_batch;
 pub use purge::purge_all;

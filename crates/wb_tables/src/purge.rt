@@ -6,35 +6,19 @@ ghost use Rattle.wb_tables.specs.Kept.{case_of, session_of, place_of, tables_of,
 ghost use Rattle.wb_model.specs.Host.{purged};
 ghost use Rattle.wb_model.specs.Tables.{lasts as lasts_at};
 
-use crate::reports::{lives, today_at};
+use crate::cases::Cases;
+use crate::reports::today_at;
 use crate::sessions::lasts;
-use crate::tenancy::{Case, Session, Tenancy};
+use crate::tenancy::{Session, Tenancy};
 use wb_base::{Day, Moment, Tenant};
 use wb_custody::SealedTable;
 use wb_list::{ItemTest, Sorted};
-
-/// A report that is not live on this day.
-#[derive(Drop)]
-struct Dead {
-    today: Day,
-}
-
-impl ItemTest<Case> for Dead {
-    ghost use Rattle.std.specs.Prelude.{not};
-    ghost use Rattle.wb_tables.specs.Kept.{case_of, lives_on};
-
-    ghost passes = { λ dead case. not (lives_on dead.today (case_of case)) };
-
-    fn passes(&self, case: &Case) -> bool {
-        !lives(case, self.today)
-    }
-}
 
 /// A session that does not last at this time, where these reports are there.
 #[derive(Drop)]
 struct Ended<'a> {
     time: Moment,
-    cases: &'a Sorted<Case>,
+    cases: &'a Cases,
 }
 
 impl ItemTest<Session> for Ended<'_> {
@@ -49,26 +33,23 @@ impl ItemTest<Session> for Ended<'_> {
     }
 }
 
-// Drops the identity answers of reports that are not live.
-fn unseal(sealed: &mut SealedTable, tenant: Tenant, cases: &[Case], today: Day)
-    ensures here { (n : ℕ) → answers_of sealed.new.items tenant n ≡ gone_under n today (map case_of cases.now) (answers_of sealed.old.items tenant n) }
+// Drops the reports that are not live, and their identity answers. Each is found by the index of expiry days.
+fn drop_dead(cases: &mut Cases, sealed: &mut SealedTable, tenant: Tenant, today: Day)
+    ensures cases { map case_of cases.new.items ≡ filter (lives_on today) (map case_of cases.old.items) }
+    ensures here { (n : ℕ) → answers_of sealed.new.items tenant n ≡ gone_under n today (map case_of cases.old.items) (answers_of sealed.old.items tenant n) }
     ensures others { (t n : ℕ) → t ≢ tenant → answers_of sealed.new.items t n ≡ answers_of sealed.old.items t n }
-    ensures room { sealed.old.spare ≤ sealed.new.spare }
+    ensures room { cases.old.spare ≤ cases.new.spare }
+    ensures sealed_room { sealed.old.spare ≤ sealed.new.spare }
 {
-    for case in cases {
-        if !lives(case, today) {
-            sealed.remove(tenant, case.number);
-        }
+    while let Some(number) = cases.take_expired(today) {
+        sealed.remove(tenant, number);
     }
 }
 
-// Drops the reports that are not live, and the sessions that do not last.
-fn drop_dead(cases: &mut Sorted<Case>, sessions: &mut Sorted<Session>, today: Day, time: Moment)
-    ensures cases { map case_of cases.new.items ≡ filter (lives_on today) (map case_of cases.old.items) }
-    ensures sessions { map session_of sessions.new.items ≡ filter (lasts_at time (map case_of cases.new.items)) (map session_of sessions.old.items) }
-    ensures room { cases.old.spare ≤ cases.new.spare }
+// Drops the sessions that do not last.
+fn drop_ended(sessions: &mut Sorted<Session>, cases: &Cases, time: Moment)
+    ensures { map session_of sessions.new.items ≡ filter (lasts_at time (map case_of cases.now.items)) (map session_of sessions.old.items) }
 {
-    cases.drop_passing(&Dead { today });
     sessions.drop_passing(&Ended { time, cases });
 }
 
@@ -82,13 +63,8 @@ pub fn purge(tenancy: &mut Tenancy, sealed: &mut SealedTable, time: Moment)
     ensures sealed_room { sealed.old.spare ≤ sealed.new.spare }
 {
     let today = today_at(tenancy, time);
-    unseal(
-        sealed,
-        tenancy.settings.tenant,
-        tenancy.cases.as_slice(),
-        today,
-    );
-    drop_dead(&mut tenancy.cases, &mut tenancy.sessions, today, time);
+    drop_dead(&mut tenancy.cases, sealed, tenancy.settings.tenant, today);
+    drop_ended(&mut tenancy.sessions, &tenancy.cases, time);
 }
 
 // Purges these tenants.

@@ -13,7 +13,7 @@ use wb_model::{Deed, Entry};
 use wb_terms::day_of;
 
 // The day on which a report expires.
-fn expires(trail: &[Entry]) -> Day
+pub(crate) fn expires(trail: &[Entry]) -> Day
     ensures { result ≡ expires_by trail.now }
 {
     trail
@@ -46,7 +46,7 @@ pub fn live_report(tenancy: &Tenancy, time: Moment, number: u32) -> Option<&Case
     ensures { option_map case_of (option_copied result) ≡ report_by number (live_plain time (plain_of tenancy.now)).cases }
 {
     let today = today_at(tenancy, time);
-    match tenancy.cases.find(&number) {
+    match tenancy.cases.find(number) {
         Some(case) => if lives(case, today) { Some(case) } else { None },
         None => None,
     }

@@ -6,10 +6,10 @@ ghost use Rattle.wb_tables.specs.Kept.{case_of, session_of, plain_of, live_plain
 ghost use Rattle.wb_tables.specs.Places.{IsLookedUp};
 
 use crate::reports::live_report;
-use crate::tenancy::{Case, Session, Tenancy, Who};
+use crate::cases::Cases;
+use crate::tenancy::{Session, Tenancy, Who};
 use wb_access::digest;
 use wb_base::{Digest, Moment, Number, Presented};
-use wb_list::Sorted;
 
 // Whether a session's time is not over.
 fn is_timely(session: &Session, time: Moment) -> bool
@@ -19,10 +19,10 @@ fn is_timely(session: &Session, time: Moment) -> bool
 }
 
 // Whether the report of a number is there.
-fn is_kept(cases: &Sorted<Case>, number: Number) -> bool
+fn is_kept(cases: &Cases, number: Number) -> bool
     ensures { result ≡ is_there number (map case_of cases.now.items) }
 {
-    cases.find(&number.get()).is_some()
+    cases.find(number.get()).is_some()
 }
 
 // Whether the report of a number is live.
@@ -34,7 +34,7 @@ fn is_live_still(tenancy: &Tenancy, time: Moment, number: Number) -> bool
 }
 
 /// Whether a session lasts where these reports are there.
-pub fn lasts(session: &Session, cases: &Sorted<Case>, time: Moment) -> bool
+pub fn lasts(session: &Session, cases: &Cases, time: Moment) -> bool
     ensures { result ≡ lasts_at time (map case_of cases.now.items) (session_of session.now) }
 {
     is_timely(session, time)

@@ -1,5 +1,5 @@
 -- The order of terms: it ties with their sameness, and the terms of a tenant up to a day are a run in it.
-use Rattle.std.proofs.Common.{◌≡◌, ℕ, ℤ, Bool, true, false, ◌&&◌, List, [], ◌∷◌, cond, find, filter, nat_eq, refl, sym, ap, ◌∙◌}
+use Rattle.std.proofs.Common.{◌≡◌, ℕ, ℤ, Bool, true, false, ◌&&◌, List, [], ◌∷◌, cond, find, filter, nat_eq, Some, refl, sym, ap, ◌∙◌}
 use Rattle.std.specs.declared.cmp.Ordering.{Ordering}
 use Rattle.std.specs.declared.cmp.Ordering.TheVariants.{Less, Equal, Greater}
 use Rattle.std.specs.Ordering.{is_eq, is_le, nat_cmp, int_cmp, int_eq, ordering_then, ordering_reverse}
@@ -50,6 +50,13 @@ find-same p q same (x ∷ xs) = rw (same x, find-same p q same xs) refl
 
 pub term-found : (t : Term) (terms : List Term) → find (same_term t) terms ≡ find (has_key term_cmp (λ x. x) t) terms
 term-found t terms = find-same (same_term t) (has_key term_cmp (λ x. x) t) (term_ties t) terms
+
+-- what is found after a term was put in
+pub term-after : (t term : Term) (old new : List Term) → find (has_key term_cmp (λ x. x) t) new ≡ cond (has_key term_cmp (λ x. x) t term) (Some term) (find (has_key term_cmp (λ x. x) t) old) → find (same_term t) new ≡ cond (same_term t term) (Some term) (find (same_term t) old)
+term-after t term old new e =
+    term-found t new
+    ∙ (e ∙ sym (ap (λ b. cond b (Some term) (find (same_term t) old)) (term_ties t term)
+    ∙ ap (λ found. cond (has_key term_cmp (λ x. x) t term) (Some term) found) (term-found t old)))
 
 -- ---- the run of a tenant's terms up to a day
 

@@ -1,5 +1,5 @@
 -- Terms in the order of tenant, day, number and kind, and which are due.
-use Rattle.std.specs.Prelude.{ℕ, ℤ, ◌==◌, ◌&&◌, Bool, true, false, List, map, filter, find, if◌then◌else◌}
+use Rattle.std.specs.Prelude.{ℕ, ℤ, ◌==◌, ◌&&◌, Bool, true, false, List, map, filter, find, Option, if◌then◌else◌}
 use Rattle.std.specs.Ordering.{nat_cmp, int_cmp, int_eq, is_le, ordering_then}
 use Rattle.std.specs.declared.cmp.Ordering.{Ordering}
 use Rattle.std.specs.declared.cmp.Ordering.TheVariants as sides
@@ -21,6 +21,10 @@ same_term term other = (other.tenant == term.tenant) && (int_eq other.day term.d
 -- a term is the tenant's, at or before the day
 abbrev pub is_up_to : ℕ → ℤ → Term → Bool
 is_up_to tenant day term = (term.tenant == tenant) && is_le (int_cmp term.day day)
+
+-- the first of the terms that is of a kind
+abbrev pub first_of : Kind → List Term → Option Term
+first_of kind terms = find (λ term. same_kind term.kind kind) terms
 
 -- the numbers of the terms of a kind, in the order of the terms
 abbrev pub numbers_of : Kind → List Term → List ℕ

@@ -1,8 +1,9 @@
 //! The terms of all reports, in order.
-ghost use Rattle.std.specs.Prelude.{◌≡◌, ◌+◌, ◌<◌, ◌≤◌, [], length, None, IsOk, OnOk, IfOk, IfErr, find, filter, not};
+ghost use Rattle.std.specs.Prelude.{◌≡◌, ◌+◌, ◌<◌, ◌≤◌, [], length, None, Some, IsOk, OnOk, IfOk, IfErr, find, filter, not, if◌then◌else◌};
 ghost use Rattle.std.specs.Option.{is_some};
 ghost use Rattle.wb_list.specs.Keyed.{IsAscending, insert_item};
-ghost use Rattle.wb_terms.specs.Index.{same_kind, same_term, numbers_of as of_kind, numbers_up_to, side_of};
+ghost use Rattle.wb_terms.specs.Index.{same_kind, same_term, is_up_to, first_of, numbers_of as of_kind, numbers_up_to, side_of};
+ghost use Rattle.wb_terms.specs.declared.term_index.Term.{Term as Item};
 
 use std::alloc::Global;
 use std::cmp::Ordering;
@@ -69,6 +70,18 @@ fn numbers_of(alloc: Global, terms: &[Term], kind: Kind) -> Result<Vec<Number>, 
     Ok(numbers)
 }
 
+// The first of the terms that is of a kind.
+fn first_among(terms: &[Term], kind: Kind) -> Option<Term>
+    ensures { result ≡ first_of kind terms.now }
+{
+    for first in terms {
+        if is_kind(first.kind, kind) {
+            return Some(*first);
+        }
+    }
+    None
+}
+
 // Whether two kinds are the same.
 fn is_kind(kind: Kind, other: Kind) -> bool
     ensures { result ≡ same_kind kind other }
@@ -124,6 +137,7 @@ impl TermIndex {
         requires room { 0 < self.old.spare }
         requires free { find (same_term term) self.old.items ≡ None }
         ensures items { self.new.items ≡ insert_item ⟦<Term as Ord>⟧.cmp (λ term. term) self.old.items term }
+        ensures found { (other : Item) → find (same_term other) self.new.items ≡ (if same_term other term then Some term else find (same_term other) self.old.items) }
         ensures room { self.old.spare ≤ self.new.spare + 1 }
     {
         self.terms.add(term);
@@ -137,6 +151,15 @@ impl TermIndex {
         ensures kept { self.old.spare ≤ self.new.spare }
     {
         self.terms.take(term).is_some()
+    }
+
+    /// The first of the tenant's terms of a kind at or before a day. It takes no memory, and looks at the tenant's
+    /// terms up to the day alone.
+    pub fn first_up_to(&self, tenant: Tenant, day: Day, kind: Kind) -> Option<Term>
+        ensures { result ≡ first_of kind (filter (is_up_to tenant day) self.now.items) }
+    {
+        let until = UpTo { tenant, day };
+        first_among(self.terms.run(&until), kind)
     }
 
     /// The numbers of the tenant's terms of a kind at or before a day, by day and number. It takes memory only

@@ -59,4 +59,8 @@ fn main(rt: HostRuntime) -> ExitCode {
 }
 
 #[cfg(test)]
+mod ending_tests;
+#[cfg(test)]
 mod tests;
+#[cfg(test)]
+mod wire_tests;

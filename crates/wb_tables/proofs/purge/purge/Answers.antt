@@ -2,7 +2,6 @@ use Rattle.std.proofs.Common.{None, map, filter, ap, ◌∙◌}
 use Rattle.std.specs.Prelude.{if◌then◌else◌}
 use Rattle.wb_custody.specs.SealedAnswers.{answers_of}
 use Rattle.wb_model.specs.Tables.{is_there}
-use Rattle.wb_tables.specs.Places.{gone_under}
 use Rattle.wb_tables.specs.Kept.{case_of, lives_on}
 use Rattle.wb_tables.proofs.Purges.{gone_is}
 use Rattle.wb_tables.proofs.purge.purge.Goals as goal
@@ -11,6 +10,5 @@ pub returns-clause-here : goal.returns-clause-here
 returns-clause-here c = λ n.
     let cs = map case_of c.args.tenancy.now.cases.items in
     let a = answers_of c.args.sealed.now.items c.args.tenancy.now.settings.tenant n in
-    c.unseal.ensures.here n ∙ (ap (λ ks. gone_under n c.today_at-today.result (map case_of ks) a) c.as_slice.ensures.all
-    ∙ (gone_is n c.today_at-today.result cs a c.requires.1.plain.cases (c.requires.1.unsealed n)
-    ∙ ap (λ d. if is_there n (filter (lives_on d) cs) then a else None) c.today_at-today.ensures))
+    c.drop_dead.ensures.here n ∙ (gone_is n c.today_at-today.result cs a c.requires.1.plain.cases (c.requires.1.unsealed n)
+    ∙ ap (λ d. if is_there n (filter (lives_on d) cs) then a else None) c.today_at-today.ensures)

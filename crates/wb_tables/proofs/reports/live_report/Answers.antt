@@ -7,17 +7,17 @@ use Rattle.wb_tables.proofs.reports.live_report.Goals as goal
 
 pub returns-then-lives : goal.returns-then-lives
 returns-then-lives c =
-    let found = report_kept c.args.tenancy.now c.args.time c.args.number c.today_at-today.result (option_copied c.find.result) c.requires.place.cases c.today_at-today.ensures c.find.ensures.item in
+    let found = report_kept c.args.tenancy.now c.args.time c.args.number c.today_at-today.result (option_copied c.find.result) c.requires.place.cases c.today_at-today.ensures c.find.ensures in
     let at = ap (λ o. kept (lives_on c.today_at-today.result) (option_map case_of (option_copied o))) c.in-Some.is in
     rw (sym c.lives.ensures ∙ c.if-lives.true) at (sym at ∙ found)
 
 pub returns-else-lives : goal.returns-else-lives
 returns-else-lives c =
-    let found = report_kept c.args.tenancy.now c.args.time c.args.number c.today_at-today.result (option_copied c.find.result) c.requires.place.cases c.today_at-today.ensures c.find.ensures.item in
+    let found = report_kept c.args.tenancy.now c.args.time c.args.number c.today_at-today.result (option_copied c.find.result) c.requires.place.cases c.today_at-today.ensures c.find.ensures in
     let at = ap (λ o. kept (lives_on c.today_at-today.result) (option_map case_of (option_copied o))) c.in-Some.is in
     rw (sym c.lives.ensures ∙ c.if-lives.false) at (sym at ∙ found)
 
 pub returns-in-None : goal.returns-in-None
 returns-in-None c =
-    let found = report_kept c.args.tenancy.now c.args.time c.args.number c.today_at-today.result (option_copied c.find.result) c.requires.place.cases c.today_at-today.ensures c.find.ensures.item in
+    let found = report_kept c.args.tenancy.now c.args.time c.args.number c.today_at-today.result (option_copied c.find.result) c.requires.place.cases c.today_at-today.ensures c.find.ensures in
     sym (ap (λ o. kept (lives_on c.today_at-today.result) (option_map case_of (option_copied o))) c.in-None.is) ∙ found

@@ -1,12 +1,10 @@
-use Rattle.std.proofs.Common.{map, sym, ap, ◌∙◌}
-use Rattle.std.specs.Prelude.{option_map}
+use Rattle.std.proofs.Common.{map, ap, ◌∙◌}
 use Rattle.wb_model.specs.Tables.{is_there}
 use Rattle.wb_tables.specs.Kept.{case_of}
-use Rattle.wb_tables.proofs.CaseLists.{report-found}
 use Rattle.wb_tables.proofs.Lookups.{there_found}
 use Rattle.wb_tables.proofs.sessions.is_kept.Goals as goal
 
 pub returns : goal.returns
 returns c =
     let cs = map case_of c.args.cases.now.items in
-    c.is_some.ensures ∙ (there_found c.get.result cs c.find.result (ap (option_map case_of) c.find.ensures.item ∙ sym (report-found c.get.result c.args.cases.now.items)) ∙ ap (λ n. is_there n cs) c.get.ensures.value)
+    c.is_some.ensures ∙ (there_found c.get.result cs c.find.result c.find.ensures ∙ ap (λ n. is_there n cs) c.get.ensures.value)

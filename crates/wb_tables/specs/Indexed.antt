@@ -1,0 +1,41 @@
+-- The reports of a tenant, and the index of the days on which they expire.
+use Rattle.std.specs.Prelude.{◌≡◌, ℕ, ℤ, ◌==◌, not, Bool, true, List, length, filter}
+use Rattle.std.specs.List.{list_any, list_all}
+use Rattle.wb_base.specs.declared.kind.Kind.TheVariants.{Expiry}
+use Rattle.wb_model.specs.Opened.{Apart}
+use Rattle.wb_model.specs.Tables.{Case, has_number}
+use Rattle.wb_model.specs.Trails.{expires}
+use Rattle.wb_terms.specs.Index.{same_term}
+use Rattle.wb_terms.specs.declared.term_index.Term.{Term}
+use Rattle.wb_tables.specs.Lives.{lives_on, is_dead}
+use Rattle.wb_tables.specs.declared.tenancy.Case.{Case as KeptCase}
+
+-- what is seen of the table: whose reports they are, the reports, and the room for more
+pub record Reports : Type 0 where
+  pub tenant : ℕ
+  pub items : List KeptCase
+  pub spare : ℕ
+
+-- a report expires on a day
+abbrev pub expiry_of : ℕ → Case → Term
+expiry_of tenant c = record { tenant = tenant; day = expires c.trail; number = c.number; kind = Expiry }
+
+-- a report has an entry
+abbrev pub is_begun : Case → Bool
+is_begun c = not (length c.trail == 0)
+
+-- the index has the expiry of each report, and nothing else
+pub record IsIndexed (tenant : ℕ) (cs : List Case) (ts : List Term) : Type 0 where
+  pub apart : Apart has_number cs
+  pub begun : list_all is_begun cs ≡ true
+  pub terms : (t : Term) → list_any (same_term t) ts ≡ list_any (λ c. same_term t (expiry_of tenant c)) cs
+
+-- these are the numbers of the reports that do not live on this day, in whatever order
+abbrev pub AreExpired : ℤ → List Case → List ℕ → Type 0
+AreExpired today cs ns = (n : ℕ) → list_any (λ m. m == n) ns ≡ is_dead n today cs
+
+-- a report that does not live on this day was taken out
+pub record IsTakenOut (today : ℤ) (n : ℕ) (old new : List Case) : Type 0 where
+  pub dead : is_dead n today old ≡ true
+  pub left : new ≡ filter (λ c. not (has_number n c)) old
+  pub live : filter (lives_on today) new ≡ filter (lives_on today) old

@@ -1,0 +1,17 @@
+-- A report as it is kept, and the days on which it lives.
+use Rattle.std.specs.Prelude.{ℕ, ℤ, ◌==◌, ◌&&◌, not, int_lt, Bool, List, length}
+use Rattle.std.specs.List.{list_any}
+use Rattle.wb_model.specs.Tables.{Case, has_number}
+use Rattle.wb_model.specs.Trails.{expires}
+use Rattle.wb_tables.specs.declared.tenancy.Case.{Case as KeptCase}
+
+abbrev pub case_of : KeptCase → Case
+case_of c = record { number = c.number; trail = c.trail.items }
+
+-- a report has a trail and expires after this day
+abbrev pub lives_on : ℤ → Case → Bool
+lives_on today c = not (length c.trail == 0) && int_lt today (expires c.trail)
+
+-- the report of a number is there, and does not live on this day
+abbrev pub is_dead : ℕ → ℤ → List Case → Bool
+is_dead n today cs = list_any (λ c. has_number n c && not (lives_on today c)) cs

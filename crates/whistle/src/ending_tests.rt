@@ -1,0 +1,164 @@
+use crate::tests::{
+    BRIBE, Ends, ROOM, play, post, push, push_reply, request, rows, script_of, source,
+};
+use crate::{Status, exit_line, rows_in_memory, run, run_to_end};
+use std::alloc::Global;
+use std::test::Fail;
+use wb_base::{MemSink, MemSource, Text};
+
+// The script of one submission, with so many more or fewer bytes said than there are.
+fn misread(alloc: Global, said: &str) -> Result<Vec<u8>, Fail> {
+    let request = request(alloc, &post(BRIBE, (201, "", "", "")))?;
+    let line = format!(in alloc;
+        "@1735689600 0000000000000000 000000000000002a 0000000000000000 0000000000000000 {said}\n"
+    )?;
+    let mut script = Vec::new(alloc);
+    push(&mut script, line.as_bytes())?;
+    push(&mut script, request.as_bytes())?;
+    push(&mut script, b"\n")?;
+    Ok(script)
+}
+
+#[test]
+fn a_frame_that_is_not_of_the_form_ends_the_run(rt: HostRuntime) -> Result<(), Fail> {
+    let alloc = rt.alloc();
+    let ends = Ends {
+        size: 1_000,
+        reads: &[],
+        writes: &[],
+    };
+    for said in [
+        "111",
+        "113",
+        "0112",
+        "112\r",
+        " 112",
+        "300001",
+        "18446744073709551728",
+    ] {
+        assert!(rt; play(alloc, &misread(alloc, said)?, &ends)?.0 == Status::BadFrame(1));
+    }
+    for script in [
+        b"@1735689600 0 0 0 0 5\n".as_slice(),
+        b"\0\xff\x80@\n",
+        b"@",
+        b"\n",
+    ] {
+        assert!(rt; play(alloc, script, &ends)?.0 == Status::BadFrame(1));
+    }
+    let line = vec![in alloc; b'@'; 10_000_000]?;
+    assert!(rt; play(alloc, &line, &ends)?.0 == Status::BadFrame(1));
+    assert!(rt; play(alloc, b"", &ends)?.0 == Status::Done);
+    assert!(rt; play(alloc, &misread(alloc, "112")?, &ends)?.0 == Status::Done);
+    Ok(())
+}
+
+#[test]
+fn the_replies_before_a_fault_stand(rt: HostRuntime) -> Result<(), Fail> {
+    let alloc = rt.alloc();
+    let all = rows(BRIBE);
+    let (script, _) = script_of(alloc, &all)?;
+    let mut first = Vec::new(alloc);
+    push_reply(alloc, &mut first, all[0].reply)?;
+    let read = Ends {
+        size: 1_000,
+        reads: &[100],
+        writes: &[],
+    };
+    let (status, held) = play(alloc, &script, &read)?;
+    assert!(rt; status == Status::ReadFault && held == first);
+    let written = Ends {
+        size: 1_000,
+        reads: &[],
+        writes: &[5],
+    };
+    let (status, held) = play(alloc, &script, &written)?;
+    assert!(rt; status == Status::WriteFault && held == first);
+    let at_once = Ends {
+        size: 1_000,
+        reads: &[],
+        writes: &[1],
+    };
+    let (status, held) = play(alloc, &script, &at_once)?;
+    assert!(rt; status == Status::WriteFault && held.is_empty());
+    Ok(())
+}
+
+#[test]
+fn other_words_are_no_form(rt: HostRuntime) -> Result<(), Fail> {
+    let alloc = rt.alloc();
+    for words in [[].as_slice(), &["plays"], &["play", "play"], &["--help"]] {
+        let mut texts = Vec::new(alloc);
+        for word in words {
+            texts.push(Text::from_str(alloc, word)?)?;
+        }
+        let mut source = MemSource::new(Vec::new(alloc), Vec::new(alloc), Vec::new(alloc));
+        let mut sink = MemSink::new(Vec::new(alloc), 0, Vec::new(alloc))?;
+        let status = run(
+            alloc,
+            &texts,
+            &mut source,
+            &mut sink,
+            &mut rows_in_memory(alloc),
+        );
+        assert!(rt; status == Status::Usage);
+    }
+    Ok(())
+}
+
+#[test]
+fn each_status_has_its_line(rt: HostRuntime) -> Result<(), Fail> {
+    let alloc = rt.alloc();
+    let lines = [
+        (Status::Done, 0, ""),
+        (Status::ReadFault, 3, "read fault\n"),
+        (Status::WriteFault, 4, "write fault\n"),
+        (Status::NoMemory, 5, "no memory\n"),
+        (
+            Status::BadFrame(18_446_744_073_709_551_615),
+            6,
+            "bad frame 18446744073709551615\n",
+        ),
+        (Status::TooLong, 10, "input too long\n"),
+    ];
+    for (status, number, line) in lines {
+        let mut sink = MemSink::new(Vec::new(alloc), ROOM, Vec::new(alloc))?;
+        assert!(rt; exit_line(&status, &mut sink).is_ok());
+        assert!(rt; sink.held() == line.as_bytes() && status.number() == number);
+    }
+    let mut sink = MemSink::new(Vec::new(alloc), ROOM, [1].to_vec(alloc)?)?;
+    assert!(rt; exit_line(&Status::Usage, &mut sink).is_err());
+    Ok(())
+}
+
+#[test]
+fn the_program_ends_with_the_number_and_the_line_of_its_status(
+    rt: HostRuntime,
+) -> Result<(), Fail> {
+    let alloc = rt.alloc();
+    for (word, script, number, line) in [
+        ("play", b"".as_slice(), 0, ""),
+        ("play", b"@".as_slice(), 6, "bad frame 1\n"),
+        (
+            "serve",
+            b"".as_slice(),
+            2,
+            "usage: whistle play [--store PATH], make N, tally N, serve --setup PATH --listen ADDRESS --workers N [--store PATH]\n",
+        ),
+    ] {
+        let mut source = source(alloc, script, 1, &[])?;
+        let mut sink = MemSink::new(Vec::new(alloc), ROOM, Vec::new(alloc))?;
+        let mut errors = MemSink::new(Vec::new(alloc), ROOM, Vec::new(alloc))?;
+        let ended = run_to_end(
+            alloc,
+            &[Text::from_str(alloc, word)?],
+            &mut source,
+            &mut sink,
+            &mut rows_in_memory(alloc),
+            &mut errors,
+        );
+        assert!(rt; ended == number && errors.held() == line.as_bytes());
+        assert!(rt; sink.held().is_empty());
+    }
+    Ok(())
+}
