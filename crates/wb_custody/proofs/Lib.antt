@@ -1,1 +1,4 @@
 pub mod SealedLookups
+pub mod RequestLists
+pub mod LegalRequests
+pub mod Refusals

@@ -1,1 +1,3 @@
 pub mod SealedAnswers
+pub mod Desks
+pub mod Plans
