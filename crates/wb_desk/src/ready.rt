@@ -50,11 +50,7 @@ pub struct Unnamed {
 }
 
 // Makes room for a report: in a new trail, in the table of reports, and among the identity answers.
-fn make_room(
-    alloc: Global,
-    cases: &mut Cases,
-    sealed: &mut SealedTable,
-) -> Result<Trail, Memory>
+fn make_room(alloc: Global, cases: &mut Cases, sealed: &mut SealedTable) -> Result<Trail, Memory>
     ensures cases { cases.new.items ≡ cases.old.items }
     ensures sealed { sealed.new.items ≡ sealed.old.items }
     ensures empty { IfOk result (λ trail. trail.items ≡ []) }

@@ -361,10 +361,10 @@ module _ (tenant : ℕ) (today : ℤ) (cs : List Case) (terms : List Term) (h : 
           let other : not (same_term t u) ≡ true = ap (λ x. not (same_term t x)) (sym is) ∙ second_and (same_term u g.item) _ g.passes in
           let o = of_term tenant cs terms u h (g.one (same_term u) (first_and (same_term u g.item) _ g.passes)) in
           let apart : has_number t.number o.case ≡ false = not_of (has_number t.number o.case) (λ hit.
-              let both = same_one (λ c. same_term t (expiry_of tenant c)) (λ c. same_term u (expiry_of tenant c)) t.number cs h.apart named (o.one (λ c. has_number t.number c && same_term u (expiry_of tenant c)) (both_and (has_number t.number o.case) (same_term u (expiry_of tenant o.case)) hit (ap (same_term u) o.is ∙ term_self u))) in
-              let a = term_is t (expiry_of tenant both.item) (first_and (same_term t (expiry_of tenant both.item)) _ both.passes) in
-              let b = term_is u (expiry_of tenant both.item) (second_and (same_term t (expiry_of tenant both.item)) _ both.passes) in
-              no_of (same_term t u) other (ap (same_term t) (sym b ∙ a) ∙ term_self t)) in
+          let both = same_one (λ c. same_term t (expiry_of tenant c)) (λ c. same_term u (expiry_of tenant c)) t.number cs h.apart named (o.one (λ c. has_number t.number c && same_term u (expiry_of tenant c)) (both_and (has_number t.number o.case) (same_term u (expiry_of tenant o.case)) hit (ap (same_term u) o.is ∙ term_self u))) in
+          let a = term_is t (expiry_of tenant both.item) (first_and (same_term t (expiry_of tenant both.item)) _ both.passes) in
+          let b = term_is u (expiry_of tenant both.item) (second_and (same_term t (expiry_of tenant both.item)) _ both.passes) in
+          no_of (same_term t u) other (ap (same_term t) (sym b ∙ a) ∙ term_self t)) in
           o.one (λ c. same_term u (expiry_of tenant c) && not (has_number t.number c)) (both_and (same_term u (expiry_of tenant o.case)) (not (has_number t.number o.case)) (ap (same_term u) o.is ∙ term_self u) (not_is (has_number t.number o.case) apart))
 
       back : list_any (λ c. same_term u (expiry_of tenant c) && not (has_number t.number c)) cs ≡ true → list_any (λ x. same_term u x && not (same_term t x)) terms ≡ true
@@ -375,21 +375,22 @@ module _ (tenant : ℕ) (today : ℤ) (cs : List Case) (terms : List Term) (h : 
           let apart = second_and (same_term u (expiry_of tenant c)) _ g.passes in
           let is = term_is u (expiry_of tenant c) here in
           let other : same_term t (expiry_of tenant c) ≡ false = not_of (same_term t (expiry_of tenant c)) (λ hit.
-              let same = term_is t (expiry_of tenant c) hit in
-              let self : (t.number == t.number) ≡ true = grind (arith, nat_tests) in
-              no_of (has_number t.number c) apart (ap (λ (x : Term). x.number == t.number) same ∙ self)) in
+          let same = term_is t (expiry_of tenant c) hit in
+          let self : (t.number == t.number) ≡ true = grind (arith, nat_tests) in
+          no_of (has_number t.number c) apart (ap (λ (x : Term). x.number == t.number) same ∙ self)) in
           in_index tenant cs terms c h g.one (λ x. same_term u x && not (same_term t x)) (both_and (same_term u (expiry_of tenant c)) (not (same_term t (expiry_of tenant c))) here (not_is (same_term t (expiry_of tenant c)) other))
 
   pub taken : (t : Term) → Some t ≡ first_of Expiry (filter (is_up_to tenant today) terms) → IsTakenOut today t.number cs (without t.number cs) × IsIndexed tenant (without t.number cs) (filter (λ x. not (same_term t x)) terms)
   taken t e =
       let f = first is_first terms t (sym (find_filter (λ x. same_kind x.kind Expiry) (is_up_to tenant today) terms) ∙ sym e) in
-      let dead = taken_dead t f in
-      (record { dead = dead; left = refl; live = left_live today t.number cs (taken_live t.number dead) },
-      record {
-        apart = apart_filter has_number (λ c. not (has_number t.number c)) cs h.apart;
-        begun = all_filter is_begun (λ c. not (has_number t.number c)) cs h.begun;
-        terms = left_terms t f;
-      })
+      let dead = taken_dead t f in (
+        record { dead = dead; left = refl; live = left_live today t.number cs (taken_live t.number dead) },
+        record {
+          apart = apart_filter has_number (λ c. not (has_number t.number c)) cs h.apart;
+          begun = all_filter is_begun (λ c. not (has_number t.number c)) cs h.begun;
+          terms = left_terms t f;
+        },
+      )
 
   pub all_live : None ≡ first_of Expiry (filter (is_up_to tenant today) terms) → list_any (λ c. not (lives_on today c)) cs ≡ false
   all_live e = not_of (list_any (λ c. not (lives_on today c)) cs) (λ some.

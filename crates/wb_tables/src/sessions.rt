@@ -5,8 +5,8 @@ ghost use Rattle.wb_model.specs.Tables.{is_there, same_digest, lasts as lasts_at
 ghost use Rattle.wb_tables.specs.Kept.{case_of, session_of, plain_of, live_plain, is_session};
 ghost use Rattle.wb_tables.specs.Places.{IsLookedUp};
 
-use crate::reports::live_report;
 use crate::cases::Cases;
+use crate::reports::live_report;
 use crate::tenancy::{Session, Tenancy, Who};
 use wb_access::digest;
 use wb_base::{Digest, Moment, Number, Presented};
