@@ -1,6 +1,6 @@
 use Rattle.std.specs.List.Sorted.{IsStrictlySortedBy}
 use Rattle.whistle.proofs.tests.keeper_failing_at.Goals as goal
 
-pub new-requires : goal.new-requires
+pub new-requires-2 : goal.new-requires-2
 unfolding IsStrictlySortedBy
-new-requires c = rw c.new.ensures.items tt
+new-requires-2 c = rw c.new.ensures.items tt
