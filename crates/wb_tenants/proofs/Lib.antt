@@ -6,3 +6,7 @@ pub mod LookUps
 pub mod Versions
 pub mod PlainRows
 pub mod Readers
+pub mod TenantParts
+pub mod InOrder
+pub mod TenantSettings
+pub mod UserFaults

@@ -69,8 +69,8 @@ impl<T: Placed> Spare<T> {
         wider
     }
 
-    /// Puts an item into a list at its place, instead of one with its key if there is one. It takes no memory.
-    pub fn put_in(&mut self, list: &mut Items<T>, item: T)
+    // Puts an item into a list at its place, instead of one with its key if there is one.
+    fn placed_in(&mut self, list: &mut Items<T>, item: T)
         requires order { IsAscending T.Key.cmp T.key_of list.old }
         requires room { length list.old < self.old }
         ensures { list.new ≡ insert_item T.Key.cmp T.key_of list.old item }
@@ -86,10 +86,20 @@ impl<T: Placed> Spare<T> {
         }
         *list = Items::of(items);
     }
+
+    /// Puts an item into a list at its place, instead of one with its key if there is one. It takes no memory.
+    pub fn put_in(&mut self, list: &mut Items<T>, item: T)
+        requires order { IsAscending T.Key.cmp T.key_of list.old }
+        requires room { length list.old < self.old }
+        ensures list { list.new ≡ insert_item T.Key.cmp T.key_of list.old item }
+        ensures order { IsAscending T.Key.cmp T.key_of list.new }
+    {
+        self.placed_in(list, item);
+    }
 }
 
-/// Puts an item into a list instead of the one with its key. It takes no memory.
-pub fn replace_in<T: Placed>(list: &mut Items<T>, item: T)
+// Puts an item into a list instead of the one with its key.
+fn replaced_in<T: Placed>(list: &mut Items<T>, item: T)
     requires order { IsAscending T.Key.cmp T.key_of list.old }
     requires there { is_some (find (has_key T.Key.cmp T.key_of (T.key_of item)) list.old) ≡ true }
     ensures { list.new ≡ insert_item T.Key.cmp T.key_of list.old item }
@@ -101,4 +111,14 @@ pub fn replace_in<T: Placed>(list: &mut Items<T>, item: T)
         Err(_) => unreachable!(),
     }
     *list = Items::of(items);
+}
+
+/// Puts an item into a list instead of the one with its key. It takes no memory.
+pub fn replace_in<T: Placed>(list: &mut Items<T>, item: T)
+    requires order { IsAscending T.Key.cmp T.key_of list.old }
+    requires there { is_some (find (has_key T.Key.cmp T.key_of (T.key_of item)) list.old) ≡ true }
+    ensures list { list.new ≡ insert_item T.Key.cmp T.key_of list.old item }
+    ensures order { IsAscending T.Key.cmp T.key_of list.new }
+{
+    replaced_in(list, item);
 }

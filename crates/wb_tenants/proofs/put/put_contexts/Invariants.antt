@@ -1,4 +1,4 @@
-use Rattle.std.proofs.Common.{◌≡◌, [], drop, fold}
+use Rattle.std.proofs.Common.{◌≡◌, drop, fold}
 use Rattle.wb_list.specs.Keyed.{IsAscending}
 use Rattle.wb_tenants.specs.Keys.{key_cmp, context_key}
 use Rattle.wb_tenants.specs.Setups.{put_context, put_contexts}
