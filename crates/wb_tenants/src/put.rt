@@ -3,7 +3,7 @@ ghost use Rattle.std.specs.Prelude.{◌≡◌, [], IfOk, OnOk, fold};
 ghost use Rattle.std.specs.Ordering.{nat_cmp};
 ghost use Rattle.wb_list.specs.Keyed.{IsAscending};
 ghost use Rattle.wb_model.specs.Settings.{ascending as ascending_of};
-ghost use Rattle.wb_tenants.specs.Keys.{key_cmp, user_key, context_key};
+ghost use Rattle.wb_tenants.specs.Keys.{AreInOrder, tenant_key, key_cmp, user_key, version_key, context_key};
 ghost use Rattle.wb_tenants.specs.Setups.{tenant_item as tenant_item_of, user_item as user_item_of, context_item as context_item_of, put_tenant, put_user, put_users as put_users_of, put_form, put_context, put_contexts as put_contexts_of, lists_of as lists_by};
 
 use crate::given::{GivenContext, GivenTenant, GivenUser};
@@ -77,7 +77,8 @@ fn context_item(
 }
 
 fn tenants_of(alloc: Global, tenants: &[GivenTenant]) -> Result<Items<TenantItem>, Memory>
-    ensures { IfOk result (λ items. items ≡ fold put_tenant [] tenants.now) }
+    ensures all { IfOk result (λ items. items ≡ fold put_tenant [] tenants.now) }
+    ensures order { IfOk result (λ items. IsAscending nat_cmp tenant_key items) }
 {
     let mut items = nothing(alloc);
     for tenant in tenants {
@@ -98,7 +99,8 @@ fn put_users(items: &mut Vec<UserItem>, tenant: &GivenTenant) -> Result<(), Memo
 }
 
 fn users_of(alloc: Global, tenants: &[GivenTenant]) -> Result<Items<UserItem>, Memory>
-    ensures { IfOk result (λ items. items ≡ fold put_users_of [] tenants.now) }
+    ensures all { IfOk result (λ items. items ≡ fold put_users_of [] tenants.now) }
+    ensures order { IfOk result (λ items. IsAscending key_cmp user_key items) }
 {
     let mut items = nothing(alloc);
     for tenant in tenants {
@@ -123,7 +125,8 @@ fn put_contexts(
 }
 
 fn contexts_of(alloc: Global, tenants: &[GivenTenant]) -> Result<Items<ContextItem>, Memory>
-    ensures { IfOk result (λ items. items ≡ fold put_contexts_of [] tenants.now) }
+    ensures all { IfOk result (λ items. items ≡ fold put_contexts_of [] tenants.now) }
+    ensures order { IfOk result (λ items. IsAscending key_cmp context_key items) }
 {
     let mut items = nothing(alloc);
     for tenant in tenants {
@@ -133,7 +136,8 @@ fn contexts_of(alloc: Global, tenants: &[GivenTenant]) -> Result<Items<ContextIt
 }
 
 fn forms_of(alloc: Global, forms: Items<FormItem>) -> Result<Items<FormItem>, Memory>
-    ensures { IfOk result (λ items. items ≡ fold put_form [] forms) }
+    ensures all { IfOk result (λ items. items ≡ fold put_form [] forms) }
+    ensures order { IfOk result (λ items. IsAscending key_cmp version_key items) }
 {
     let mut items = nothing(alloc);
     for form in forms.into_vec() {
@@ -148,7 +152,8 @@ pub fn lists_of(
     given: &[GivenTenant],
     forms: Items<FormItem>,
 ) -> Result<Lists, Memory>
-    ensures { IfOk result (λ lists. lists ≡ lists_by given.now forms) }
+    ensures all { IfOk result (λ lists. lists ≡ lists_by given.now forms) }
+    ensures order { IfOk result (λ lists. AreInOrder lists) }
 {
     let tenants = tenants_of(alloc, given)?;
     let users = users_of(alloc, given)?;

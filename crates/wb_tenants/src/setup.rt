@@ -1,5 +1,6 @@
 //! The setup of a host.
 ghost use Rattle.std.specs.Prelude.{◌≡◌, ◌≢◌, Ok, Err, IfOk, IfErr, Some};
+ghost use Rattle.wb_tenants.specs.Keys.{AreInOrder};
 ghost use Rattle.wb_tenants.specs.Setups.{setup as setup_of, with_forms as by_forms, with_tenants as by_tenants};
 ghost use Rattle.wb_tenants.specs.GivesLists.{GivesLists};
 ghost use Rattle.wb_tenants.specs.declared.setup.SetupFault.TheVariants.{Memory as NoMemory};
@@ -45,7 +46,8 @@ fn with_forms(
     tenants: &[GivenTenant],
     forms: Items<FormItem>,
 ) -> Result<Lists, SetupFault>
-    ensures { GivesLists (by_forms tenants.now (Some forms)) result }
+    ensures lists { GivesLists (by_forms tenants.now (Some forms)) result }
+    ensures order { IfOk result (λ lists. AreInOrder lists) }
 {
     if !rule_7(tenants) {
         return Err(SetupFault::Rule(7));
@@ -61,7 +63,8 @@ fn with_forms(
 
 // The lists, by the rules after the first.
 fn with_tenants(alloc: Global, tenants: &[GivenTenant]) -> Result<Lists, SetupFault>
-    ensures { GivesLists (by_tenants (Some tenants.now)) result }
+    ensures lists { GivesLists (by_tenants (Some tenants.now)) result }
+    ensures order { IfOk result (λ lists. AreInOrder lists) }
 {
     if !rule_2(tenants) {
         return Err(SetupFault::Rule(2));
@@ -86,6 +89,7 @@ impl Setup {
     /// The setup that bytes are, or why they are none: no TOML document, or the least rule that is broken.
     pub fn read(alloc: Global, bytes: &[u8]) -> Result<Setup, SetupFault>
         ensures ok { IfOk result (λ s. setup_of bytes.now ≡ Ok s.lists) }
+        ensures order { IfOk result (λ s. AreInOrder s.lists) }
         ensures fault { IfErr result (λ e. e ≢ SetupFault.Memory → setup_of bytes.now ≡ Err e) }
     {
         let value = match read_document(alloc, bytes) {
