@@ -1,5 +1,5 @@
 -- What is left to refuse of a user with a password, whose name is free.
-use Rattle.std.proofs.Common.{◌≡◌, ℕ, ◌≤◌, ◌==◌, ◌&&◌, ◌||◌, nat_le, not, true, List, find, None, is_some, refl, ◌∙◌, sym}
+use Rattle.std.proofs.Common.{◌≡◌, ℕ, ◌≤◌, ◌==◌, ◌&&◌, ◌||◌, nat_le, not, true, List, find, None, is_some, refl}
 use Rattle.std.proofs.lemmas.Bool.{le-leb}
 use Rattle.std.specs.Option.{option_or}
 use Rattle.wb_base.specs.AnswerList.{is_text}

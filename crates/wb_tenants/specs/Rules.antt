@@ -1,8 +1,7 @@
 -- The rules of a setup after the first, each over the whole setup: which stands, and the least that is broken.
-use Rattle.std.specs.Prelude.{ℕ, ◌==◌, ◌&&◌, Bool, true, false, not, if◌then◌else◌, List, [], ◌∷◌, ◌++◌, Option, Some, None, is_some, option_map, option_and_then}
+use Rattle.std.specs.Prelude.{ℕ, ◌==◌, ◌&&◌, Bool, List, [], ◌∷◌, ◌++◌, Option, Some, is_some, option_map, option_and_then}
 use Rattle.std.specs.List.{list_all, list_any}
 use Rattle.std.specs.Result.{result_ok}
-use Rattle.wb_base.specs.declared.callers.Role.{Role}
 use Rattle.wb_base.specs.declared.callers.Role.TheVariants.{Recipient}
 use Rattle.wb_base.specs.declared.form.Form.{Form}
 use Rattle.wb_base.specs.AnswerList.{is_text}
