@@ -1,0 +1,12 @@
+pub mod Walks
+pub mod TomlViews
+pub mod Runs
+pub mod TenantRuns
+pub mod LookUps
+pub mod Versions
+pub mod PlainRows
+pub mod Readers
+pub mod TenantParts
+pub mod InOrder
+pub mod TenantSettings
+pub mod UserFaults

@@ -1,0 +1,29 @@
+//! The setup of a host, and the registry of its tenants.
+#![tactic(auto)]
+
+mod contexts;
+mod copies;
+mod forms;
+mod given;
+mod laws;
+mod ordered;
+mod owned;
+mod parts;
+mod put;
+mod reading;
+mod registry;
+mod rows;
+mod rules;
+mod settings;
+mod setup;
+mod spare;
+mod toml_values;
+mod users;
+
+pub use laws::{
+    a_context_is_set_in_its_tenant_alone, a_form_is_set_in_its_tenant_alone,
+    a_user_is_set_in_its_tenant_alone, settings_are_set_in_their_tenant_alone,
+};
+pub use registry::Registry;
+pub use rows::{context_row, form_row, settings_row, user_row};
+pub use setup::{Setup, SetupFault};
