@@ -1,0 +1,4 @@
+pub mod Counts
+pub mod StoredRows
+pub mod Statements
+pub mod Standing

@@ -1,0 +1,72 @@
+-- What a batch of changes is in the database: its statements in turn, in one transaction.
+use Rattle.std.specs.Prelude.{◌≡◌, ℕ, pos, List, [], ◌∷◌, ◌++◌, Ok, codes, ◌==◌, if◌then◌else◌, true}
+use Rattle.sqlite_value.specs.declared.value.Value.TheVariants.{Int, Text}
+use Rattle.sqlite_value.specs.Order.{Row as SqlRow}
+use Rattle.sqlite_trees.specs.declared.store.Store.{Ghosts}
+use Rattle.sqlite.specs.Held.{Held, state}
+use Rattle.sqlite.specs.State.{ExecutesInside}
+use Rattle.wb_base.specs.declared.rows.Row.{Row}
+use Rattle.wb_base.specs.declared.rows.Change.{Change}
+use Rattle.wb_base.specs.declared.rows.Change.TheVariants.{Put, DropReport}
+
+-- a statement and its parameters
+pub record Statement : Type 0 where
+  pub text : List ℕ
+  pub given : SqlRow
+
+-- the two tables
+abbrev pub make_record : Statement
+make_record = record { text = codes "CREATE TABLE IF NOT EXISTS record (kind INTEGER NOT NULL, tenant INTEGER NOT NULL, a INTEGER NOT NULL, b INTEGER NOT NULL, body TEXT NOT NULL, PRIMARY KEY (kind, tenant, a, b))"; given = [] }
+
+abbrev pub make_sealed : Statement
+make_sealed = record { text = codes "CREATE TABLE IF NOT EXISTS sealed (tenant INTEGER NOT NULL, a INTEGER NOT NULL, body TEXT NOT NULL, PRIMARY KEY (tenant, a))"; given = [] }
+
+abbrev pub make_tables : List Statement
+make_tables = make_record ∷ make_sealed ∷ []
+
+-- the text under a row's key
+abbrev pub put_record : Row → Statement
+put_record row = record {
+  text = codes "INSERT INTO record (kind, tenant, a, b, body) VALUES (?1, ?2, ?3, ?4, ?5) ON CONFLICT (kind, tenant, a, b) DO UPDATE SET body = excluded.body";
+  given = Int (pos row.key.kind) ∷ Int (pos row.key.tenant) ∷ Int (pos row.key.a) ∷ Int (pos row.key.b) ∷ Text row.text ∷ [];
+}
+
+abbrev pub put_sealed : Row → Statement
+put_sealed row = record {
+  text = codes "INSERT INTO sealed (tenant, a, body) VALUES (?1, ?2, ?3) ON CONFLICT (tenant, a) DO UPDATE SET body = excluded.body";
+  given = Int (pos row.key.tenant) ∷ Int (pos row.key.a) ∷ Text row.text ∷ [];
+}
+
+-- a report's trail, and its sealed answers
+abbrev pub drop_trail : ℕ → ℕ → Statement
+drop_trail tenant number = record { text = codes "DELETE FROM record WHERE kind = 6 AND tenant = ?1 AND a = ?2"; given = Int (pos tenant) ∷ Int (pos number) ∷ [] }
+
+abbrev pub drop_sealed : ℕ → ℕ → Statement
+drop_sealed tenant number = record { text = codes "DELETE FROM sealed WHERE tenant = ?1 AND a = ?2"; given = Int (pos tenant) ∷ Int (pos number) ∷ [] }
+
+-- the statements of a change
+abbrev pub statements_of : Change → List Statement
+statements_of (Put row) = (if row.key.kind == 7 then put_sealed row else put_record row) ∷ []
+statements_of (DropReport tenant number) = drop_trail tenant number ∷ drop_sealed tenant number ∷ []
+
+-- the statements of changes in turn
+abbrev pub all_statements : List Change → List Statement
+all_statements [] = []
+all_statements (change ∷ changes) = statements_of change ++ all_statements changes
+
+-- the statements were made in turn inside a transaction
+abbrev pub Makes : {S : Type 0} → Ghosts S → List Statement → Held S → Held S → Type 0
+Makes g [] old new = new ≡ old
+Makes {S} g (first ∷ rest) old new = (mid : Held S) × (count : ℕ) × ExecutesInside 0 first.text first.given (state g old) (state g mid) (Ok count) × Makes g rest mid new
+
+-- the tables were made where they were not there, then all changes were, in one transaction, and it is committed
+pub record CommitsAll {S : Type 0} (g : Ghosts S) (changes : List Change) (old new : Held S) : Type 0 where
+  pub last : Held S
+  pub made : Makes g (make_tables ++ all_statements changes) (record old { in_transaction = true }) last
+  pub committed : (state g new).committed ≡ (state g last).now
+  pub now : (state g new).now ≡ (state g last).now
+
+-- the database is as it was last committed
+pub record IsAsCommitted {S : Type 0} (g : Ghosts S) (old new : Held S) : Type 0 where
+  pub now : (state g new).now ≡ (state g old).committed
+  pub committed : (state g new).committed ≡ (state g old).committed

@@ -1,0 +1,103 @@
+//! What a keeper asks of a database.
+ghost use Rattle.std.specs.Prelude.{◌≡◌, false, IsTrue, IfOk, OnOk, OnErr};
+ghost use Rattle.sqlite.specs.Held.{state};
+ghost use Rattle.sqlite.specs.State.{HasCleanDisk};
+ghost use Rattle.wb_list.specs.Keyed.{IsAscending};
+ghost use Rattle.wb_base.specs.KeptRows.{key_cmp, key_of};
+ghost use Rattle.wb_sqlite.specs.Statements.{CommitsAll, IsAsCommitted};
+
+use crate::refusal::Refusal;
+use crate::statements::{make, make_all};
+use crate::stored::{add, record_row, sealed_row};
+use sqlite::{Alter, Connection};
+use std::alloc::Global;
+use wb_base::{Change, Row};
+use wb_list::Sorted;
+
+const READ_RECORD: &str = "SELECT kind, tenant, a, b, body FROM record ORDER BY kind, tenant, a, b";
+
+const READ_SEALED: &str = "SELECT tenant, a, body FROM sealed ORDER BY tenant, a";
+
+/// Makes all changes in turn in one transaction, or none.
+pub(crate) fn apply_all<S: Alter>(
+    conn: &mut Connection<S>,
+    changes: &[Change],
+) -> Result<(), Refusal>
+    requires { conn.old.in_transaction ≡ false }
+    ensures idle { conn.new.in_transaction ≡ false }
+    ensures made { HasCleanDisk (state S.Store conn.new) → OnOk result (CommitsAll S.Store changes.now conn.old conn.new) }
+    ensures kept { HasCleanDisk (state S.Store conn.new) → IsTrue (state S.Store conn.new).is_open → OnErr result (IsAsCommitted S.Store conn.old conn.new) }
+{
+    let mut tx = conn.transaction();
+    make(&mut tx)?;
+    make_all(&mut tx, changes)?;
+    tx.commit()?;
+    Ok(())
+}
+
+// Makes the tables that are not there, in a transaction of their own.
+fn make_tables<S: Alter>(conn: &mut Connection<S>) -> Result<(), Refusal>
+    requires { conn.old.in_transaction ≡ false }
+    ensures { conn.new.in_transaction ≡ false }
+{
+    let mut tx = conn.transaction();
+    make(&mut tx)?;
+    tx.commit()?;
+    Ok(())
+}
+
+// Adds the rows of `record`, one at a time.
+fn read_record<S: Alter>(
+    alloc: Global,
+    conn: &mut Connection<S>,
+    rows: &mut Sorted<Row>,
+) -> Result<(), Refusal>
+    requires { conn.old.in_transaction ≡ false }
+    ensures { conn.new.in_transaction ≡ false }
+{
+    let mut given = conn.query(READ_RECORD, &[])?;
+    for _ in 0..u64::MAX {
+        given.advance()?;
+        match given.get() {
+            Some(row) => add(rows, record_row(alloc, row)?)?,
+            None => return Ok(()),
+        }
+    }
+    Err(Refusal::FAULT)
+}
+
+// Adds the rows of `sealed`, one at a time.
+fn read_sealed<S: Alter>(
+    alloc: Global,
+    conn: &mut Connection<S>,
+    rows: &mut Sorted<Row>,
+) -> Result<(), Refusal>
+    requires { conn.old.in_transaction ≡ false }
+    ensures { conn.new.in_transaction ≡ false }
+{
+    let mut given = conn.query(READ_SEALED, &[])?;
+    for _ in 0..u64::MAX {
+        given.advance()?;
+        match given.get() {
+            Some(row) => add(rows, sealed_row(alloc, row)?)?,
+            None => return Ok(()),
+        }
+    }
+    Err(Refusal::FAULT)
+}
+
+/// All rows, by ascending key.
+pub(crate) fn load_all<S: Alter>(
+    alloc: Global,
+    conn: &mut Connection<S>,
+) -> Result<Vec<Row>, Refusal>
+    requires { conn.old.in_transaction ≡ false }
+    ensures idle { conn.new.in_transaction ≡ false }
+    ensures ascending { IfOk result (λ rows. IsAscending key_cmp key_of rows.items) }
+{
+    make_tables(conn)?;
+    let mut rows = Sorted::new(alloc);
+    read_record(alloc, conn, &mut rows)?;
+    read_sealed(alloc, conn, &mut rows)?;
+    Ok(rows.into_vec())
+}

@@ -1,0 +1,12 @@
+//! Keepers of rows over SQLite: one over a connection, and one over the file at a path.
+#![tactic(auto)]
+
+mod database;
+mod path_keeper;
+mod refusal;
+mod sql_keeper;
+mod statements;
+mod stored;
+
+pub use path_keeper::PathKeeper;
+pub use sql_keeper::SqlKeeper;

@@ -1,0 +1,172 @@
+//! The statements over the two tables, and what is made of changes with them.
+ghost use Rattle.std.specs.Prelude.{◌≡◌, ◌∷◌, [], IsTrue, OnOk, OnErr};
+ghost use Rattle.sqlite.specs.Held.{state};
+ghost use Rattle.sqlite.specs.State.{HasCleanDisk, Survives, KeepsCommit};
+ghost use Rattle.sqlite.specs.Values.{bound};
+ghost use Rattle.wb_base.specs.declared.rows.Change.TheVariants.{Put};
+ghost use Rattle.wb_sqlite.specs.Statements.{Makes, make_tables, statements_of, all_statements, drop_trail, drop_sealed, put_record, put_sealed};
+
+use crate::refusal::Refusal;
+use sqlite::types::ValueRef;
+use sqlite::{Alter, Transaction, params};
+use wb_base::{Change, Row};
+
+const MAKE_RECORD: &str =
+    "CREATE TABLE IF NOT EXISTS record (kind INTEGER NOT NULL, tenant INTEGER NOT NULL, a INTEGER NOT NULL, b INTEGER NOT NULL, body TEXT NOT NULL, PRIMARY KEY (kind, tenant, a, b))";
+
+const MAKE_SEALED: &str =
+    "CREATE TABLE IF NOT EXISTS sealed (tenant INTEGER NOT NULL, a INTEGER NOT NULL, body TEXT NOT NULL, PRIMARY KEY (tenant, a))";
+
+const PUT_RECORD: &str =
+    "INSERT INTO record (kind, tenant, a, b, body) VALUES (?1, ?2, ?3, ?4, ?5) ON CONFLICT (kind, tenant, a, b) DO UPDATE SET body = excluded.body";
+
+const PUT_SEALED: &str =
+    "INSERT INTO sealed (tenant, a, body) VALUES (?1, ?2, ?3) ON CONFLICT (tenant, a) DO UPDATE SET body = excluded.body";
+
+const DROP_TRAIL: &str = "DELETE FROM record WHERE kind = 6 AND tenant = ?1 AND a = ?2";
+
+const DROP_SEALED: &str = "DELETE FROM sealed WHERE tenant = ?1 AND a = ?2";
+
+/// The kind of sealed answers, which have a table of their own.
+pub(crate) const SEALED: u8 = 7;
+
+// Makes one statement.
+fn run<S: Alter>(
+    tx: &mut Transaction<'_, S>,
+    text: &str,
+    given: &[ValueRef<'_>],
+) -> Result<(), Refusal>
+    ensures same_reference { tx.new.conn.ghost_name ≡ tx.old.conn.ghost_name }
+    ensures made { HasCleanDisk (state S.Store tx.new.conn.now) → IsTrue tx.old.conn.now.in_transaction → OnOk result (Makes S.Store (record { text = text.now; given = bound given.now } ∷ []) tx.old.conn.now tx.new.conn.now) }
+    ensures kept { HasCleanDisk (state S.Store tx.new.conn.now) → IsTrue tx.old.conn.now.in_transaction → OnErr result (KeepsCommit (state S.Store tx.old.conn.now) (state S.Store tx.new.conn.now)) }
+    ensures survives { Survives (state S.Store tx.old.conn.now) (state S.Store tx.new.conn.now) (λ _. ⊥) }
+{
+    tx.execute(text, given)?;
+    Ok(())
+}
+
+/// Makes the tables that are not there.
+pub(crate) fn make<S: Alter>(tx: &mut Transaction<'_, S>) -> Result<(), Refusal>
+    ensures same_reference { tx.new.conn.ghost_name ≡ tx.old.conn.ghost_name }
+    ensures made { HasCleanDisk (state S.Store tx.new.conn.now) → IsTrue tx.old.conn.now.in_transaction → OnOk result (Makes S.Store make_tables tx.old.conn.now tx.new.conn.now) }
+    ensures kept { HasCleanDisk (state S.Store tx.new.conn.now) → IsTrue tx.old.conn.now.in_transaction → OnErr result (KeepsCommit (state S.Store tx.old.conn.now) (state S.Store tx.new.conn.now)) }
+    ensures survives { Survives (state S.Store tx.old.conn.now) (state S.Store tx.new.conn.now) (λ _. ⊥) }
+{
+    run(tx, MAKE_RECORD, &[])?;
+    run(tx, MAKE_SEALED, &[])
+}
+
+// Sets the text under a key in `record`.
+fn write_record<S: Alter>(tx: &mut Transaction<'_, S>, row: &Row) -> Result<(), Refusal>
+    ensures same_reference { tx.new.conn.ghost_name ≡ tx.old.conn.ghost_name }
+    ensures made { HasCleanDisk (state S.Store tx.new.conn.now) → IsTrue tx.old.conn.now.in_transaction → OnOk result (Makes S.Store (put_record row.now ∷ []) tx.old.conn.now tx.new.conn.now) }
+    ensures kept { HasCleanDisk (state S.Store tx.new.conn.now) → IsTrue tx.old.conn.now.in_transaction → OnErr result (KeepsCommit (state S.Store tx.old.conn.now) (state S.Store tx.new.conn.now)) }
+    ensures survives { Survives (state S.Store tx.old.conn.now) (state S.Store tx.new.conn.now) (λ _. ⊥) }
+{
+    let key = row.key;
+    let kind = u32::from(key.kind);
+    let text = row.text.as_str();
+    run(
+        tx,
+        PUT_RECORD,
+        params![kind, key.tenant, key.a, key.b, text],
+    )
+}
+
+// Sets the text under a key in `sealed`.
+fn write_sealed<S: Alter>(tx: &mut Transaction<'_, S>, row: &Row) -> Result<(), Refusal>
+    ensures same_reference { tx.new.conn.ghost_name ≡ tx.old.conn.ghost_name }
+    ensures made { HasCleanDisk (state S.Store tx.new.conn.now) → IsTrue tx.old.conn.now.in_transaction → OnOk result (Makes S.Store (put_sealed row.now ∷ []) tx.old.conn.now tx.new.conn.now) }
+    ensures kept { HasCleanDisk (state S.Store tx.new.conn.now) → IsTrue tx.old.conn.now.in_transaction → OnErr result (KeepsCommit (state S.Store tx.old.conn.now) (state S.Store tx.new.conn.now)) }
+    ensures survives { Survives (state S.Store tx.old.conn.now) (state S.Store tx.new.conn.now) (λ _. ⊥) }
+{
+    let key = row.key;
+    let text = row.text.as_str();
+    run(tx, PUT_SEALED, params![key.tenant, key.a, text])
+}
+
+// Sets the text under a row's key, in the table of its kind.
+fn put<S: Alter>(tx: &mut Transaction<'_, S>, row: &Row) -> Result<(), Refusal>
+    ensures same_reference { tx.new.conn.ghost_name ≡ tx.old.conn.ghost_name }
+    ensures made { HasCleanDisk (state S.Store tx.new.conn.now) → IsTrue tx.old.conn.now.in_transaction → OnOk result (Makes S.Store (statements_of (Put row.now)) tx.old.conn.now tx.new.conn.now) }
+    ensures kept { HasCleanDisk (state S.Store tx.new.conn.now) → IsTrue tx.old.conn.now.in_transaction → OnErr result (KeepsCommit (state S.Store tx.old.conn.now) (state S.Store tx.new.conn.now)) }
+    ensures survives { Survives (state S.Store tx.old.conn.now) (state S.Store tx.new.conn.now) (λ _. ⊥) }
+{
+    if row.key.kind == SEALED {
+        write_sealed(tx, row)
+    } else {
+        write_record(tx, row)
+    }
+}
+
+// Removes the trail of a report.
+fn clear_trail<S: Alter>(
+    tx: &mut Transaction<'_, S>,
+    tenant: u32,
+    number: u32,
+) -> Result<(), Refusal>
+    ensures same_reference { tx.new.conn.ghost_name ≡ tx.old.conn.ghost_name }
+    ensures made { HasCleanDisk (state S.Store tx.new.conn.now) → IsTrue tx.old.conn.now.in_transaction → OnOk result (Makes S.Store (drop_trail tenant number ∷ []) tx.old.conn.now tx.new.conn.now) }
+    ensures kept { HasCleanDisk (state S.Store tx.new.conn.now) → IsTrue tx.old.conn.now.in_transaction → OnErr result (KeepsCommit (state S.Store tx.old.conn.now) (state S.Store tx.new.conn.now)) }
+    ensures survives { Survives (state S.Store tx.old.conn.now) (state S.Store tx.new.conn.now) (λ _. ⊥) }
+{
+    run(tx, DROP_TRAIL, params![tenant, number])
+}
+
+// Removes the sealed answers of a report.
+fn clear_sealed<S: Alter>(
+    tx: &mut Transaction<'_, S>,
+    tenant: u32,
+    number: u32,
+) -> Result<(), Refusal>
+    ensures same_reference { tx.new.conn.ghost_name ≡ tx.old.conn.ghost_name }
+    ensures made { HasCleanDisk (state S.Store tx.new.conn.now) → IsTrue tx.old.conn.now.in_transaction → OnOk result (Makes S.Store (drop_sealed tenant number ∷ []) tx.old.conn.now tx.new.conn.now) }
+    ensures kept { HasCleanDisk (state S.Store tx.new.conn.now) → IsTrue tx.old.conn.now.in_transaction → OnErr result (KeepsCommit (state S.Store tx.old.conn.now) (state S.Store tx.new.conn.now)) }
+    ensures survives { Survives (state S.Store tx.old.conn.now) (state S.Store tx.new.conn.now) (λ _. ⊥) }
+{
+    run(tx, DROP_SEALED, params![tenant, number])
+}
+
+// Removes the trail and the sealed answers of a report.
+fn drop_report<S: Alter>(
+    tx: &mut Transaction<'_, S>,
+    tenant: u32,
+    number: u32,
+) -> Result<(), Refusal>
+    ensures same_reference { tx.new.conn.ghost_name ≡ tx.old.conn.ghost_name }
+    ensures made { HasCleanDisk (state S.Store tx.new.conn.now) → IsTrue tx.old.conn.now.in_transaction → OnOk result (Makes S.Store (drop_trail tenant number ∷ drop_sealed tenant number ∷ []) tx.old.conn.now tx.new.conn.now) }
+    ensures kept { HasCleanDisk (state S.Store tx.new.conn.now) → IsTrue tx.old.conn.now.in_transaction → OnErr result (KeepsCommit (state S.Store tx.old.conn.now) (state S.Store tx.new.conn.now)) }
+    ensures survives { Survives (state S.Store tx.old.conn.now) (state S.Store tx.new.conn.now) (λ _. ⊥) }
+{
+    clear_trail(tx, tenant, number)?;
+    clear_sealed(tx, tenant, number)
+}
+
+// Makes a change.
+fn make_change<S: Alter>(tx: &mut Transaction<'_, S>, change: &Change) -> Result<(), Refusal>
+    ensures same_reference { tx.new.conn.ghost_name ≡ tx.old.conn.ghost_name }
+    ensures made { HasCleanDisk (state S.Store tx.new.conn.now) → IsTrue tx.old.conn.now.in_transaction → OnOk result (Makes S.Store (statements_of change.now) tx.old.conn.now tx.new.conn.now) }
+    ensures kept { HasCleanDisk (state S.Store tx.new.conn.now) → IsTrue tx.old.conn.now.in_transaction → OnErr result (KeepsCommit (state S.Store tx.old.conn.now) (state S.Store tx.new.conn.now)) }
+    ensures survives { Survives (state S.Store tx.old.conn.now) (state S.Store tx.new.conn.now) (λ _. ⊥) }
+{
+    match change {
+        Change::Put(row) => put(tx, row),
+        Change::DropReport(tenant, number) => drop_report(tx, tenant.id(), number.get()),
+    }
+}
+
+/// Makes all changes in turn, up to one that is refused.
+pub(crate) fn make_all<S: Alter>(
+    tx: &mut Transaction<'_, S>,
+    changes: &[Change],
+) -> Result<(), Refusal>
+    ensures same_reference { tx.new.conn.ghost_name ≡ tx.old.conn.ghost_name }
+    ensures made { HasCleanDisk (state S.Store tx.new.conn.now) → IsTrue tx.old.conn.now.in_transaction → OnOk result (Makes S.Store (all_statements changes.now) tx.old.conn.now tx.new.conn.now) }
+    ensures kept { HasCleanDisk (state S.Store tx.new.conn.now) → IsTrue tx.old.conn.now.in_transaction → OnErr result (KeepsCommit (state S.Store tx.old.conn.now) (state S.Store tx.new.conn.now)) }
+    ensures survives { Survives (state S.Store tx.old.conn.now) (state S.Store tx.new.conn.now) (λ _. ⊥) }
+{
+    for change in changes {
+        make_change(tx, change)?;
+    }
+    Ok(())
+}

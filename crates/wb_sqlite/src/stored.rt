@@ -1,0 +1,83 @@
+//! Stored rows as rows of a keeper.
+ghost use Rattle.std.specs.Prelude.{◌≡◌, ◌≤◌, ◌++◌, ◌∷◌, [], IfOk, OnOk};
+ghost use Rattle.sqlite_value.specs.declared.value.Value.TheVariants.{Int, Text as Words};
+ghost use Rattle.sqlite_value.specs.Order.{column};
+ghost use Rattle.std.specs.Prelude.{pos};
+ghost use Rattle.wb_sqlite.specs.StoredRows.{IsRecordRow, IsSealedRow};
+
+use crate::refusal::Refusal;
+use crate::statements::SEALED;
+use sqlite::Row as Stored;
+use sqlite::types::ValueRef;
+use std::alloc::Global;
+use std::cmp::Ordering;
+use wb_base::{Key, Row, Text, TextFault};
+use wb_list::{Keyed, Sorted};
+
+// The number in a column, where it fits.
+fn number_at(row: &Stored, at: usize) -> Result<u32, Refusal>
+    ensures { IfOk result (λ number. column row.now at ≡ Int (pos number)) }
+{
+    Ok(row.get(at)?)
+}
+
+// The text in a column.
+fn text_at(alloc: Global, row: &Stored, at: usize) -> Result<Text, Refusal>
+    ensures { IfOk result (λ text. column row.now at ≡ Words text) }
+{
+    match row.get_ref(at)? {
+        ValueRef::Text(bytes) => match Text::copy(alloc, bytes) {
+            Ok(text) => Ok(text),
+            Err(TextFault::Memory) => Err(Refusal::MEMORY),
+            Err(TextFault::NotUtf8) => Err(Refusal::FAULT),
+        },
+        _ => Err(Refusal::FAULT),
+    }
+}
+
+/// The row of a stored row of `record`, which holds every kind but sealed answers.
+pub(crate) fn record_row(alloc: Global, row: &Stored) -> Result<Row, Refusal>
+    ensures { IfOk result (λ kept. IsRecordRow row.now kept) }
+{
+    let kind = number_at(row, 0)?;
+    if kind > 6 {
+        return Err(Refusal::FAULT);
+    }
+    let key = Key {
+        kind: kind as u8,
+        tenant: number_at(row, 1)?,
+        a: number_at(row, 2)?,
+        b: number_at(row, 3)?,
+    };
+    Ok(Row {
+        key,
+        text: text_at(alloc, row, 4)?,
+    })
+}
+
+/// The row of a stored row of `sealed`.
+pub(crate) fn sealed_row(alloc: Global, row: &Stored) -> Result<Row, Refusal>
+    ensures { IfOk result (λ kept. IsSealedRow row.now kept) }
+{
+    let key = Key {
+        kind: SEALED,
+        tenant: number_at(row, 0)?,
+        a: number_at(row, 1)?,
+        b: 0,
+    };
+    Ok(Row {
+        key,
+        text: text_at(alloc, row, 2)?,
+    })
+}
+
+/// Puts a row behind all others, where its key is above theirs.
+pub(crate) fn add(rows: &mut Sorted<Row>, row: Row) -> Result<(), Refusal> {
+    let len = rows.len();
+    if 0 < len && rows.get(len - 1).compare_to(&row) != Ordering::Less {
+        return Err(Refusal::FAULT);
+    }
+    rows.reserve(1)?;
+    rows.set(row);
+    Ok(())
+}
