@@ -6,6 +6,7 @@ pub mod LookUps
 pub mod Versions
 pub mod PlainRows
 pub mod Readers
+pub mod Others
 pub mod TenantParts
 pub mod InOrder
 pub mod TenantSettings

@@ -3,8 +3,10 @@
 
 mod contexts;
 mod copies;
+mod form_copies;
 mod forms;
 mod given;
+mod joined;
 mod laws;
 mod ordered;
 mod owned;
