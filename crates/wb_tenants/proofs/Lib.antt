@@ -8,6 +8,7 @@ pub mod PlainRows
 pub mod Readers
 pub mod Others
 pub mod TenantParts
+pub mod Kept
 pub mod InOrder
 pub mod TenantSettings
 pub mod UserFaults
