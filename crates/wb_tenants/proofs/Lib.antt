@@ -6,7 +6,9 @@ pub mod LookUps
 pub mod Versions
 pub mod PlainRows
 pub mod Readers
+pub mod Others
 pub mod TenantParts
+pub mod Kept
 pub mod InOrder
 pub mod TenantSettings
 pub mod UserFaults

@@ -6,3 +6,4 @@ pub mod Rules
 pub mod Setups
 pub mod GivesLists
 pub mod Sets
+pub mod Joined

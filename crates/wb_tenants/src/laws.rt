@@ -1,5 +1,5 @@
-//! What is set is set in its tenant alone, and is there what the definitions say.
-ghost use Rattle.std.specs.Prelude.{◌≡◌, ◌≢◌, ℕ};
+//! What is set is set in its tenant alone, and is there what the definitions say; and what is kept of a tenant stays whole beside a setup.
+ghost use Rattle.std.specs.Prelude.{◌≡◌, ◌≢◌, ℕ, true};
 ghost use Rattle.wb_base.specs.declared.form.Form.{Form as FormOf};
 ghost use Rattle.wb_model.specs.declared.command.ContextSet.{ContextSet};
 ghost use Rattle.wb_model.specs.declared.command.SettingsSet.{SettingsSet};
@@ -7,6 +7,8 @@ ghost use Rattle.wb_model.specs.declared.command.UserSet.{UserSet};
 ghost use Rattle.wb_model.specs.declared.registry.Lists.{Lists};
 ghost use Rattle.wb_model.specs.Openings.{registry_of};
 ghost use Rattle.wb_model.specs.Settings.{OfUser, OfForm, OfContext, OfTenant, configured, context_item, ends_sessions, form_item};
+ghost use Rattle.wb_model.specs.SetUps.{has_tenant};
+ghost use Rattle.wb_tenants.specs.Joined.{joined};
 ghost use Rattle.wb_tenants.specs.Keys.{AreInOrder};
 ghost use Rattle.wb_tenants.specs.Sets.{HasTenant, set_user, with_context, with_user, with_form, with_settings};
 
@@ -33,4 +35,9 @@ pub fn a_context_is_set_in_its_tenant_alone()
 pub fn settings_are_set_in_their_tenant_alone()
     ensures here { (lists : Lists) (t : ℕ) (next : SettingsSet) → HasTenant lists t → registry_of (with_settings t next lists) t ≡ configured (OfTenant next) (registry_of lists t) }
     ensures others { (lists : Lists) (t s : ℕ) (next : SettingsSet) → HasTenant lists t → t ≢ s → registry_of (with_settings t next lists) s ≡ registry_of lists s }
+{}
+
+/// What `Registry::of` makes of the lists is, for a kept tenant, its registry as it was kept, whatever the setup says.
+pub fn a_kept_tenant_stays_whole()
+    ensures { (setup kept : Lists) (t : ℕ) → has_tenant kept t ≡ true → registry_of (joined setup kept) t ≡ registry_of kept t }
 {}
