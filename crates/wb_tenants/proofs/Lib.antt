@@ -12,3 +12,12 @@ pub mod Kept
 pub mod InOrder
 pub mod TenantSettings
 pub mod UserFaults
+pub mod Puts
+pub mod Orders
+pub mod Recipients
+pub mod GivenRanges
+pub mod Groups
+pub mod GivenForms
+pub mod Joining
+pub mod OtherLists
+pub mod GivenLists

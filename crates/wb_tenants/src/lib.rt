@@ -24,8 +24,8 @@ mod users;
 
 pub use laws::{
     a_context_is_set_in_its_tenant_alone, a_form_is_set_in_its_tenant_alone,
-    a_kept_tenant_stays_whole, a_user_is_set_in_its_tenant_alone,
-    settings_are_set_in_their_tenant_alone,
+    a_kept_tenant_stays_whole, a_setup_gives_an_opening, a_user_is_set_in_its_tenant_alone,
+    kept_rows_and_a_setup_make_an_opening, settings_are_set_in_their_tenant_alone,
 };
 pub use registry::Registry;
 pub use rows::{context_row, form_row, settings_row, user_row};

@@ -1,5 +1,6 @@
 //! The setup of a host.
 ghost use Rattle.std.specs.Prelude.{◌≡◌, ◌≢◌, Ok, Err, IfOk, IfErr, Some};
+ghost use Rattle.wb_model.specs.SetUps.{AreSetUp};
 ghost use Rattle.wb_tenants.specs.Keys.{AreInOrder};
 ghost use Rattle.wb_tenants.specs.Setups.{setup as setup_of, with_forms as by_forms, with_tenants as by_tenants};
 ghost use Rattle.wb_tenants.specs.GivesLists.{GivesLists};
@@ -90,6 +91,7 @@ impl Setup {
     pub fn read(alloc: Global, bytes: &[u8]) -> Result<Setup, SetupFault>
         ensures ok { IfOk result (λ s. setup_of bytes.now ≡ Ok s.lists) }
         ensures order { IfOk result (λ s. AreInOrder s.lists) }
+        ensures set_up { IfOk result (λ s. AreSetUp s.lists) }
         ensures fault { IfErr result (λ e. e ≢ SetupFault.Memory → setup_of bytes.now ≡ Err e) }
     {
         let value = match read_document(alloc, bytes) {
