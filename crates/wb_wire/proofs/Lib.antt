@@ -13,3 +13,4 @@ pub mod ShapeLemmas
 pub mod ReadingLemmas
 pub mod HeadLemmas
 pub mod MethodLemmas
+pub mod SetupLemmas

@@ -25,7 +25,7 @@ line_fits f is_frame = record {
   size = is_frame.bytes;
 }
 
-lacks_append : (c : ℕ) (xs ys : List ℕ) → Lacks c xs → Lacks c ys → Lacks c (xs ++ ys)
+pub lacks_append : (c : ℕ) (xs ys : List ℕ) → Lacks c xs → Lacks c ys → Lacks c (xs ++ ys)
 lacks_append c [] ys lx ly i h = ly i h
 lacks_append c (x ∷ xs) ys lx ly zero h = lx 0 (omega arith)
 lacks_append c (x ∷ xs) ys lx ly (suc i) h = lacks_append c xs ys (λ k less. lx (suc k) (omega arith)) ly i (omega arith)
@@ -34,7 +34,7 @@ lacks_one : (c x : ℕ) → x ≢ c → Lacks c (x ∷ [])
 lacks_one c x other zero h = other
 lacks_one c x other (suc i) h = absurd (omega arith)
 
-lacks_cons : (c x : ℕ) (xs : List ℕ) → x ≢ c → Lacks c xs → Lacks c (x ∷ xs)
+pub lacks_cons : (c x : ℕ) (xs : List ℕ) → x ≢ c → Lacks c xs → Lacks c (x ∷ xs)
 lacks_cons c x xs other lacks zero h = other
 lacks_cons c x xs other lacks (suc i) h = lacks i (omega arith)
 

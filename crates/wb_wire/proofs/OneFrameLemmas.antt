@@ -12,7 +12,7 @@ use Rattle.wb_wire.proofs.NumberLemmas.{word_decodes}
 use Rattle.wb_wire.proofs.LineLemmas.{line_fits, line_lacks, decimal_lacks, word_lacks}
 use Rattle.wb_wire.proofs.FrameLemmas.{one_way, text_parts}
 
-same_decimal : (m n : ℕ) → m < 2 ^ 64 → n < 2 ^ 64 → decimal m ≡ decimal n → m ≡ n
+pub same_decimal : (m n : ℕ) → m < 2 ^ 64 → n < 2 ^ 64 → decimal m ≡ decimal n → m ≡ n
 same_decimal m n hm hn e = sym ((decimal_is_IsNumeral m hm).1) ∙ ap (digits_value 10) e ∙ (decimal_is_IsNumeral n hn).1
 
 same_word : (w v : ℕ) → w < 2 ^ 64 → v < 2 ^ 64 → word_text w ≡ word_text v → w ≡ v
@@ -22,7 +22,7 @@ same_word w v hw hv e =
     let bytes : to_be_bytes w64 w ≡ to_be_bytes w64 v = cc in
     sym (from_be_bytes-to_be_bytes_8 w hw) ∙ ap (from_be_bytes w64) bytes ∙ from_be_bytes-to_be_bytes_8 v hv
 
-both_seam : (xs ys a b : List ℕ) → length xs ≡ length ys → xs ++ a ≡ ys ++ b → (xs ≡ ys) × (a ≡ b)
+pub both_seam : (xs ys a b : List ℕ) → length xs ≡ length ys → xs ++ a ≡ ys ++ b → (xs ≡ ys) × (a ≡ b)
 both_seam [] [] a b same e = (refl, e)
 both_seam [] (y ∷ ys) a b same e = absurd (omega (arith, same))
 both_seam (x ∷ xs) [] a b same e = absurd (omega (arith, same))

@@ -68,11 +68,11 @@ broken_after (Some x) (Some y) line taken none =
       no_frame = λ f more is_frame e. none f more is_frame (sym text ∙ e);
     }
 
-told : {P Q : List ℕ → Type 0} (a : Option (List ℕ)) → ((text : List ℕ) → P text → Q text) → IfSome a P → IfSome a Q
+pub told : {P Q : List ℕ → Type 0} (a : Option (List ℕ)) → ((text : List ℕ) → P text → Q text) → IfSome a P → IfSome a Q
 told None step h = tt
 told (Some text) step h = step text h
 
-told_all : {Q : List ℕ → Type 0} (a : Option (List ℕ)) → ((text : List ℕ) → Q text) → IfSome a Q
+pub told_all : {Q : List ℕ → Type 0} (a : Option (List ℕ)) → ((text : List ℕ) → Q text) → IfSome a Q
 told_all None all = tt
 told_all (Some text) all = all text
 

@@ -6,3 +6,5 @@ pub mod Cuts
 pub mod Places
 pub mod HeadReading
 pub mod RequestParts
+pub mod SetupText
+pub mod SetupReading

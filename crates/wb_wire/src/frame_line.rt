@@ -1,9 +1,11 @@
-//! The first line of a frame.
-ghost use Rattle.std.specs.Prelude.{◌≡◌, ◌<◌, ◌^◌, ◌++◌, ◌∷◌, ℕ, List, decimal, length, slice_index, IfSome, IfNone, IsSomeAnd};
+//! The first line of a frame, and of a setup's.
+ghost use Rattle.std.specs.Prelude.{◌≡◌, ◌<◌, ◌≤◌, ◌^◌, ◌++◌, ◌∷◌, ℕ, List, decimal, length, slice_index, IfSome, IfNone, IsSomeAnd};
 ghost use Rattle.wb_model.specs.FrameTexts.{word_text, frame_line};
 ghost use Rattle.wb_wire.specs.FrameReading.{Lacks, LineFits, SaysSize};
+ghost use Rattle.wb_wire.specs.SetupReading.{SaysSetup};
+ghost use Rattle.wb_wire.specs.SetupText.{setup_line};
 
-use crate::numbers::{number_of, word_of};
+use crate::numbers::{is_same, number_of, word_of};
 use wb_base::{Moment, Words};
 
 /// What the line says of its frame.
@@ -105,4 +107,30 @@ pub fn read_line(line: &[u8]) -> Option<FrameHead>
         words: Words([first, second, third, fourth]),
         size: size as usize,
     })
+}
+
+// How many bytes a setup may have.
+const SETUP_LIMIT: u64 = 1_048_576;
+
+/// Reads the line of a setup's frame, without its line feed: how many bytes follow.
+pub fn read_setup_line(line: &[u8]) -> Option<usize>
+    ensures small { IfSome result (λ n. n ≤ 1_048_576) }
+    ensures found { IfSome result (λ n. line.now ≡ setup_line n) }
+    ensures only { SaysSetup line.now (λ n. IsSomeAnd result (λ size. size ≡ n)) }
+{
+    let (mark, rest) = match at_space(line) {
+        Some(parts) => parts,
+        None => return None,
+    };
+    if !is_same(mark, b"@setup") {
+        return None;
+    }
+    let size = match number_of(rest) {
+        Some(size) => size,
+        None => return None,
+    };
+    if size > SETUP_LIMIT {
+        return None;
+    }
+    Some(size as usize)
 }

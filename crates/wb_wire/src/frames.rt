@@ -1,9 +1,10 @@
-//! A reader of a script's frames.
+//! A reader of a script's setup and frames.
 ghost use Rattle.std.specs.Prelude.{◌≡◌, ◌≤◌, ◌^◌, Some, None, Err, IfOk, IfErr, IfSome};
 ghost use Rattle.std.specs.Io.KnownBytes.{Keeps};
 ghost use Rattle.wb_wire.specs.FrameReading.{TookNext, HasCause, after_next};
+ghost use Rattle.wb_wire.specs.SetupReading.{TookSetup, LacksSetup, after_setup};
 
-use crate::frame_line::read_line;
+use crate::frame_line::{read_line, read_setup_line};
 use crate::taking::{LINE_ROOM, LineEnd, Part, take_body, take_line};
 use std::alloc::Global;
 use std::marker::Model;
@@ -15,7 +16,7 @@ use wb_model::ScriptFrame;
 pub enum FrameNo {
     /// The source failed.
     Read,
-    /// The frame of this number, counted from 1, is not of the form.
+    /// The frame of this number, counted from 1, is not of the form; 0 is the setup's.
     Bad(u64),
     /// 2^40 bytes were taken and the input has not ended.
     TooLong,
@@ -26,7 +27,16 @@ pub enum FrameNo {
 // How many bytes may be taken in all.
 const LIMIT: u64 = 1 << 40;
 
-/// Takes frame after frame from a source, and holds at most one.
+// An error, which is why the reader stopped.
+fn stop(stopped: &mut Option<FrameNo>, no: FrameNo) -> FrameNo
+    ensures stops { stopped.new ≡ Some no }
+    ensures same { result ≡ no }
+{
+    *stopped = Some(no);
+    no
+}
+
+/// Takes a setup and frame after frame from a source, and holds at most one.
 ///
 /// It reads a frame's first line byte by byte, and its bytes in whatever pieces the source gives.
 #[derive(Drop)]
@@ -79,11 +89,58 @@ impl FrameReader {
         }
         match self.take_frame(alloc, source) {
             Ok(next) => Ok(next),
-            Err(no) => {
-                self.stopped = Some(no);
-                Err(no)
-            }
+            Err(no) => Err(stop(&mut self.stopped, no)),
         }
+    }
+
+    /// The bytes of the setup's frame with which the input begins, or why there are none. After an error it answers that
+    /// error again and takes nothing.
+    pub fn setup<S: Source>(&mut self, alloc: Global, source: &mut S) -> Result<Vec<u8>, FrameNo>
+        ensures ok { IfOk result (λ bytes. TookSetup (S.left source.old) (S.left source.new) bytes.items) }
+        ensures goes_on { IfOk result (λ bytes. self.new ≡ after_setup self.old bytes.items) }
+        ensures limit { self.new.taken ≤ 2 ^ 40 }
+        ensures cause { self.old.stopped ≡ None → IfErr result (λ no. LacksSetup self.old (S.left source.old) (S.left source.new) (S.count source.old) (S.count source.new) no) }
+        ensures stops { IfErr result (λ no. self.new ≡ record self.old { stopped = Some no }) }
+        ensures again { IfSome self.old.stopped (λ no. (result ≡ Err no) × Keeps (S.left source.old) (S.left source.new)) }
+        ensures later { S.count source.old ≤ S.count source.new }
+    {
+        if let Some(no) = self.stopped {
+            return Err(no);
+        }
+        match self.take_setup(alloc, source) {
+            Ok(bytes) => Ok(bytes),
+            Err(no) => Err(stop(&mut self.stopped, no)),
+        }
+    }
+
+    // The bytes of the setup of a reader that has not stopped.
+    fn take_setup<S: Source>(&mut self, alloc: Global, source: &mut S) -> Result<Vec<u8>, FrameNo>
+        ensures ok { IfOk result (λ bytes. TookSetup (S.left source.old) (S.left source.new) bytes.items) }
+        ensures goes_on { IfOk result (λ bytes. self.new ≡ after_setup self.old bytes.items) }
+        ensures cause { IfErr result (λ no. LacksSetup self.old (S.left source.old) (S.left source.new) (S.count source.old) (S.count source.new) no) }
+        ensures same { IfErr result (λ no. self.new ≡ self.old) }
+        ensures later { S.count source.old ≤ S.count source.new }
+    {
+        let most = LIMIT - self.taken;
+        let mut room = [0u8; LINE_ROOM];
+        let used = match take_line(source, most, &mut room) {
+            Ok(LineEnd::Whole(used)) => used,
+            Ok(LineEnd::End) => return Err(FrameNo::Bad(0)),
+            Ok(LineEnd::Broken) => return Err(FrameNo::Bad(0)),
+            Err(no) => return Err(no),
+        };
+        let size = match read_setup_line(&room[..used]) {
+            Some(size) => size,
+            None => return Err(FrameNo::Bad(0)),
+        };
+        let bytes = match take_body(alloc, source, most - used as u64 - 1, size) {
+            Ok(Part::Whole(bytes)) => bytes,
+            Ok(Part::Broken) => return Err(FrameNo::Bad(0)),
+            Ok(Part::NoMemory) => return Err(FrameNo::Memory),
+            Err(no) => return Err(no),
+        };
+        self.taken += (used + size + 2) as u64;
+        Ok(bytes.into_vec())
     }
 
     // The next frame of a reader that has not stopped.

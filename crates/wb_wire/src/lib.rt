@@ -22,7 +22,7 @@ mod written;
 pub use faults::{fault_body, fault_status};
 pub use frames::{FrameNo, FrameReader};
 pub use heads::{HeadRead, read_head};
-pub use laws::{one_frame, one_reading, what_is_asked_fits};
+pub use laws::{one_frame, one_reading, one_setup, what_is_asked_fits};
 pub use replies::{reply_head, reply_line};
 pub use requests::{WireNo, read_request};
 pub use router::Routes;
