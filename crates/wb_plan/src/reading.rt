@@ -12,7 +12,7 @@ use std::alloc::Global;
 use wb_base::{Memory, UserId};
 use wb_model::{Body, Told};
 use wb_tables::{Case, Tenancy, Who};
-use wb_views::recipient_view;
+use wb_views::trail_view;
 
 // The plan of a user's read of a report.
 fn read(
@@ -26,7 +26,7 @@ fn read(
     ensures change { IfOk result (λ plan. plan.change ≡ Planned.Nothing) }
 {
     let users = tenancy.users.as_slice();
-    let body = recipient_view(
+    let body = trail_view(
         alloc,
         users,
         user,

@@ -6,7 +6,7 @@ use std::test::Fail;
 use wb_base::{Answers, Day, Digest, Given, Moment, Number, Role, Tenant, Text, UserId};
 use wb_list::Items;
 use wb_model::{Actor, Deed, Entry, Rights, Status, UserItem};
-use wb_views::{Detail, recipient_view, refusal, submission_view};
+use wb_views::{Detail, trail_view, refusal, submission_view};
 
 /// 2025-01-01.
 const NEW_YEAR: i32 = 20_089;
@@ -114,7 +114,7 @@ fn a_new_report_is_shown(rt: HostRuntime) -> Result<(), Fail> {
         )?;
         let number = Number::try_new(1).ok_or("a number")?;
         let now = Moment::try_new(1_735_689_600).ok_or("a moment")?;
-        let body = recipient_view(alloc, &[], user(1)?, now, number, trail.as_slice())?;
+        let body = trail_view(alloc, &[], user(1)?, now, number, trail.as_slice())?;
         assert_eq!(rt; body.as_str(), expected);
     }
     Ok(())
@@ -340,7 +340,7 @@ fn each_deed_changes_what_is_shown(rt: HostRuntime) -> Result<(), Fail> {
     ] {
         let number = Number::try_new(u32::MAX).ok_or("a number")?;
         let now = Moment::try_new(seconds).ok_or("a moment")?;
-        let body = recipient_view(
+        let body = trail_view(
             alloc,
             users.as_slice(),
             user(id)?,

@@ -1,5 +1,8 @@
 pub mod AsciiBytes
-pub mod Lists
+pub mod DeskRows
+pub mod ListMaps
 pub mod Members
 pub mod NoFloats
+pub mod PlainLists
 pub mod RequestLists
+pub mod SortedDues

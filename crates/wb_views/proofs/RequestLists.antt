@@ -6,9 +6,9 @@ use Rattle.wb_model.specs.Access.{with_request}
 use Rattle.wb_model.specs.Json.{list_of}
 use Rattle.wb_model.specs.ViewRows.{custodied_from, custodied}
 use Rattle.wb_model.specs.Views.{request_data}
-use Rattle.wb_views.specs.declared.requests.Request.{Request}
+use Rattle.wb_views.specs.declared.walked.Request.{Request}
 use Rattle.wb_views.specs.Seen.{request_seen, requests_from}
-use Rattle.wb_views.proofs.Lists.{list_of-map}
+use Rattle.wb_views.proofs.ListMaps.{list_of-map}
 
 at_place : (change : AccessRequest → AccessRequest) (new : Request) (i : ℕ) (xs : List Request) (d : Request) → i < length xs
     → request_seen new ≡ change (request_seen (get_or xs i d)) → map request_seen (set xs i new) ≡ with_request (suc i) change (map request_seen xs)

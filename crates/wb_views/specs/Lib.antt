@@ -1,2 +1,3 @@
 pub mod RefusalBodies
 pub mod Seen
+pub mod Shown

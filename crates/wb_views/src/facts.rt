@@ -2,7 +2,7 @@
 ghost use Rattle.std.specs.Prelude.{◌≡◌};
 ghost use Rattle.wb_model.specs.Trails as trails;
 
-use wb_base::{Day, Given, Text};
+use wb_base::Day;
 use wb_model::{Deed, Entry, Status};
 
 /// The day on which the report was received.
@@ -27,39 +27,6 @@ pub(crate) fn ack_due(trail: &[Entry]) -> Day
             Deed::Submitted { ack_due, .. } => *ack_due,
             _ => before,
         })
-}
-
-/// The form that was answered.
-pub(crate) fn form(trail: &[Entry]) -> u32
-    ensures { result ≡ trails.form trail.now }
-{
-    trail.iter().fold(0, |before, entry| match &entry.deed {
-        Deed::Submitted { form, .. } => *form,
-        _ => before,
-    })
-}
-
-/// The version of that form.
-pub(crate) fn version(trail: &[Entry]) -> u32
-    ensures { result ≡ trails.version trail.now }
-{
-    trail.iter().fold(0, |before, entry| match &entry.deed {
-        Deed::Submitted { version, .. } => *version,
-        _ => before,
-    })
-}
-
-/// The public answers.
-pub(crate) fn answers(trail: &[Entry]) -> &[(Text, Given)]
-    ensures { result.now ≡ trails.answers trail.now }
-{
-    let mut found: &[(Text, Given)] = &[];
-    for entry in trail {
-        if let Deed::Submitted { answers, .. } = &entry.deed {
-            found = answers.as_slice();
-        }
-    }
-    found
 }
 
 /// The context that the report is in.

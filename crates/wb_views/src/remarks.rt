@@ -1,11 +1,12 @@
 //! The dialogue of a report: its comments, acknowledgements, feedback and notices.
-ghost use Rattle.std.specs.Prelude.{◌≡◌, map, option_map, IfOk};
+ghost use Rattle.std.specs.Prelude.{◌≡◌, map, option_map, option_and_then, slice_get, IfOk};
 ghost use Rattle.wb_model.specs.Trails as trails;
 ghost use Rattle.wb_views.specs.Seen.{remark_seen};
 
 use std::alloc::Global;
 use wb_base::{Memory, Moment, UserId};
-use wb_model::{Actor, Deed, Entry};
+use wb_case::Case;
+use wb_model::{Actor, Deed, Entry, a_dialogue_stands_at_its_places};
 
 /// A remark, by whom and of what kind; the user is none for the reporter.
 #[derive(Clone, Copy)]
@@ -38,8 +39,8 @@ fn some_user(actor: Actor) -> Option<UserId>
     }
 }
 
-// The remark that an entry is. The notice of a grant is one only where it was not withheld.
-fn remark_of(entry: &Entry) -> Option<Remark<'_>>
+/// The remark that an entry is. The notice of a grant is one only where it was not withheld.
+pub(crate) fn remark_of(entry: &Entry) -> Option<Remark<'_>>
     ensures { option_map remark_seen result ≡ trails.remark_of entry.now }
 {
     let (from, kind, text, internal) = match &entry.deed {
@@ -68,17 +69,43 @@ fn remark_of(entry: &Entry) -> Option<Remark<'_>>
     })
 }
 
-/// The remarks of a trail, the oldest first.
-pub(crate) fn dialogue<'a>(alloc: Global, trail: &'a [Entry]) -> Result<Vec<Remark<'a>>, Memory>
-    ensures { IfOk result (λ found. map remark_seen found.items ≡ trails.dialogue trail.now) }
+// The remark at a place of a trail, where there is one.
+fn remark_at(trail: &[Entry], place: usize) -> Option<Remark<'_>>
+    ensures { option_map remark_seen result ≡ option_and_then trails.remark_of (slice_get trail.now place) }
+{
+    match trail.get(place) {
+        Some(entry) => remark_of(entry),
+        None => None,
+    }
+}
+
+// The remarks at these places of a trail.
+fn remarks_at<'a>(
+    alloc: Global,
+    trail: &'a [Entry],
+    places: &[usize],
+) -> Result<Vec<Remark<'a>>, Memory>
+    ensures { IfOk result (λ found. map remark_seen found.items ≡ trails.remarks_at trail.now places.now) }
 {
     let mut found = Vec::new(alloc);
-    for entry in trail {
-        if let Some(remark) = remark_of(entry) {
+    for place in places {
+        if let Some(remark) = remark_at(trail, *place) {
             if found.push(remark).is_err() {
                 return Err(Memory);
             }
         }
     }
     Ok(found)
+}
+
+/// The dialogue of a report, the oldest remark first, by the places that are kept of it.
+pub(crate) fn dialogue<'a>(alloc: Global, case: &'a Case) -> Result<Vec<Remark<'a>>, Memory>
+    ensures { IfOk result (λ found. map remark_seen found.items ≡ trails.dialogue case.now.items) }
+{
+    a_dialogue_stands_at_its_places();
+    remarks_at(
+        alloc,
+        case.trail().as_slice(),
+        case.summary().dialogue.as_slice(),
+    )
 }
