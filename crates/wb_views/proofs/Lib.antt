@@ -4,5 +4,6 @@ pub mod ListMaps
 pub mod Members
 pub mod NoFloats
 pub mod PlainLists
+pub mod PlainTenants
 pub mod RequestLists
 pub mod SortedDues

@@ -1,12 +1,15 @@
 //! The JSON bodies of replies, each of one definition, and the rows that lists show.
 #![tactic(auto)]
 
+mod admin;
+mod asked;
 mod bare;
 mod facts;
 mod lists;
 mod names;
 mod parts;
 mod readers;
+mod recipient;
 mod refusals;
 mod remarks;
 mod reporter;
@@ -14,13 +17,18 @@ mod rows;
 mod short;
 mod submission;
 mod submitted;
+mod tenant;
 mod walked;
 
+pub use admin::admin_view;
+pub use asked::push_custodied;
 pub use bare::trail_view;
 pub use lists::{custody_view, due_view, list_view};
 pub use names::{role_name, state_name, status_name};
+pub use recipient::recipient_view;
 pub use refusals::{Detail, refusal};
 pub use reporter::{identity_view, reporter_view};
 pub use rows::{listed, push_dues, sort_dues};
 pub use short::{done_view, request_view, session_view, version_view};
 pub use submission::submission_view;
+pub use tenant::{context_view, public_view};

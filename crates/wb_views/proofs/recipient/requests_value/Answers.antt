@@ -1,0 +1,6 @@
+use Rattle.wb_model.specs.Openings.{registry_of}
+use Rattle.wb_views.proofs.DeskRows.{more_objects}
+use Rattle.wb_views.proofs.recipient.requests_value.Goals as goal
+
+pub loop-at-preserved : goal.loop-at-preserved
+loop-at-preserved c = more_objects (registry_of c.args.registry.now.lists c.args.tenant).users c.args.number c.loop-at.at c.args.desk.now.items _ _ _ _ c.in_ok-request_value.ensures c.in_ok-push.ensures.items c.loop-at.invariant
