@@ -1,0 +1,3 @@
+pub mod EntryLemmas
+pub mod PlainRows
+pub mod Puts

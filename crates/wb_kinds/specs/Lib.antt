@@ -1,0 +1,6 @@
+pub mod Entries
+pub mod Gives
+pub mod Items
+pub mod Members
+pub mod SaidDeeds
+pub mod Shapes

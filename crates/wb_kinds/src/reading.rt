@@ -1,0 +1,193 @@
+//! What a kept row stands for, and the row of that.
+ghost use Rattle.std.specs.Prelude.{◌≡◌, IfOk, IfSome, Some, None, option_and_then, true, if◌then◌else◌};
+ghost use Rattle.serde_json.specs.Read.{read};
+ghost use Rattle.serde_json.specs.View.{view};
+ghost use Rattle.wb_kinds.specs.Items.{item_row as row_of, item_of, is_key, is_row, is_in_range, shaped, of_kind};
+ghost use Rattle.wb_kinds.specs.Gives.{Gives};
+
+use crate::answers::read_answers;
+use crate::contexts::{read_context, read_version};
+use crate::deeds_in::read_entry;
+use crate::numberings::read_numbering;
+use crate::row_no::RowNo;
+use crate::rows::{entry_row, numbering_row, sealed_row};
+use crate::settings::read_settings;
+use crate::users::read_user;
+use crate::{EntryItem, Item, NumberingItem};
+use serde_json::Value;
+use std::alloc::Global;
+use wb_base::{Key, Memory, Number, Row, Tenant, UserId};
+use wb_custody::SealedItem;
+use wb_tenants::{context_row, form_row, settings_row, user_row};
+
+/// The row of an item.
+pub fn item_row(alloc: Global, item: &Item) -> Result<Row, Memory>
+    ensures { IfOk result (λ row. row ≡ row_of item.now) }
+{
+    match item {
+        Item::Settings(x) => settings_row(alloc, x),
+        Item::Numbering(x) => numbering_row(alloc, x.tenant, &x.numbering),
+        Item::User(x) => user_row(alloc, x),
+        Item::Form(x) => form_row(alloc, x.tenant, x.id, x.version, &x.form),
+        Item::Context(x) => context_row(alloc, x),
+        Item::Entry(x) => entry_row(alloc, x.tenant, x.number, x.place, &x.entry),
+        Item::Sealed(x) => sealed_row(alloc, x.tenant, x.number, &x.answers),
+    }
+}
+
+// The user of a row.
+fn user_item(alloc: Global, tenant: Tenant, a: u32, value: &Value) -> Result<Item, RowNo>
+    ensures item { Gives (of_kind 3 tenant a 0 (view value.now)) result }
+    ensures fits { IfOk result (λ item. is_in_range item ≡ true) }
+{
+    if a < 1 || 256 < a {
+        return Err(RowNo::Other);
+    }
+    match UserId::try_new(a as u16) {
+        Some(id) => Ok(Item::User(read_user(alloc, tenant, id, value)?)),
+        None => Err(RowNo::Other),
+    }
+}
+
+// The form of a row.
+fn form_item(alloc: Global, tenant: Tenant, a: u32, b: u32, value: &Value) -> Result<Item, RowNo>
+    ensures item { Gives (of_kind 4 tenant a b (view value.now)) result }
+    ensures fits { IfOk result (λ item. is_in_range item ≡ true) }
+{
+    if a < 1 || 16 < a || b < 1 || 99 < b {
+        return Err(RowNo::Other);
+    }
+    Ok(Item::Form(read_version(alloc, tenant, a, b, value)?))
+}
+
+// The context of a row.
+fn context_item(alloc: Global, tenant: Tenant, a: u32, value: &Value) -> Result<Item, RowNo>
+    ensures item { Gives (of_kind 5 tenant a 0 (view value.now)) result }
+    ensures fits { IfOk result (λ item. is_in_range item ≡ true) }
+{
+    if a < 1 || 64 < a {
+        return Err(RowNo::Other);
+    }
+    Ok(Item::Context(read_context(alloc, tenant, a, value)?))
+}
+
+// The entry of a row.
+fn entry_item(alloc: Global, tenant: Tenant, a: u32, b: u32, value: &Value) -> Result<Item, RowNo>
+    ensures item { Gives (of_kind 6 tenant a b (view value.now)) result }
+    ensures fits { IfOk result (λ item. is_in_range item ≡ true) }
+{
+    let Some(number) = Number::try_new(a) else {
+        return Err(RowNo::Other);
+    };
+    if b < 1 {
+        return Err(RowNo::Other);
+    }
+    let entry = read_entry(alloc, value)?;
+    Ok(Item::Entry(EntryItem {
+        tenant,
+        number,
+        place: b,
+        entry,
+    }))
+}
+
+// The identity answers of a row.
+fn sealed_item(alloc: Global, tenant: Tenant, a: u32, value: &Value) -> Result<Item, RowNo>
+    ensures item { Gives (of_kind 7 tenant a 0 (view value.now)) result }
+    ensures fits { IfOk result (λ item. is_in_range item ≡ true) }
+{
+    let Some(number) = Number::try_new(a) else {
+        return Err(RowNo::Other);
+    };
+    let answers = read_answers(alloc, value)?;
+    Ok(Item::Sealed(SealedItem {
+        tenant,
+        number,
+        answers,
+    }))
+}
+
+// The item of a tenant that a value is, with the kind and ids of its key.
+fn read_kind(alloc: Global, tenant: Tenant, key: Key, value: &Value) -> Result<Item, RowNo>
+    ensures item { Gives (of_kind key.kind tenant key.a key.b (view value.now)) result }
+    ensures fits { IfOk result (λ item. is_in_range item ≡ true) }
+{
+    match key.kind {
+        1 => Ok(Item::Settings(read_settings(alloc, tenant, value)?)),
+        2 => Ok(Item::Numbering(NumberingItem {
+            tenant,
+            numbering: read_numbering(value)?,
+        })),
+        3 => user_item(alloc, tenant, key.a, value),
+        4 => form_item(alloc, tenant, key.a, key.b, value),
+        5 => context_item(alloc, tenant, key.a, value),
+        6 => entry_item(alloc, tenant, key.a, key.b, value),
+        7 => sealed_item(alloc, tenant, key.a, value),
+        _ => Err(RowNo::Other),
+    }
+}
+
+// The item that a value is, with a key.
+fn read_shape(alloc: Global, key: Key, value: &Value) -> Result<Item, RowNo>
+    ensures item { Gives (shaped key (view value.now)) result }
+    ensures fits { IfOk result (λ item. is_in_range item ≡ true) }
+{
+    match Tenant::try_new(key.tenant) {
+        Some(tenant) => read_kind(alloc, tenant, key, value),
+        None => Err(RowNo::Other),
+    }
+}
+
+// The item that a text is, with a key.
+fn read_text(alloc: Global, key: Key, text: &str) -> Result<Item, RowNo>
+    ensures item { Gives (option_and_then (shaped key) (read text.now)) result }
+    ensures fits { IfOk result (λ item. is_in_range item ≡ true) }
+{
+    match Value::from_str(alloc, text) {
+        Ok(value) => read_shape(alloc, key, &value),
+        Err(error) => {
+            if error.is_memory() {
+                Err(RowNo::Memory)
+            } else {
+                Err(RowNo::Other)
+            }
+        }
+    }
+}
+
+fn same_key(key: Key, other: Key) -> bool
+    ensures { result ≡ is_key key other }
+{
+    key.kind == other.kind && key.tenant == other.tenant && key.a == other.a && key.b == other.b
+}
+
+fn same_row(row: &Row, other: &Row) -> bool
+    ensures { result ≡ is_row row.now other.now }
+{
+    same_key(row.key, other.key) && row.text == other.text
+}
+
+// The item, where its row is this one.
+fn keep_item(alloc: Global, item: Item, row: &Row) -> Result<Option<Item>, Memory>
+    ensures item { IfOk result (λ kept. kept ≡ (if is_row (row_of item) row.now then Some item else None)) }
+    ensures own { IfOk result (λ kept. IfSome kept (λ own. own ≡ item)) }
+{
+    let again = item_row(alloc, &item)?;
+    if same_row(&again, row) {
+        Ok(Some(item))
+    } else {
+        Ok(None)
+    }
+}
+
+/// What a row stands for, where it is good: the item in its ranges whose row it is.
+pub fn read_item(alloc: Global, row: &Row) -> Result<Option<Item>, Memory>
+    ensures item { IfOk result (λ found. found ≡ item_of row.now) }
+    ensures fits { IfOk result (λ found. IfSome found (λ item. is_in_range item ≡ true)) }
+{
+    match read_text(alloc, row.key, row.text.as_str()) {
+        Ok(item) => keep_item(alloc, item, row),
+        Err(RowNo::Other) => Ok(None),
+        Err(RowNo::Memory) => Err(Memory),
+    }
+}
