@@ -3,6 +3,8 @@
 #![tactic(auto)]
 
 #[cfg(test)]
+mod registries;
+#[cfg(test)]
 mod setup_frames;
 #[cfg(test)]
 mod setups;
