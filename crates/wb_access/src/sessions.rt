@@ -235,6 +235,14 @@ impl SessionTable {
         self.sessions.drop_passing(&OfPrincipal(principal));
     }
 
+    /// Drops the sessions that pass a test. It looks at all of them once.
+    pub fn drop_passing<X: ItemTest<Session>>(&mut self, test: &X)
+        ensures items { self.new.items ≡ filter (λ session. not (X.passes test.now session)) self.old.items }
+        ensures kept { self.old.spare ≤ self.new.spare }
+    {
+        self.sessions.drop_passing(test);
+    }
+
     /// Drops the sessions that have ended. It looks at all of them: they are the first in the table where the
     /// moments of logins do not fall, but nothing here rests on that.
     pub fn drop_ended(&mut self, now: Moment)

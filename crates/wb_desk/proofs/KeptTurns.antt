@@ -7,6 +7,7 @@ use Rattle.wb_custody.specs.declared.sealed.SealedItem.{SealedItem}
 use Rattle.wb_model.specs.declared.command.Asked.{Asked}
 use Rattle.wb_model.specs.declared.command.Command.{Command}
 use Rattle.wb_model.specs.declared.command.Command.TheVariants as commands
+use Rattle.wb_model.specs.declared.entry.Entry.{Entry}
 use Rattle.wb_model.specs.Changes.{At, Nothing, Begins}
 use Rattle.wb_model.specs.Host.{Tables, purged, change_of as verdict_change, ruling, ruling_at}
 use Rattle.wb_model.specs.Past.{Past}
@@ -20,17 +21,16 @@ use Rattle.wb_model.specs.declared.body.Told.{Told}
 use Rattle.wb_model.specs.Tenants.{Tenancy, Hosts, tenant_at, one, hosts_after}
 use Rattle.wb_model.proofs.Keeping.{keeps_in, submits_only, not_of_sessions}
 use Rattle.wb_plan.specs.declared.plan.At.{At as KeptAt}
-use Rattle.wb_plan.specs.declared.plan.Opening.{Opening}
 use Rattle.wb_plan.specs.declared.plan.Plan.{Plan}
 use Rattle.wb_plan.specs.declared.plan.Planned.{Planned}
 use Rattle.wb_plan.specs.declared.plan.Planned.TheVariants as planned
-use Rattle.wb_plan.specs.Plans.{Plans, at_of, change_of}
+use Rattle.wb_plan.specs.Plans.{Plans, at_of, begins, change_of}
 use Rattle.wb_tables.specs.Dead.{any_dead}
 use Rattle.wb_tables.specs.Kept.{Place, place_of, tables_of, tenancy_of, sessions_at}
 use Rattle.wb_tables.specs.Places.{ArePlaces, IsAt}
 use Rattle.wb_tables.specs.Standing.{hosts_of}
 use Rattle.wb_tables.specs.declared.tenancy.Tenancy.{Tenancy as KeptTenancy}
-use Rattle.wb_desk.specs.Puts.{puts_of, IsBatch}
+use Rattle.wb_desk.specs.Puts.{first_puts, puts_of, IsBatch}
 use Rattle.wb_desk.specs.Turns.{HasToKeep, KeepsAt, IsLeft, IsTurn, IsTurnAt, IsFrameAt, standing}
 use Rattle.wb_desk.specs.declared.batch.Lost.{Lost}
 use Rattle.wb_desk.specs.declared.batch.Lost.TheVariants as lost
@@ -67,11 +67,11 @@ ruled turns now f at asked t p =
     ap (λ m. ruling (purged m t) (at_turn turns now f) f.asked) p.time
     ∙ (ap (λ (a : At). ruling (purged at.time t) a f.asked) (at_frame_is turns now f at asked p) ∙ ap (λ (a : Asked). ruling (purged at.time t) (at_of at) a) p.asked_of)
 
-begun_keeps : (turns now : ℕ) (f : Frame) (at : KeptAt) (asked : Asked) (h : Hosts) (x : Tenancy) (t : Tables) (o : Opening) → x.tables ≡ t → h.turns ≡ turns → h.now ≡ now → IsFrameAt turns now f at asked → verdict_change (ruling (purged at.time t) (at_of at) asked) ≡ Begins o.entry
+begun_keeps : (turns now : ℕ) (f : Frame) (at : KeptAt) (asked : Asked) (h : Hosts) (x : Tenancy) (t : Tables) (entry : Entry) → x.tables ≡ t → h.turns ≡ turns → h.now ≡ now → IsFrameAt turns now f at asked → verdict_change (ruling (purged at.time t) (at_of at) asked) ≡ Begins entry
     → (verdict_change (ruling_at (one turns now t) f) ≡ Nothing → ⊥) × (is_of_sessions f.asked.command ≡ false)
-begun_keeps turns now f at asked h x t o e n m p opens = (
-  (λ none. let bad : Begins o.entry ≡ Nothing = sym opens ∙ (ap verdict_change (sym (ruled turns now f at asked t p)) ∙ none) in absurd (grind (arith, bad))),
-  not_of_sessions f.asked.command (ap (λ (a : Asked). is_submission (outline a.command)) p.asked_of ∙ submits_only (purged at.time t).plain (at_of at) (plain_part (purged at.time t).plain asked) (target (purged at.time t).plain asked.session (outline asked.command)) o.entry opens),
+begun_keeps turns now f at asked h x t entry e n m p opens = (
+  (λ none. let bad : Begins entry ≡ Nothing = sym opens ∙ (ap verdict_change (sym (ruled turns now f at asked t p)) ∙ none) in absurd (grind (arith, bad))),
+  not_of_sessions f.asked.command (ap (λ (a : Asked). is_submission (outline a.command)) p.asked_of ∙ submits_only (purged at.time t).plain (at_of at) (plain_part (purged at.time t).plain asked) (target (purged at.time t).plain asked.session (outline asked.command)) entry opens),
 )
 
 -- a change is something to keep
@@ -82,14 +82,18 @@ change_keeps t i at asked items ks d plan all is named h some = λ turns now f p
     by : (turns now : ℕ) (f : Frame) → IsFrameAt turns now f at asked → (c : Planned) → verdict_change (ruling (purged at.time (tables_of items (place_of (get_or ks i d)))) (at_of at) asked) ≡ change_of c → puts_of at.time (place_of (get_or ks i d)) c ≢ []
         → HasToKeep (hosts_of (standing turns now (map place_of ks) items)) f
     by turns now f p planned.Nothing e put = absurd (put refl)
-    by turns now f p (planned.Begins o) e put =
-        let kept = begun_keeps turns now f at asked (hosts_of (standing turns now (map place_of ks) items)) (tenancy_of items (place_of (get_or ks i d))) (tables_of items (place_of (get_or ks i d))) o refl refl refl p e in
-        inr (record {
-          tenancy = tenancy_of items (place_of (get_or ks i d));
-          named = found_at at.turn 0 (tenant_at f) i items ks d all is.within (is.id d ∙ names_tenant turns now t f at asked p named);
-          changes = kept.0;
-          other = kept.1;
-        })
+    by turns now f p (planned.Begins o) e put = first o.case.items e put
+      where
+        first : (trail : List Entry) → verdict_change (ruling (purged at.time (tables_of items (place_of (get_or ks i d)))) (at_of at) asked) ≡ begins trail → first_puts at.time (place_of (get_or ks i d)) trail o.secret ≢ [] → HasToKeep (hosts_of (standing turns now (map place_of ks) items)) f
+        first [] e put = absurd (put refl)
+        first (entry ∷ es) e put =
+            let kept = begun_keeps turns now f at asked (hosts_of (standing turns now (map place_of ks) items)) (tenancy_of items (place_of (get_or ks i d))) (tables_of items (place_of (get_or ks i d))) entry refl refl refl p e in
+            inr (record {
+              tenancy = tenancy_of items (place_of (get_or ks i d));
+              named = found_at at.turn 0 (tenant_at f) i items ks d all is.within (is.id d ∙ names_tenant turns now t f at asked p named);
+              changes = kept.0;
+              other = kept.1;
+            })
 
 pub keeps_at : (t i : ℕ) (at : KeptAt) (asked : Asked) (items : List SealedItem) (ks : List KeptTenancy) (d : KeptTenancy) (plan : Plan) (batch : List RowChange) → ArePlaces at.turn 0 items (map place_of ks) → IsAt t ks i → t ≡ tenant_of asked.command
     → Plans (purged at.time (tables_of items (place_of (get_or ks i d)))) (at_of at) asked plan → IsBatch at.time (map place_of ks) (puts_of at.time (place_of (get_or ks i d)) plan.change) batch → batch ≢ [] → KeepsAt (map place_of ks) items at asked

@@ -8,6 +8,7 @@ use Rattle.wb_base.specs.KeptRows.{all_changed, IsGoodChange}
 use Rattle.wb_tables.specs.Dead.{any_dead}
 use Rattle.wb_base.specs.declared.rows.Change.{Change as RowChange}
 use Rattle.wb_custody.specs.declared.sealed.SealedItem.{SealedItem}
+use Rattle.wb_model.specs.declared.entry.Entry.{Entry}
 use Rattle.wb_model.specs.Host.{changed, drawn}
 use Rattle.wb_model.specs.Opened.{AtMost}
 use Rattle.wb_base.specs.declared.rows.Change.TheVariants.{Put}
@@ -18,33 +19,33 @@ use Rattle.wb_model.specs.Tenants.{Tenancy}
 use Rattle.wb_model.proofs.Found.{Held}
 use Rattle.wb_model.proofs.KindRows.{texts, opened_puts}
 use Rattle.wb_model.proofs.TurnRows.{changed_append, opened_rows}
-use Rattle.wb_plan.specs.declared.plan.Opening.{Opening}
 use Rattle.wb_plan.specs.declared.plan.Planned.{Planned}
 use Rattle.wb_plan.specs.declared.plan.Planned.TheVariants as planned
-use Rattle.wb_plan.specs.Plans.{change_of, given_of}
+use Rattle.wb_plan.specs.Plans.{begins, change_of, given_of}
 use Rattle.wb_tables.specs.Kept.{Place, place_of, tables_of, tenancy_of, live_place, purged_tenancy}
 use Rattle.wb_tables.specs.Places.{IsPlace, ArePlaces}
 use Rattle.wb_tables.specs.declared.tenancy.Tenancy.{Tenancy as KeptTenancy}
 use Rattle.wb_tables.proofs.PlacesAt.{place_at}
 use Rattle.wb_tables.proofs.Purges.{same_tables, tenancies_above, AreOthers}
-use Rattle.wb_desk.specs.Puts.{sealed_put, opening_puts, puts_of, IsBatch}
+use Rattle.wb_desk.specs.Puts.{sealed_put, first_puts, puts_of, IsBatch}
 use Rattle.wb_desk.specs.Ready.{IsMadeAt}
 use Rattle.wb_desk.proofs.Tenants.{id_above}
 use Rattle.wb_desk.proofs.Whole.{IsPurge, IsLiveAt, places_left, live_at}
 
 -- ---- what a change puts
 
-puts_same : (now : ℕ) (x : Place) (o : Opening) → opening_puts now x o ≡ opened_puts texts x.id now o.entry o.secret x.plain
-puts_same now x o = by o.secret
-  where
-    by : (s : Option Answered) → opening_puts now x (record { entry = o.entry; secret = s }) ≡ opened_puts texts x.id now o.entry s x.plain
-    by None = refl
-    by (Some a) = refl
+puts_same : (now : ℕ) (x : Place) (entry : Entry) (es : List Entry) (secret : Option Answered) → first_puts now x (entry ∷ es) secret ≡ opened_puts texts x.id now entry secret x.plain
+puts_same now x entry es None = refl
+puts_same now x entry es (Some a) = refl
 
 -- the same of the tables once they are purged
 pub live_puts : (now time : ℕ) (x : Place) (c : Planned) → puts_of now (live_place time x) c ≡ puts_of now x c
 live_puts now time x planned.Nothing = refl
-live_puts now time x (planned.Begins o) = refl
+live_puts now time x (planned.Begins o) = by o.case.items
+  where
+    by : (trail : List Entry) → first_puts now (live_place time x) trail o.secret ≡ first_puts now x trail o.secret
+    by [] = refl
+    by (e ∷ es) = refl
 
 -- a tenant as a place
 abbrev as_place : Tenancy → Place
@@ -57,8 +58,11 @@ change_rows : (before after : List Tenancy) (y : Tenancy) → ((x : Tenancy) →
     → y.tables.sealed (y.tables.plain.numbering.last + 1) ≡ None → (now : ℕ) (c : Planned)
     → all_changed (rows_of (before ++ (y ∷ after))) (puts_of now (as_place y) c) ≡ rows_of (before ++ (made_one now c y ∷ after))
 change_rows before after y below above most unsealed now planned.Nothing = refl
-change_rows before after y below above most unsealed now (planned.Begins o) =
-    ap (all_changed (rows_of (before ++ (y ∷ after)))) (puts_same now (as_place y) o) ∙ opened_rows before after y below above most unsealed now o.entry o.secret
+change_rows before after y below above most unsealed now (planned.Begins o) = by o.case.items
+  where
+    by : (trail : List Entry) → all_changed (rows_of (before ++ (y ∷ after))) (first_puts now (as_place y) trail o.secret) ≡ rows_of (before ++ (record { id = y.id; tables = changed now (begins trail) o.secret y.tables } ∷ after))
+    by [] = refl
+    by (e ∷ es) = ap (all_changed (rows_of (before ++ (y ∷ after)))) (puts_same now (as_place y) e es o.secret) ∙ opened_rows before after y below above most unsealed now e o.secret
 
 -- ---- the tenant at a place, and those before and after it
 
@@ -71,9 +75,9 @@ pub record IsSplitAt (i : ℕ) (items : List SealedItem) (ks : List KeptTenancy)
   pub before : List Tenancy
   pub after : List Tenancy
   pub whole : map (tenancy_of items) (map place_of ks) ≡ before ++ (tenancy_of items (place_of (get_or ks i d)) ∷ after)
-  pub below : (x : Tenancy) → Held x before → x.id < (get_or ks i d).settings.tenant
-  pub above : (x : Tenancy) → Held x after → (get_or ks i d).settings.tenant < x.id
-  pub made : (new : List SealedItem) (y : KeptTenancy) → AreOthers items new (get_or ks i d).settings.tenant → map (tenancy_of new) (map place_of (set ks i y)) ≡ before ++ (tenancy_of new (place_of y) ∷ after)
+  pub below : (x : Tenancy) → Held x before → x.id < (get_or ks i d).configuration.tenant
+  pub above : (x : Tenancy) → Held x after → (get_or ks i d).configuration.tenant < x.id
+  pub made : (new : List SealedItem) (y : KeptTenancy) → AreOthers items new (get_or ks i d).configuration.tenant → map (tenancy_of new) (map place_of (set ks i y)) ≡ before ++ (tenancy_of new (place_of y) ∷ after)
 
 same_tenancy : (x y : Tenancy) → x.id ≡ y.id → x.tables ≡ y.tables → x ≡ y
 same_tenancy x y i t = λ k. record { id = i k; tables = t k }
@@ -85,12 +89,12 @@ split_at turns k zero items (x ∷ ks) d all lt = record {
   after = map (tenancy_of items) (map place_of ks);
   whole = refl;
   below = λ z held. absurd held;
-  above = λ z held. held_above turns x.settings.tenant items (map place_of ks) z all.1 held;
-  made = λ new y others. ap (λ l. tenancy_of new (place_of y) ∷ l) (tenancies_above turns x.settings.tenant x.settings.tenant items new (map place_of ks) (omega arith) all.1 others);
+  above = λ z held. held_above turns x.configuration.tenant items (map place_of ks) z all.1 held;
+  made = λ new y others. ap (λ l. tenancy_of new (place_of y) ∷ l) (tenancies_above turns x.configuration.tenant x.configuration.tenant items new (map place_of ks) (omega arith) all.1 others);
 }
 split_at turns k (suc i) items (x ∷ ks) d all lt =
-    let above : x.settings.tenant < (get_or ks i d).settings.tenant = id_above turns x.settings.tenant i items ks d all.1 (omega arith) in
-    let rest : IsSplitAt i items ks d = split_at turns x.settings.tenant i items ks d all.1 (omega arith) in
+    let above : x.configuration.tenant < (get_or ks i d).configuration.tenant = id_above turns x.configuration.tenant i items ks d all.1 (omega arith) in
+    let rest : IsSplitAt i items ks d = split_at turns x.configuration.tenant i items ks d all.1 (omega arith) in
     record {
       before = tenancy_of items (place_of x) ∷ rest.before;
       after = rest.after;
@@ -98,12 +102,12 @@ split_at turns k (suc i) items (x ∷ ks) d all lt =
       below = λ z held. by rest above z held;
       above = rest.above;
       made = λ new y others.
-          ap (λ t. t ∷ map (tenancy_of new) (map place_of (set ks i y))) (same_tenancy (tenancy_of new (place_of x)) (tenancy_of items (place_of x)) refl (same_tables (tables_of new (place_of x)) (tables_of items (place_of x)) refl (λ n. others x.settings.tenant n (λ same. absurd (omega (arith, same, above))))))
+          ap (λ t. t ∷ map (tenancy_of new) (map place_of (set ks i y))) (same_tenancy (tenancy_of new (place_of x)) (tenancy_of items (place_of x)) refl (same_tables (tables_of new (place_of x)) (tables_of items (place_of x)) refl (λ n. others x.configuration.tenant n (λ same. absurd (omega (arith, same, above))))))
           ∙ ap (λ l. tenancy_of items (place_of x) ∷ l) (rest.made new y others);
     }
   where
-    by : (rest : IsSplitAt i items ks d) → x.settings.tenant < (get_or ks i d).settings.tenant → (z : Tenancy) → Held z (tenancy_of items (place_of x) ∷ rest.before) → z.id < (get_or ks i d).settings.tenant
-    by rest lower z (inl e) = subst (λ (w : Tenancy). w.id < (get_or ks i d).settings.tenant) (sym e) lower
+    by : (rest : IsSplitAt i items ks d) → x.configuration.tenant < (get_or ks i d).configuration.tenant → (z : Tenancy) → Held z (tenancy_of items (place_of x) ∷ rest.before) → z.id < (get_or ks i d).configuration.tenant
+    by rest lower z (inl e) = subst (λ (w : Tenancy). w.id < (get_or ks i d).configuration.tenant) (sym e) lower
     by rest lower z (inr h) = rest.below z h
 
 there_above : (last n : ℕ) (cs : List Case) → AtMost last cs → last < n → is_there n cs ≡ false
@@ -181,9 +185,13 @@ good_sealed t n (Some a) = All-cons IsGoodChange (Put (row 7 t n 0 (answers_data
 
 good_puts : (now : ℕ) (x : Place) (c : Planned) → All IsGoodChange (puts_of now x c)
 good_puts now x planned.Nothing = All-nil IsGoodChange
-good_puts now x (planned.Begins o) =
-    All-cons IsGoodChange (Put (row 2 x.id 0 0 (numbering_data (drawn now x.plain.registry.settings x.plain.numbering)))) (Put (row 6 x.id (x.plain.numbering.last + 1) 1 (entry_data o.entry)) ∷ sealed_put x.id (x.plain.numbering.last + 1) o.secret) (omega arith, λ e. absurd (omega (arith, e)))
-    (All-cons IsGoodChange (Put (row 6 x.id (x.plain.numbering.last + 1) 1 (entry_data o.entry))) (sealed_put x.id (x.plain.numbering.last + 1) o.secret) (omega arith, λ e. absurd (omega (arith, e))) (good_sealed x.id (x.plain.numbering.last + 1) o.secret))
+good_puts now x (planned.Begins o) = by o.case.items
+  where
+    by : (trail : List Entry) → All IsGoodChange (first_puts now x trail o.secret)
+    by [] = All-nil IsGoodChange
+    by (e ∷ es) =
+        All-cons IsGoodChange (Put (row 2 x.id 0 0 (numbering_data (drawn now x.plain.registry.settings x.plain.numbering)))) (Put (row 6 x.id (x.plain.numbering.last + 1) 1 (entry_data e)) ∷ sealed_put x.id (x.plain.numbering.last + 1) o.secret) (omega arith, λ e. absurd (omega (arith, e)))
+        (All-cons IsGoodChange (Put (row 6 x.id (x.plain.numbering.last + 1) 1 (entry_data e))) (sealed_put x.id (x.plain.numbering.last + 1) o.secret) (omega arith, λ e. absurd (omega (arith, e))) (good_sealed x.id (x.plain.numbering.last + 1) o.secret))
 
 pub batch_made : (now i : ℕ) (ks : List KeptTenancy) (x d : KeptTenancy) (c : Planned) (drops batch : List RowChange) → i < length ks → x ≡ get_or ks i x
     → ((items : List SealedItem) → all_changed (rows_of (map (tenancy_of items) (map place_of ks))) drops ≡ rows_of (map (purged_tenancy now) (map (tenancy_of items) (map place_of ks))))

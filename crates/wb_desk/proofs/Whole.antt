@@ -1,35 +1,32 @@
 -- A whole turn: the purge of all tenants, and then the change of the tenant that is named.
-use Rattle.std.proofs.Common.{◌≡◌, ℕ, ◌<◌, ◌≤◌, ◌+◌, Bool, true, false, cond, suc, zero, List, [], ◌∷◌, length, map, find, set, get_or, Option, Some, None, refl, sym, ap, ◌∙◌, subst, arith}
-use Rattle.std.specs.Prelude.{IfSome, filter, ◌==◌}
+use Rattle.std.proofs.Common.{◌≡◌, ℕ, ◌<◌, ◌≤◌, ◌+◌, Bool, true, false, cond, suc, zero, List, [], ◌∷◌, length, map, find, set, get_or, None, refl, sym, ap, ◌∙◌, subst, arith}
+use Rattle.std.specs.Prelude.{filter, ◌==◌}
 use Rattle.std.proofs.lemmas.Bool.Decides.{nat_tests}
-use Rattle.wb_model.specs.Tables.{lasts}
+use Rattle.wb_model.specs.Tables.{Plain, lasts}
 use Rattle.std.proofs.lemmas.List.Sums.{sum_by-cons}
 use Rattle.wb_custody.specs.declared.sealed.SealedItem.{SealedItem}
 use Rattle.wb_model.specs.declared.command.Asked.{Asked}
 use Rattle.wb_model.specs.declared.body.Told.{Told}
 use Rattle.wb_model.specs.Commands.{tenant_of}
 use Rattle.wb_model.specs.Tenants.{Tenancy, without_tenant}
-use Rattle.wb_model.specs.Changes.{At}
+use Rattle.wb_model.specs.Changes.{At, Change, Begins}
 use Rattle.wb_model.specs.Host.{Tables, live_cases, purged, change_of as verdict_change, ruling, tables_after}
 use Rattle.wb_model.specs.Requests.{outline, plain_part}
 use Rattle.wb_model.specs.Targets.{target}
 use Rattle.wb_model.proofs.Receipts.{HasOwn, verdict_own}
 use Rattle.wb_plan.specs.declared.plan.At.{At as KeptAt}
-use Rattle.wb_desk.specs.declared.ready.Opened.{Opened}
-use Rattle.wb_desk.specs.declared.ready.Ready.{Ready}
+use Rattle.wb_plan.specs.declared.plan.Plan.{Plan}
+use Rattle.wb_plan.specs.declared.plan.Planned.{Planned}
+use Rattle.wb_plan.specs.declared.plan.Planned.TheVariants as planned
 use Rattle.wb_tables.specs.declared.tenancy.Tenancy.{Tenancy as KeptTenancy}
-use Rattle.wb_plan.specs.Plans.{Plans, at_of, change_of}
-use Rattle.wb_tables.specs.Places.{ArePlaces, AreRoomy, IsAt, is_tenant}
-use Rattle.wb_desk.specs.Ready.{plan_of, planned_of, IsRoom, IsOwn, IsMadeAt}
+use Rattle.wb_plan.specs.Plans.{Plans, IsRoomy, at_of, change_of}
+use Rattle.wb_tables.specs.Places.{ArePlaces, IsPurged, ArePurged, IsAt, is_tenant}
+use Rattle.wb_desk.specs.Ready.{IsOwn, IsMadeAt}
 use Rattle.wb_tables.specs.Kept.{Place, place_of, plain_of, tables_of, tenancy_of, live_place, purged_tenancy, sessions_at}
 use Rattle.wb_desk.specs.Turns.{IsTurnOver}
 use Rattle.wb_tables.proofs.Purges.{purged_places}
 use Rattle.wb_desk.proofs.Tenants.{reply_named, hosts_named, hosts_made, reply_unnamed, hosts_unnamed}
 use Rattle.wb_desk.proofs.Begun.{planned_tables}
-
-pub some_more : {X : Type 0} {P Q : X → Type 0} (o : Option X) → ((x : X) → P x → Q x) → IfSome o P → IfSome o Q
-some_more None f p = tt
-some_more (Some x) f p = f x p
 
 -- the tenancy at a place of tables that are purged
 pub record IsLiveAt (time i : ℕ) (ks ls : List KeptTenancy) : Type 0 where
@@ -53,20 +50,21 @@ length_same (suc i) (x ∷ ks) (y ∷ ls) e lt =
     let rest : map place_of ls ≡ map place_of ks = cc in
     let later : i < length ls = length_same i ks ls rest (omega arith) in omega (arith, later)
 
-pub roomy_at : (i : ℕ) (ks ls : List KeptTenancy) (d : KeptTenancy) → AreRoomy ks ls → i < length ks → (get_or ks i d).cases.spare ≤ (get_or ls i d).cases.spare
-roomy_at i [] ls d h lt = absurd (omega arith)
-roomy_at i (x ∷ ks) [] d h lt = absurd h
-roomy_at zero (x ∷ ks) (y ∷ ls) d h lt = h.0
-roomy_at (suc i) (x ∷ ks) (y ∷ ls) d h lt = roomy_at i ks ls d h.1 (omega arith)
+pub purged_at : (time i : ℕ) (ks ls : List KeptTenancy) (d : KeptTenancy) → ArePurged time ks ls → i < length ks → IsPurged time (get_or ks i d) (get_or ls i d)
+purged_at time i [] ls d h lt = absurd (omega arith)
+purged_at time i (x ∷ ks) [] d h lt = absurd h
+purged_at time zero (x ∷ ks) (y ∷ ls) d h lt = h.0
+purged_at time (suc i) (x ∷ ks) (y ∷ ls) d h lt = purged_at time i ks ls d h.1 (omega arith)
 
 -- a purge leaves the room
-pub room_left : (time i spare more : ℕ) (ks ls : List KeptTenancy) (o : Opened) → AreRoomy ks ls → map place_of ls ≡ map (live_place time) (map place_of ks) → i < length ks → spare ≤ more
-    → ((d : KeptTenancy) → IsRoom (get_or ks i d) spare o) → (d : KeptTenancy) → IsRoom (get_or ls i d) more o
-room_left time i spare more ks ls o roomy e lt le h d =
+pub room_left : (time i spare more : ℕ) (ks ls : List KeptTenancy) (c : Planned) → ArePurged time ks ls → map place_of ls ≡ map (live_place time) (map place_of ks) → i < length ks → spare ≤ more
+    → ((d : KeptTenancy) → IsRoomy (get_or ks i d) spare c) → (d : KeptTenancy) → IsRoomy (get_or ls i d) more c
+room_left time i spare more ks ls planned.Nothing roomy e lt le h d = record { fit = tt; room = tt }
+room_left time i spare more ks ls (planned.Begins o) roomy e lt le h d =
     let at = live_at time i ks ls e lt in
     let last : (get_or ls i d).numbering.last ≡ (get_or ks i d).numbering.last = ap (λ (x : Place). x.plain.numbering.last) (at.place d) in
-    let wide = roomy_at i ks ls d roomy lt in
-    record { number = omega (arith, last, (h d).number); cases = omega (arith, wide, (h d).cases); sealed = omega (arith, le, (h d).sealed); trail = (h d).trail; empty = (h d).empty }
+    let wide = (purged_at time i ks ls d roomy lt).room in
+    record { fit = (omega (arith, last, (h d).fit.0), (h d).fit.1, (h d).fit.2); room = (omega (arith, wide, (h d).room.0), omega (arith, le, (h d).room.1)) }
 
 -- fewer sessions stand after a purge
 fewer : {X : Type 0} (p : X → Bool) (xs : List X) → length (filter p xs) ≤ length xs
@@ -113,12 +111,12 @@ live_tables turns time k (suc i) items mid (x ∷ ks) (y ∷ ls) d e lt =
     live_tables turns time k i items mid ks ls d rest (omega arith)
 
 -- the turn of the tenant at a place
-pub turn_over : (t i : ℕ) (at : KeptAt) (asked : Asked) (ready : Ready) (items mid new : List SealedItem) (ks ls ms : List KeptTenancy) → ArePlaces at.turn 0 items (map place_of ks) → IsAt t ks i → t ≡ tenant_of asked.command
-    → ((d : KeptTenancy) → Plans (purged at.time (tables_of items (place_of (get_or ks i d)))) (at_of at) asked (plan_of ready)) → IsPurge at.time (map place_of ks) items (map place_of ls) mid → IsMadeAt i at.time (planned_of ready.opened) mid new ls ms
+pub turn_over : (t i : ℕ) (at : KeptAt) (asked : Asked) (plan : Plan) (items mid new : List SealedItem) (ks ls ms : List KeptTenancy) → ArePlaces at.turn 0 items (map place_of ks) → IsAt t ks i → t ≡ tenant_of asked.command
+    → ((d : KeptTenancy) → Plans (purged at.time (tables_of items (place_of (get_or ks i d)))) (at_of at) asked plan) → IsPurge at.time (map place_of ks) items (map place_of ls) mid → IsMadeAt i at.time plan.change mid new ls ms
     → ArePlaces at.turn 0 new (map place_of ms) → sessions_at (map place_of ms) ≤ sessions_at (map place_of ls) + 1
-    → IsTurnOver (map place_of ks) items at asked ready.told (map place_of ms) new
-turn_over t i at asked ready items mid new ks ls ms all is named plan purge made places sessions = record {
-  reply = λ turns now f p. sym (plan made.tenancy).reply ∙ reply_named at.turn turns now t i f at asked items ks made.tenancy p all is named;
+    → IsTurnOver (map place_of ks) items at asked plan.told (map place_of ms) new
+turn_over t i at asked plan items mid new ks ls ms all is named planned_at purge made places sessions = record {
+  reply = λ turns now f p. sym (planned_at made.tenancy).reply ∙ reply_named at.turn turns now t i f at asked items ks made.tenancy p all is named;
   hosts = λ turns now f p. ap (λ (l : List KeptTenancy). map (tenancy_of new) (map place_of l)) made.set_at ∙ hosts_made turns now f at asked (map (tenancy_of items) (map place_of ks)) (map (tenancy_of mid) (map place_of ls)) (map (tenancy_of new) (map place_of (set ls i made.tenancy))) p purge.hosts
       (hosts_named at.turn turns now t i f at asked mid new ls made.tenancy made.tenancy p (places_left at.turn at.time (map place_of ks) items (map place_of ls) mid all purge) there named (made.id made.tenancy) whole (made.others made.tenancy));
   places = places;
@@ -135,7 +133,7 @@ turn_over t i at asked ready items mid new ks ls ms all is named plan purge made
     tables_here = live_tables at.turn at.time 0 i items mid ks ls made.tenancy purge.hosts is.within
 
     whole : tables_of new (place_of made.tenancy) ≡ tables_after (tables_of mid (place_of (get_or ls i made.tenancy))) (at_of at) asked
-    whole = planned_tables (tables_of mid (place_of (get_or ls i made.tenancy))) (tables_of new (place_of made.tenancy)) (at_of at) asked (plan_of ready) (subst (λ q. Plans q (at_of at) asked (plan_of ready)) (sym tables_here) (plan made.tenancy)) (made.tables made.tenancy)
+    whole = planned_tables (tables_of mid (place_of (get_or ls i made.tenancy))) (tables_of new (place_of made.tenancy)) (at_of at) asked plan (subst (λ q. Plans q (at_of at) asked plan) (sym tables_here) (planned_at made.tenancy)) (made.tables made.tenancy)
 
 pub none_live : (time t : ℕ) (zs : List Place) → find (is_tenant t) zs ≡ None → find (is_tenant t) (map (live_place time) zs) ≡ None
 none_live time t [] e = refl
@@ -159,12 +157,15 @@ turn_without t at asked told items new xs ys all named none e purge = record {
 
 -- ---- a report that begins has a receipt of its own
 
-own_of : (t : Tables) (at : At) (a : Asked) (o : Option Opened) → verdict_change (ruling t at a) ≡ change_of (planned_of o) → IsOwn t.plain o
-own_of t at a None e = tt
-own_of t at a (Some o) e = subst (HasOwn t.plain) e (verdict_own t.plain at (plain_part t.plain a) (target t.plain a.session (outline a.command)))
+own_change : (p : Plain) (c : Change) → HasOwn p c → IsOwn p c
+own_change p (Begins entry) own = own
+own_change p _ own = tt
 
-pub own_at : (i : ℕ) (at : KeptAt) (asked : Asked) (ready : Ready) (items : List SealedItem) (ks ls : List KeptTenancy) (d : KeptTenancy) → map place_of ls ≡ map (live_place at.time) (map place_of ks) → i < length ks
-    → Plans (purged at.time (tables_of items (place_of (get_or ks i d)))) (at_of at) asked (plan_of ready) → IsOwn (plain_of (get_or ls i d)) ready.opened
-own_at i at asked ready items ks ls d e lt plan =
+own_of : (t : Tables) (at : At) (a : Asked) (c : Change) → verdict_change (ruling t at a) ≡ c → IsOwn t.plain c
+own_of t at a c e = own_change t.plain c (subst (HasOwn t.plain) e (verdict_own t.plain at (plain_part t.plain a) (target t.plain a.session (outline a.command))))
+
+pub own_at : (i : ℕ) (at : KeptAt) (asked : Asked) (plan : Plan) (items : List SealedItem) (ks ls : List KeptTenancy) (d : KeptTenancy) → map place_of ls ≡ map (live_place at.time) (map place_of ks) → i < length ks
+    → Plans (purged at.time (tables_of items (place_of (get_or ks i d)))) (at_of at) asked plan → IsOwn (plain_of (get_or ls i d)) (change_of plan.change)
+own_at i at asked plan items ks ls d e lt h =
     let live = live_at at.time i ks ls e lt in
-    subst (λ (x : Place). IsOwn x.plain ready.opened) (sym (live.place d)) (own_of (purged at.time (tables_of items (place_of (get_or ks i d)))) (at_of at) asked ready.opened plan.change)
+    subst (λ (x : Place). IsOwn x.plain (change_of plan.change)) (sym (live.place d)) (own_of (purged at.time (tables_of items (place_of (get_or ks i d)))) (at_of at) asked (change_of plan.change) h.change)

@@ -5,9 +5,9 @@ ghost use Rattle.wb_base.specs.KeptRows.{all_changed, IsGoodChange};
 ghost use Rattle.wb_base.specs.Outside.{Rose};
 ghost use Rattle.wb_base.specs.declared.rows.Row.{Row as KeptRow};
 ghost use Rattle.wb_base.specs.declared.rows.Change.TheVariants.{Put};
-ghost use Rattle.wb_model.specs.Host.{drawn};
+ghost use Rattle.wb_model.specs.declared.entry.Entry.{Entry as EntryValue};
 ghost use Rattle.wb_model.specs.Rows.{row, numbering_data, entry_data};
-ghost use Rattle.wb_desk.specs.Puts.{sealed_put, opening_puts};
+ghost use Rattle.wb_desk.specs.Puts.{sealed_put, first_puts};
 ghost use Rattle.wb_tables.specs.Kept.{place_of};
 
 use crate::take::draw_number;
@@ -81,18 +81,19 @@ pub fn put_opening(
     time: Moment,
     opening: &Opening,
 ) -> Result<(), Memory>
-    requires offset { IsOffset tenancy.now.settings.offset }
+    requires offset { IsOffset tenancy.now.configuration.registry.settings.offset }
     requires last { tenancy.now.numbering.last < 4_294_967_295 }
     requires drawn { tenancy.now.numbering.drawn ≤ tenancy.now.numbering.last }
-    ensures { OnOk result (batch.new.items ≡ batch.old.items ++ opening_puts time (place_of tenancy.now) opening.now) }
+    requires begun { (entry : EntryValue) × (opening.now.case.items ≡ entry ∷ []) }
+    ensures { OnOk result (batch.new.items ≡ batch.old.items ++ first_puts time (place_of tenancy.now) opening.now.case.items opening.now.secret) }
 {
     let Some(number) = Number::try_new(tenancy.numbering.last + 1) else {
         unreachable!();
     };
-    let tenant = tenancy.settings.tenant;
-    let numbering = draw_number(&tenancy.settings, tenancy.numbering, time);
+    let tenant = tenancy.configuration.tenant();
+    let numbering = draw_number(tenancy.configuration.settings(), tenancy.numbering, time);
     put_numbering(alloc, batch, tenant, &numbering)?;
-    put_entry(alloc, batch, tenant, number, &opening.entry)?;
+    put_entry(alloc, batch, tenant, number, opening.case.trail().get(0))?;
     put_sealed(alloc, batch, tenant, number, &opening.secret)
 }
 

@@ -1,44 +1,29 @@
 //! A turn that is ready to be made: it is planned, what it has to keep is written, and all memory is taken.
-ghost use Rattle.std.specs.Prelude.{◌≡◌, ◌≢◌, ◌<◌, ◌≤◌, ◌++◌, ℕ, List, [], true, None, map, length, slice_index_or, IfOk, IfSome, OnOk, OnErr};
+ghost use Rattle.std.specs.Prelude.{◌≡◌, ◌<◌, ◌++◌, ℕ, List, [], true, map, length, slice_index_or, IfOk, OnOk, OnErr};
 ghost use Rattle.wb_custody.specs.declared.sealed.SealedItem.{SealedItem};
 ghost use Rattle.wb_model.specs.Built.{is_built};
 ghost use Rattle.wb_model.specs.Fits.{fits};
 ghost use Rattle.wb_model.specs.Host.{purged};
 ghost use Rattle.wb_model.specs.Tenants.{without_tenant as told_without};
-ghost use Rattle.wb_plan.specs.Plans.{Plans, at_of};
+ghost use Rattle.wb_plan.specs.Plans.{IsFit, IsRoomy, Plans, at_of};
 ghost use Rattle.wb_tables.specs.Dead.{any_dead};
 ghost use Rattle.wb_tables.specs.Kept.{place_of, tables_of};
 ghost use Rattle.wb_tables.specs.Places.{IsPlace, ArePlaces};
 ghost use Rattle.wb_tables.specs.declared.tenancy.Tenancy.{Tenancy as KeptTenancy};
 ghost use Rattle.wb_desk.specs.Puts.{puts_of, IsBatch};
-ghost use Rattle.wb_desk.specs.Ready.{plan_of, planned_of, IsRoom};
 
 use crate::batch::put_opening;
 use std::alloc::Global;
 use wb_base::{Change, Memory, Moment};
 use wb_custody::SealedTable;
-use wb_model::{Asked, Told, Trail};
-use wb_plan::{At, Opening, Plan, Planned, plan_turn, without_tenant};
-use wb_tables::{Cases, Tenancy, dead_batch};
+use wb_model::{Asked, Told};
+use wb_plan::{At, Plan, Planned, plan_turn, without_tenant};
+use wb_tables::{Tenancy, dead_batch};
 
-/// A turn that is planned, and for which there is room: what it answers, and the report that begins.
-#[derive(Drop)]
-pub struct Ready {
-    pub told: Told,
-    pub opened: Option<Opened>,
-}
-
-/// A report that begins, and its trail, which has room.
-#[derive(Drop)]
-pub struct Opened {
-    pub opening: Opening,
-    pub trail: Trail,
-}
-
-/// A turn that is ready, and what it has to keep.
+/// A turn that is planned, for which there is room, and what it has to keep.
 #[derive(Drop)]
 pub struct Batched {
-    pub ready: Ready,
+    pub plan: Plan,
     pub batch: Vec<Change>,
 }
 
@@ -49,52 +34,7 @@ pub struct Unnamed {
     pub batch: Vec<Change>,
 }
 
-// Makes room for a report: in a new trail, in the table of reports, and among the identity answers.
-fn make_room(alloc: Global, cases: &mut Cases, sealed: &mut SealedTable) -> Result<Trail, Memory>
-    ensures cases { cases.new.items ≡ cases.old.items }
-    ensures sealed { sealed.new.items ≡ sealed.old.items }
-    ensures empty { IfOk result (λ trail. trail.items ≡ []) }
-    ensures trail_room { IfOk result (λ trail. 0 < trail.spare) }
-    ensures room { OnOk result (0 < cases.new.spare) }
-    ensures sealed_room { OnOk result (0 < sealed.new.spare) }
-{
-    let mut trail = Trail::new(alloc);
-    trail.reserve()?;
-    cases.reserve()?;
-    sealed.reserve()?;
-    Ok(trail)
-}
-
-// Makes a turn of one tenant ready: it is planned over the purged tables, and room is made. The tables stay.
-fn ready_of(
-    alloc: Global,
-    tenancy: &mut Tenancy,
-    sealed: &mut SealedTable,
-    at: &At,
-    asked: &Asked,
-) -> Result<Ready, Memory>
-    requires place { (turns : ℕ) × IsPlace turns sealed.old.items (place_of tenancy.old) }
-    requires built { is_built asked.now.command ≡ true }
-    requires fits { fits asked.now ≡ true }
-    ensures plan { IfOk result (λ ready. Plans (purged at.now.time (tables_of sealed.old.items (place_of tenancy.old))) (at_of at.now) asked.now (plan_of ready)) }
-    ensures room { IfOk result (λ ready. IfSome ready.opened (λ o. IsRoom tenancy.new sealed.new.spare o)) }
-    ensures tenancy_left { place_of tenancy.new ≡ place_of tenancy.old }
-    ensures sealed_left { sealed.new.items ≡ sealed.old.items }
-{
-    let Plan { told, change } = plan_turn(alloc, tenancy, sealed, at, asked)?;
-    match change {
-        Planned::Nothing => Ok(Ready { told, opened: None }),
-        Planned::Begins(opening) => {
-            let trail = make_room(alloc, &mut tenancy.cases, sealed)?;
-            Ok(Ready {
-                told,
-                opened: Some(Opened { opening, trail }),
-            })
-        }
-    }
-}
-
-// Makes the turn of the tenant at a place ready.
+// Plans the turn of the tenant at a place over the purged tables, and makes room for it. The tables stay.
 fn ready_at(
     alloc: Global,
     tenancies: &mut [Tenancy],
@@ -102,18 +42,18 @@ fn ready_at(
     sealed: &mut SealedTable,
     at: &At,
     asked: &Asked,
-) -> Result<Ready, Memory>
+) -> Result<Plan, Memory>
     requires places { (turns : ℕ) × ArePlaces turns 0 sealed.old.items (map place_of tenancies.old) }
     requires within { place < length tenancies.old }
     requires built { is_built asked.now.command ≡ true }
     requires fits { fits asked.now ≡ true }
-    ensures plan { IfOk result (λ ready. (d : KeptTenancy) → Plans (purged at.now.time (tables_of sealed.old.items (place_of (slice_index_or tenancies.old place d)))) (at_of at.now) asked.now (plan_of ready)) }
-    ensures room { IfOk result (λ ready. IfSome ready.opened (λ o. (d : KeptTenancy) → IsRoom (slice_index_or tenancies.new place d) sealed.new.spare o)) }
+    ensures plan { IfOk result (λ plan. (d : KeptTenancy) → Plans (purged at.now.time (tables_of sealed.old.items (place_of (slice_index_or tenancies.old place d)))) (at_of at.now) asked.now plan) }
+    ensures room { IfOk result (λ plan. (d : KeptTenancy) → IsRoomy (slice_index_or tenancies.new place d) sealed.new.spare plan.change) }
     ensures tenants_left { map place_of tenancies.new ≡ map place_of tenancies.old }
     ensures sealed_left { sealed.new.items ≡ sealed.old.items }
 {
     let tenancy = &mut tenancies[place];
-    ready_of(alloc, tenancy, sealed, at, asked)
+    plan_turn(alloc, tenancy, sealed, at, asked)
 }
 
 // What a change has to keep is to be put.
@@ -122,14 +62,15 @@ fn put_change(
     batch: &mut Vec<Change>,
     tenancy: &Tenancy,
     time: Moment,
-    opened: &Option<Opened>,
+    change: &Planned,
 ) -> Result<(), Memory>
-    requires place { (spare turns : ℕ) × (items : List SealedItem) × (IsPlace turns items (place_of tenancy.now) × IfSome opened.now (λ o. IsRoom tenancy.now spare o)) }
-    ensures { OnOk result (batch.new.items ≡ batch.old.items ++ puts_of time (place_of tenancy.now) (planned_of opened.now)) }
+    requires place { (turns : ℕ) × (items : List SealedItem) × IsPlace turns items (place_of tenancy.now) }
+    requires fit { IsFit tenancy.now change.now }
+    ensures { OnOk result (batch.new.items ≡ batch.old.items ++ puts_of time (place_of tenancy.now) change.now) }
 {
-    match opened {
-        None => Ok(()),
-        Some(opened) => put_opening(alloc, batch, tenancy, time, &opened.opening),
+    match change {
+        Planned::Nothing => Ok(()),
+        Planned::Begins(opening) => put_opening(alloc, batch, tenancy, time, opening),
     }
 }
 
@@ -139,15 +80,15 @@ fn batch_at(
     tenancies: &[Tenancy],
     place: usize,
     time: Moment,
-    opened: &Option<Opened>,
+    change: &Planned,
 ) -> Result<Vec<Change>, Memory>
     requires places { (turns : ℕ) × (items : List SealedItem) × ArePlaces turns 0 items (map place_of tenancies.now) }
     requires within { place < length tenancies.now }
-    requires room { (spare : ℕ) × IfSome opened.now (λ o. (d : KeptTenancy) → IsRoom (slice_index_or tenancies.now place d) spare o) }
-    ensures { IfOk result (λ batch. (d : KeptTenancy) → IsBatch time (map place_of tenancies.now) (puts_of time (place_of (slice_index_or tenancies.now place d)) (planned_of opened.now)) batch.items) }
+    requires room { (spare : ℕ) × ((d : KeptTenancy) → IsRoomy (slice_index_or tenancies.now place d) spare change.now) }
+    ensures { IfOk result (λ batch. (d : KeptTenancy) → IsBatch time (map place_of tenancies.now) (puts_of time (place_of (slice_index_or tenancies.now place d)) change.now) batch.items) }
 {
     let mut batch = dead_batch(alloc, tenancies, time)?;
-    put_change(alloc, &mut batch, &tenancies[place], time, opened)?;
+    put_change(alloc, &mut batch, &tenancies[place], time, change)?;
     Ok(batch)
 }
 
@@ -164,15 +105,15 @@ pub fn prepare_at(
     requires within { place < length tenancies.old }
     requires built { is_built asked.now.command ≡ true }
     requires fits { fits asked.now ≡ true }
-    ensures plan { IfOk result (λ b. (d : KeptTenancy) → Plans (purged at.now.time (tables_of sealed.old.items (place_of (slice_index_or tenancies.old place d)))) (at_of at.now) asked.now (plan_of b.ready)) }
-    ensures room { IfOk result (λ b. IfSome b.ready.opened (λ o. (d : KeptTenancy) → IsRoom (slice_index_or tenancies.new place d) sealed.new.spare o)) }
-    ensures batch { IfOk result (λ b. (d : KeptTenancy) → IsBatch at.now.time (map place_of tenancies.new) (puts_of at.now.time (place_of (slice_index_or tenancies.new place d)) (planned_of b.ready.opened)) b.batch.items) }
+    ensures plan { IfOk result (λ b. (d : KeptTenancy) → Plans (purged at.now.time (tables_of sealed.old.items (place_of (slice_index_or tenancies.old place d)))) (at_of at.now) asked.now b.plan) }
+    ensures room { IfOk result (λ b. (d : KeptTenancy) → IsRoomy (slice_index_or tenancies.new place d) sealed.new.spare b.plan.change) }
+    ensures batch { IfOk result (λ b. (d : KeptTenancy) → IsBatch at.now.time (map place_of tenancies.new) (puts_of at.now.time (place_of (slice_index_or tenancies.new place d)) b.plan.change) b.batch.items) }
     ensures tenants_left { map place_of tenancies.new ≡ map place_of tenancies.old }
     ensures sealed_left { sealed.new.items ≡ sealed.old.items }
 {
-    let ready = ready_at(alloc, tenancies, place, sealed, at, asked)?;
-    let batch = batch_at(alloc, tenancies, place, at.time, &ready.opened)?;
-    Ok(Batched { ready, batch })
+    let plan = ready_at(alloc, tenancies, place, sealed, at, asked)?;
+    let batch = batch_at(alloc, tenancies, place, at.time, &plan.change)?;
+    Ok(Batched { plan, batch })
 }
 
 /// Makes a turn ready that names no tenant that is there: all tenants purge.

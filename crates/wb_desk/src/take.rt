@@ -1,19 +1,21 @@
 //! The change of a turn. It takes no memory and cannot fail.
-ghost use Rattle.std.specs.Prelude.{◌≡◌, ◌≢◌, ◌<◌, ◌≤◌, ◌+◌, ◌++◌, ◌∷◌, [], ℕ, true, map};
+ghost use Rattle.std.specs.Prelude.{◌≡◌, ◌≢◌, ◌<◌, ◌≤◌, ◌+◌, ◌∷◌, [], ℕ};
 ghost use Rattle.wb_base.specs.Days.{IsOffset};
 ghost use Rattle.wb_custody.specs.SealedAnswers.{answers_of};
+ghost use Rattle.wb_model.specs.Access.{requests};
 ghost use Rattle.wb_model.specs.Changes.{Begins};
 ghost use Rattle.wb_model.specs.Host.{plain_after, drawn, sealed_under};
-ghost use Rattle.wb_model.specs.Opened.{AtMost};
-ghost use Rattle.wb_tables.specs.Indexed.{is_begun};
+ghost use Rattle.wb_model.specs.declared.entry.Entry.{Entry as EntryValue};
 ghost use Rattle.wb_tables.specs.Kept.{case_of, plain_of, place_of, sealed_of};
 ghost use Rattle.wb_tables.specs.Places.{IsPlace};
 
+use std::alloc::Global;
 use wb_base::{Answers, Moment, Number, Tenant};
-use wb_custody::SealedTable;
-use wb_model::{Numbering, TenantItem, Trail};
+use wb_case::Case;
+use wb_custody::{AccessDesk, SealedTable};
+use wb_model::{Numbering, TenantItem};
 use wb_plan::Opening;
-use wb_tables::{Case, Cases, Tenancy};
+use wb_tables::{Report, Tenancy};
 use wb_terms::day_of;
 
 /// The numbering after a draw.
@@ -35,14 +37,17 @@ pub fn draw_number(settings: &TenantItem, numbering: Numbering, time: Moment) ->
     }
 }
 
-// Puts a report with the greatest number into the table, into room that was made.
-fn add_case(cases: &mut Cases, number: Number, trail: Trail)
-    requires room { 0 < cases.old.spare }
-    requires above { (last : ℕ) × (AtMost last (map case_of cases.old.items) × (last < number)) }
-    requires begun { is_begun (record { number = number; trail = trail.items }) ≡ true }
-    ensures { cases.new.items ≡ cases.old.items ++ record { number = number; trail = trail } ∷ [] }
+// The report of a number that begins. It takes no memory.
+fn begun(alloc: Global, number: Number, case: Case) -> Report
+    requires none { requests case.items ≡ [] }
+    ensures case { case_of result ≡ record { number = number; trail = case.items } }
+    ensures requests { result.desk.items ≡ requests result.case.items }
 {
-    cases.add(Case { number, trail });
+    Report {
+        number,
+        case,
+        desk: AccessDesk::new(alloc),
+    }
 }
 
 // Puts the identity answers of a report, where there are any, into room that was made.
@@ -56,11 +61,11 @@ fn put_secret(sealed: &mut SealedTable, tenant: Tenant, number: Number, secret: 
     }
 }
 
-/// A report begins: its number is drawn, and its trail and its identity answers are put into room that was made.
+/// A report begins: its number is drawn, and the report and its identity answers are put into room that was made.
 pub fn open_case(
+    alloc: Global,
     tenancy: &mut Tenancy,
     sealed: &mut SealedTable,
-    mut trail: Trail,
     time: Moment,
     opening: Opening,
 )
@@ -68,18 +73,22 @@ pub fn open_case(
     requires number { tenancy.old.numbering.last < 4_294_967_295 }
     requires room { 0 < tenancy.old.cases.spare }
     requires sealed_room { 0 < sealed.old.spare }
-    requires trail_room { 0 < trail.spare }
-    requires empty { trail.items ≡ [] }
+    requires begun { (entry : EntryValue) × (opening.case.items ≡ entry ∷ []) }
+    requires none { requests opening.case.items ≡ [] }
     ensures id { (place_of tenancy.new).id ≡ (place_of tenancy.old).id }
-    ensures plain { plain_of tenancy.new ≡ plain_after time (Begins opening.entry) (plain_of tenancy.old) }
+    ensures plain { (entry : EntryValue) → opening.case.items ≡ entry ∷ [] → plain_of tenancy.new ≡ plain_after time (Begins entry) (plain_of tenancy.old) }
     ensures here { (n : ℕ) → answers_of sealed.new.items (place_of tenancy.old).id n ≡ sealed_under (tenancy.old.numbering.last + 1) opening.secret (sealed_of sealed.old.items (place_of tenancy.old).id) n }
     ensures others { (t n : ℕ) → t ≢ (place_of tenancy.old).id → answers_of sealed.new.items t n ≡ answers_of sealed.old.items t n }
 {
     let Some(number) = Number::try_new(tenancy.numbering.last + 1) else {
         unreachable!();
     };
-    trail.push(opening.entry);
-    add_case(&mut tenancy.cases, number, trail);
-    tenancy.numbering = draw_number(&tenancy.settings, tenancy.numbering, time);
-    put_secret(sealed, tenancy.settings.tenant, number, opening.secret);
+    tenancy.cases.add(begun(alloc, number, opening.case));
+    tenancy.numbering = draw_number(tenancy.configuration.settings(), tenancy.numbering, time);
+    put_secret(
+        sealed,
+        tenancy.configuration.tenant(),
+        number,
+        opening.secret,
+    );
 }

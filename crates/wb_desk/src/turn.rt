@@ -1,5 +1,5 @@
 //! One turn over the tables of all tenants: what it has to keep is kept in one call, and then it purges and changes.
-ghost use Rattle.std.specs.Prelude.{◌≡◌, ◌≢◌, ◌<◌, ◌≤◌, ◌+◌, ℕ, None, Err, true, find, map, length, slice_index_or, IfSome};
+ghost use Rattle.std.specs.Prelude.{◌≡◌, ◌≢◌, ◌<◌, ◌≤◌, ◌+◌, ℕ, None, Err, true, find, map, length, slice_index_or};
 ghost use Rattle.wb_base.specs.Outside.{Rose};
 ghost use Rattle.wb_custody.specs.SealedAnswers.{answers_of};
 ghost use Rattle.wb_model.specs.Built.{is_built};
@@ -7,58 +7,66 @@ ghost use Rattle.wb_model.specs.Commands.{tenant_of as tenant_of_command};
 ghost use Rattle.wb_model.specs.Fits.{fits};
 ghost use Rattle.wb_model.specs.Host.{changed};
 ghost use Rattle.wb_model.specs.Rows.{rows_of};
-ghost use Rattle.wb_plan.specs.Plans.{change_of, given_of};
+ghost use Rattle.wb_plan.specs.Plans.{IsRoomy, change_of, given_of};
 ghost use Rattle.wb_tables.specs.Kept.{place_of, plain_of, tables_of, tenancy_of, sessions_at};
 ghost use Rattle.wb_tables.specs.Places.{IsPlace, ArePlaces, is_tenant, IsAt};
 ghost use Rattle.wb_tables.specs.declared.tenancy.Tenancy.{Tenancy as KeptTenancy};
-ghost use Rattle.wb_desk.specs.Ready.{planned_of, IsRoom, IsOwn, IsMadeAt};
+ghost use Rattle.wb_desk.specs.Ready.{IsOwn, IsMadeAt};
 ghost use Rattle.wb_desk.specs.Turns.{IsTurnAt};
 
 use crate::batch::{Lost, keep};
-use crate::ready::{Opened, prepare_at, prepare_without};
+use crate::ready::{prepare_at, prepare_without};
 use crate::take::open_case;
 use std::alloc::Global;
 use wb_base::{Keeper, Moment};
 use wb_custody::SealedTable;
 use wb_model::{Asked, Told};
-use wb_plan::{At, tenant_of};
+use wb_plan::{At, Plan, Planned, tenant_of};
 use wb_tables::{Tenancy, place_at, purge_all};
 
 // Makes the change of a turn that is ready, over purged tables. It takes no memory and cannot fail.
-fn make(tenancy: &mut Tenancy, sealed: &mut SealedTable, time: Moment, opened: Option<Opened>)
+fn make(
+    alloc: Global,
+    tenancy: &mut Tenancy,
+    sealed: &mut SealedTable,
+    time: Moment,
+    change: Planned,
+)
     requires place { (turns : ℕ) × IsPlace turns sealed.old.items (place_of tenancy.old) }
-    requires room { IfSome opened (λ o. IsRoom tenancy.old sealed.old.spare o) }
-    requires own { IsOwn (plain_of tenancy.old) opened }
-    ensures tables { tables_of sealed.new.items (place_of tenancy.new) ≡ changed time (change_of (planned_of opened)) (given_of (planned_of opened)) (tables_of sealed.old.items (place_of tenancy.old)) }
+    requires room { IsRoomy tenancy.old sealed.old.spare change }
+    requires own { IsOwn (plain_of tenancy.old) (change_of change) }
+    ensures tables { tables_of sealed.new.items (place_of tenancy.new) ≡ changed time (change_of change) (given_of change) (tables_of sealed.old.items (place_of tenancy.old)) }
     ensures id { (place_of tenancy.new).id ≡ (place_of tenancy.old).id }
     ensures others { (t n : ℕ) → t ≢ (place_of tenancy.old).id → answers_of sealed.new.items t n ≡ answers_of sealed.old.items t n }
     ensures place { (turns : ℕ) → IsPlace turns sealed.old.items (place_of tenancy.old) → IsPlace turns sealed.new.items (place_of tenancy.new) }
     // A turn makes one session at most.
     ensures sessions { length (place_of tenancy.new).plain.sessions ≤ length (place_of tenancy.old).plain.sessions + 1 }
 {
-    if let Some(Opened { opening, trail }) = opened {
-        open_case(tenancy, sealed, trail, time, opening);
+    match change {
+        Planned::Nothing => {}
+        Planned::Begins(opening) => open_case(alloc, tenancy, sealed, time, opening),
     }
 }
 
 // Makes the change of the tenant at a place.
 fn make_at(
+    alloc: Global,
     tenancies: &mut [Tenancy],
     place: usize,
     sealed: &mut SealedTable,
     time: Moment,
-    opened: Option<Opened>,
+    change: Planned,
 )
     requires places { (turns : ℕ) × ArePlaces turns 0 sealed.old.items (map place_of tenancies.old) }
     requires within { place < length tenancies.old }
-    requires room { IfSome opened (λ o. (d : KeptTenancy) → IsRoom (slice_index_or tenancies.old place d) sealed.old.spare o) }
-    requires own { (d : KeptTenancy) → IsOwn (plain_of (slice_index_or tenancies.old place d)) opened }
-    ensures made { IsMadeAt place time (planned_of opened) sealed.old.items sealed.new.items tenancies.old tenancies.new }
+    requires room { (d : KeptTenancy) → IsRoomy (slice_index_or tenancies.old place d) sealed.old.spare change }
+    requires own { (d : KeptTenancy) → IsOwn (plain_of (slice_index_or tenancies.old place d)) (change_of change) }
+    ensures made { IsMadeAt place time change sealed.old.items sealed.new.items tenancies.old tenancies.new }
     ensures places { (turns : ℕ) → ArePlaces turns 0 sealed.old.items (map place_of tenancies.old) → ArePlaces turns 0 sealed.new.items (map place_of tenancies.new) }
     ensures sessions { sessions_at (map place_of tenancies.new) ≤ sessions_at (map place_of tenancies.old) + 1 }
 {
     let tenancy = &mut tenancies[place];
-    make(tenancy, sealed, time, opened)
+    make(alloc, tenancy, sealed, time, change)
 }
 
 // A turn of the tenant at a place.
@@ -89,8 +97,9 @@ fn turn_at<K: Keeper>(
         Err(lost) => return Err(lost),
     }
     purge_all(tenancies, sealed, at.time);
-    make_at(tenancies, place, sealed, at.time, batched.ready.opened);
-    Ok(batched.ready.told)
+    let Plan { told, change } = batched.plan;
+    make_at(alloc, tenancies, place, sealed, at.time, change);
+    Ok(told)
 }
 
 // A turn that names no tenant that is there.

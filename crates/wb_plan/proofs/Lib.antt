@@ -1,4 +1,3 @@
-pub mod ReaderLists
 pub mod Requests
 pub mod Results
 pub mod Submissions

@@ -10,19 +10,23 @@ use Rattle.wb_base.specs.declared.faults.AnswerFault.{AnswerFault}
 use Rattle.wb_model.specs.declared.body.Told.{Told}
 use Rattle.wb_model.specs.declared.registry.ContextItem.{ContextItem}
 use Rattle.wb_model.specs.declared.registry.FormItem.{FormItem}
+use Rattle.wb_model.specs.Access.{requests}
 use Rattle.wb_model.specs.Changes.{At, Verdict, Refused, Accepted, Begins, Says, Change, judged}
-use Rattle.wb_model.specs.Effects.{Effect, Misses, Submits, with_form}
+use Rattle.wb_model.specs.Effects.{Misses, Submits, with_form}
 use Rattle.wb_model.specs.Host.{Sealed}
 use Rattle.wb_model.specs.Json.{told}
 use Rattle.wb_model.specs.Legal.{AreSound}
 use Rattle.wb_model.specs.Refusals.{not_found, numbers_spent, quota_spent, receipt_taken, faulty}
 use Rattle.wb_model.specs.Refusing.{refuses_where}
-use Rattle.wb_model.specs.Requests.{Checked, asking_form, open_form, submission_outcome, submission_secret, submission_fault, public, secret, mark}
+use Rattle.wb_model.specs.Requests.{Outcome, Checked, asking_form, open_form, submission_outcome, submission_secret, submission_fault, public, secret, mark}
 use Rattle.wb_model.specs.ShortViews.{submission_view}
 use Rattle.wb_model.specs.Submissions.{Drawing, drawing, submission_entry}
 use Rattle.wb_model.specs.Tables.{Registry, Plain, Who, context, newest_form}
 use Rattle.wb_tables.specs.Places.{AreGoodForms}
-use Rattle.wb_plan.specs.Plans.{submission_verdict, drawing_refusal, PlansSubmission, IsPlan, Gives, change_of, IsAsking}
+use Rattle.wb_plan.specs.Plans.{submission_verdict, drawing_refusal, PlansSubmission, IsPlan, IsBegun, IsFit, Gives, begins, change_of, IsAsking}
+use Rattle.wb_plan.specs.declared.plan.Planned.{Planned}
+use Rattle.wb_model.specs.declared.entry.Entry.{Entry}
+use Rattle.wb_tables.specs.declared.tenancy.Tenancy.{Tenancy as KeptTenancy}
 use Rattle.wb_plan.specs.declared.plan.Plan.{Plan}
 use Rattle.wb_plan.specs.declared.plan.Planned.TheVariants as planned
 
@@ -70,24 +74,24 @@ pub faulted : (p : Plain) (at : At) (who : Option Who) (id : ℕ) (answers : Ans
 faulted p at who id answers c item fault a g = rw (opens_form p.registry id c item a, asks_form p.registry id c item a, a.context, g) refl
 
 -- the change and the answer of a report that begins
-abbrev begins : Plain → At → Answered → ContextItem → FormItem → Change
-begins p at answers c item = Begins (submission_entry at p.registry (Checked None (public item.form answers) (mark item.form answers)) c item)
+abbrev opening : Plain → At → Answered → ContextItem → FormItem → Change
+opening p at answers c item = Begins (submission_entry at p.registry (Checked None (public item.form answers) (mark item.form answers)) c item)
 
 abbrev says : Plain → At → Told
 says p at = told 201 (submission_view (p.numbering.last + 1) (receipt_text at.words))
 
 -- where the answers are right, what is left is what stands in the way of a draw
 passed : (p : Plain) (at : At) (who : Option Who) (id : ℕ) (answers : Answered) (c : ContextItem) (item : FormItem) → IsAsking p.registry id c item → submission_fault item.form answers ≡ None
-    → verdict_at p at who id answers ≡ judged (drawing_refusal p.registry.settings.quota (drawing at p)) (begins p at answers c item) (Says (says p at))
+    → verdict_at p at who id answers ≡ judged (drawing_refusal p.registry.settings.quota (drawing at p)) (opening p at answers c item) (Says (says p at))
 passed p at who id answers c item a g = rw (opens_form p.registry id c item a, asks_form p.registry id c item a, a.context, g) refl
 
 pub hindered : (p : Plain) (at : At) (who : Option Who) (id : ℕ) (answers : Answered) (c : ContextItem) (item : FormItem) (r : Told) → IsAsking p.registry id c item → submission_fault item.form answers ≡ None
     → drawing_refusal p.registry.settings.quota (drawing at p) ≡ Some r → verdict_at p at who id answers ≡ Refused r
-hindered p at who id answers c item r a g h = passed p at who id answers c item a g ∙ ap (λ o. judged o (begins p at answers c item) (Says (says p at))) h
+hindered p at who id answers c item r a g h = passed p at who id answers c item a g ∙ ap (λ o. judged o (opening p at answers c item) (Says (says p at))) h
 
 begun_verdict : (p : Plain) (at : At) (who : Option Who) (id : ℕ) (answers : Answered) (c : ContextItem) (item : FormItem) → IsAsking p.registry id c item → submission_fault item.form answers ≡ None
-    → drawing_refusal p.registry.settings.quota (drawing at p) ≡ None → verdict_at p at who id answers ≡ Accepted (begins p at answers c item) (Says (says p at))
-begun_verdict p at who id answers c item a g h = passed p at who id answers c item a g ∙ ap (λ o. judged o (begins p at answers c item) (Says (says p at))) h
+    → drawing_refusal p.registry.settings.quota (drawing at p) ≡ None → verdict_at p at who id answers ≡ Accepted (opening p at answers c item) (Says (says p at))
+begun_verdict p at who id answers c item a g h = passed p at who id answers c item a g ∙ ap (λ o. judged o (opening p at answers c item) (Says (says p at))) h
 
 -- where nothing stands in the way there is a number
 pub number_left : (quota : ℕ) (n : Drawing) → drawing_refusal quota n ≡ None → n.last < 4_294_967_295
@@ -97,17 +101,34 @@ number_left quota n e = by (nat_le 4_294_967_295 n.last) refl e
     by true is f = absurd cc
     by false is f = grind (arith, nat_tests, is)
 
+begins_it : (c : Planned) (e : Entry) (given : Option Answered) → IsBegun c e given → change_of c ≡ Begins e
+begins_it (planned.Begins o) e given is = ap begins is.0
+begins_it planned.Nothing e given is = absurd is
+
+gives_it : (c : Planned) (e : Entry) (given secret : Option Answered) → IsBegun c e given → given ≡ secret → Gives c secret
+gives_it (planned.Begins o) e given secret is same = is.1 ∙ same
+gives_it planned.Nothing e given secret is same = absurd is
+
+-- a report has a number where nothing stands in the way of a draw
+pub fit_begun : (x : KeptTenancy) (c : Planned) (e : Entry) (given : Option Answered) → x.numbering.last < 4_294_967_295 → requests (e ∷ []) ≡ [] → IsBegun c e given → IsFit x c
+fit_begun x (planned.Begins o) e given lt none is = (lt, (e, is.0), ap requests is.0 ∙ none)
+fit_begun x planned.Nothing e given lt none is = absurd is
+
+pub asks_none : (at : At) (g : Registry) (o : Outcome) (c : ContextItem) (item : FormItem) → requests (submission_entry at g o c item ∷ []) ≡ []
+unfolding submission_entry
+asks_none at g o c item = refl
+
 pub begun : (p : Plain) (at : At) (id : ℕ) (answers : Answered) (c : ContextItem) (item : FormItem) (given sealed : Answered) (m : Bool)
     → IsAsking p.registry id c item → submission_fault item.form answers ≡ None → drawing_refusal p.registry.settings.quota (drawing at p) ≡ None
     → given ≡ public item.form answers → sealed ≡ secret item.form answers → m ≡ mark item.form answers
     → (plan : Plan) → plan.told ≡ says p at
-    → plan.change ≡ planned.Begins (record { entry = submission_entry at p.registry (Checked None given m) c item; secret = if m then Some sealed else None })
+    → IsBegun plan.change (submission_entry at p.registry (Checked None given m) c item) (if m then Some sealed else None)
     → PlansSubmission p at id answers plan
 begun p at id answers c item given sealed m a valid free g s k plan t o = λ who held.
     made_plan held (verdict_at p at who id answers) (submission_secret (form_at p id) answers) _ _ plan (begun_verdict p at who id answers c item a valid free) t
     (ap (λ (a : Answered). Begins (submission_entry at p.registry (Checked None a (mark item.form answers)) c item)) (sym g)
-    ∙ (ap (λ (b : Bool). Begins (submission_entry at p.registry (Checked None given b) c item)) (sym k) ∙ sym (ap change_of o)))
-    (subst (λ x. Gives x (submission_secret (form_at p id) answers)) (sym o)
+    ∙ (ap (λ (b : Bool). Begins (submission_entry at p.registry (Checked None given b) c item)) (sym k) ∙ sym (begins_it plan.change _ _ o)))
+    (gives_it plan.change _ _ _ o
     (ap (λ (b : Bool). if b then Some sealed else None) k
     ∙ (ap (λ (z : Answered). if mark item.form answers then Some z else None) s
     ∙ sym (ap (λ f. submission_secret f answers) (asks_form p.registry id c item a)))))

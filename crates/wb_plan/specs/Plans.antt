@@ -1,5 +1,5 @@
 -- What the code plans stands for.
-use Rattle.std.specs.Prelude.{◌≡◌, ℕ, ◌<◌, nat_le, true, List, Option, Some, None}
+use Rattle.std.specs.Prelude.{◌≡◌, ℕ, ◌<◌, nat_le, true, List, [], ◌∷◌, Option, Some, None}
 use Rattle.std.specs.Option.{option_or}
 use Rattle.wb_base.specs.AnswerList.{Answered}
 use Rattle.wb_base.specs.AnswerFaults.{answers_fault, public_of, sealed_of, is_marked}
@@ -10,6 +10,7 @@ use Rattle.wb_model.specs.declared.command.Asked.{Asked}
 use Rattle.wb_model.specs.declared.entry.Entry.{Entry}
 use Rattle.wb_model.specs.declared.registry.ContextItem.{ContextItem}
 use Rattle.wb_model.specs.declared.registry.FormItem.{FormItem}
+use Rattle.wb_model.specs.Access.{requests}
 use Rattle.wb_model.specs.Changes.{At, Change, Nothing, Begins, Verdict, judged}
 use Rattle.wb_model.specs.Effects.{Submits, in_open}
 use Rattle.wb_model.specs.Host.{Sealed, Tables, ruling, reply_by, change_of as verdict_change}
@@ -20,6 +21,7 @@ use Rattle.wb_model.specs.Rules.{refusal_alone, change_alone, answer_alone, verd
 use Rattle.wb_model.specs.Submissions.{Drawing, drawing}
 use Rattle.wb_model.specs.Tables.{Registry, Plain, Who, context as context_by, newest_form}
 use Rattle.wb_model.specs.Targets.{Target}
+use Rattle.wb_tables.specs.declared.tenancy.Tenancy.{Tenancy as KeptTenancy}
 use Rattle.wb_plan.specs.declared.plan.At.{At as KeptAt}
 use Rattle.wb_plan.specs.declared.plan.Plan.{Plan}
 use Rattle.wb_plan.specs.declared.plan.Planned.{Planned}
@@ -28,9 +30,14 @@ use Rattle.wb_plan.specs.declared.plan.Planned.TheVariants as planned
 abbrev pub at_of : KeptAt → At
 at_of at = record { time = at.time; turn = at.turn; words = at.words }
 
+-- a report begins with an entry
+abbrev pub begins : List Entry → Change
+begins [] = Nothing
+begins (e ∷ es) = Begins e
+
 abbrev pub change_of : Planned → Change
 change_of planned.Nothing = Nothing
-change_of (planned.Begins o) = Begins o.entry
+change_of (planned.Begins o) = begins o.case.items
 
 -- the identity answers that come with it
 abbrev pub given_of : Planned → Option Answered
@@ -42,10 +49,27 @@ abbrev pub Gives : Planned → Option Answered → Type 0
 Gives planned.Nothing given = Unit {0}
 Gives (planned.Begins o) given = o.secret ≡ given
 
--- there is a number for a report that begins
-abbrev pub HasNumber : ℕ → Planned → Type 0
-HasNumber last planned.Nothing = Unit {0}
-HasNumber last (planned.Begins o) = last < 4_294_967_295
+-- a report begins with this entry, and these identity answers
+abbrev pub IsBegun : Planned → Entry → Option Answered → Type 0
+IsBegun planned.Nothing entry secret = ⊥
+IsBegun (planned.Begins o) entry secret = (o.case.items ≡ entry ∷ []) × (o.secret ≡ secret)
+
+-- ---- room
+
+-- a report that begins has a number and one entry, which asks for no identity
+abbrev pub IsFit : KeptTenancy → Planned → Type 0
+IsFit x planned.Nothing = Unit {0}
+IsFit x (planned.Begins o) = (x.numbering.last < 4_294_967_295) × ((e : Entry) × (o.case.items ≡ e ∷ [])) × (requests o.case.items ≡ [])
+
+-- so much room for reports and for identity answers is enough for a change
+abbrev pub HasRoom : ℕ → ℕ → Planned → Type 0
+HasRoom cases sealed planned.Nothing = Unit {0}
+HasRoom cases sealed (planned.Begins o) = (0 < cases) × (0 < sealed)
+
+-- a tenant's tables, and the identity answers, have all that a change takes
+pub record IsRoomy (x : KeptTenancy) (sealed : ℕ) (change : Planned) : Type 0 where
+  pub fit : IsFit x change
+  pub room : HasRoom x.cases.spare sealed change
 
 -- the plan is the verdict's reply over these identity answers, and its change, with those that the request gives
 pub record IsPlan (sealed : Sealed) (v : Verdict) (secret : Option Answered) (plan : Plan) : Type 0 where

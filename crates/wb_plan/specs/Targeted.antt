@@ -1,9 +1,11 @@
 -- What the code's refusals and targets stand for.
-use Rattle.std.specs.Prelude.{option_map}
+use Rattle.std.specs.Prelude.{◌≡◌, option_map}
 use Rattle.wb_model.specs.declared.body.Told.{Told}
+use Rattle.wb_model.specs.Access.{requests}
 use Rattle.wb_model.specs.Refusals.{not_found, no_session, wrong_role, wrong_right, bad_login, numbers_spent, quota_spent, receipt_taken}
 use Rattle.wb_model.specs.Targets.{Target, Nobody, Alone, On}
-use Rattle.wb_tables.specs.Kept.{who_of, case_of}
+use Rattle.wb_tables.specs.Kept.{case_of}
+use Rattle.wb_tables.specs.Logins.{who_seen}
 use Rattle.wb_plan.specs.declared.refused.Refusal.{Refusal}
 use Rattle.wb_plan.specs.declared.refused.Refusal.TheVariants as refusals
 use Rattle.wb_plan.specs.declared.target.Target.{Target as KeptTarget}
@@ -21,5 +23,11 @@ told_of refusals.ReceiptTaken = receipt_taken
 
 abbrev pub target_of : KeptTarget → Target
 target_of (targets.Nobody refusal) = Nobody (told_of refusal)
-target_of (targets.Alone who) = Alone (option_map who_of who)
-target_of (targets.On who case) = On (who_of who) (case_of case.now)
+target_of (targets.Alone who) = Alone (option_map who_seen who)
+target_of (targets.On who report) = On (who_seen who) (case_of report.now)
+
+-- a report that is found has the requests of its trail
+abbrev pub IsCustodied : KeptTarget → Type 0
+IsCustodied (targets.Nobody refusal) = Unit {0}
+IsCustodied (targets.Alone who) = Unit {0}
+IsCustodied (targets.On who report) = report.now.desk.items ≡ requests report.now.case.items

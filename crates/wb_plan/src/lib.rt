@@ -1,9 +1,8 @@
-//! What a request is planned to answer and to change, over the tables as they stand. One file a family of routes.
+//! What a request is planned to answer and to change, over the tables as they stand. One file a family of requests.
 #![tactic(auto)]
 
 mod health;
 mod plan;
-mod readers;
 mod reading;
 mod refused;
 mod routes;

@@ -1,5 +1,5 @@
 //! Submissions: a report begins under the next number.
-ghost use Rattle.std.specs.Prelude.{◌≡◌, ◌≢◌, ◌≤◌, ◌<◌, ◌+◌, ℕ, Some, None, if◌then◌else◌, MatchOption, IfOk, OnOk, option_map};
+ghost use Rattle.std.specs.Prelude.{◌≡◌, ◌≢◌, ◌≤◌, ◌<◌, ◌+◌, ◌∷◌, [], ℕ, Some, None, if◌then◌else◌, MatchOption, IfOk, OnOk, option_map};
 ghost use Rattle.wb_base.specs.Days.{IsOffset, day_of as day_at};
 ghost use Rattle.wb_base.specs.AnswerList.{Answered};
 ghost use Rattle.wb_base.specs.Secrets.{receipt_text};
@@ -9,9 +9,9 @@ ghost use Rattle.wb_model.specs.Requests.{Checked, open_form};
 ghost use Rattle.wb_model.specs.ShortViews.{submission_view as submission_data};
 ghost use Rattle.wb_model.specs.Submissions.{drawing, submission_entry};
 ghost use Rattle.wb_model.specs.Tables.{context as context_by, drawn_on};
-ghost use Rattle.wb_plan.specs.Plans.{at_of, drawing_refusal, HasNumber, IsAsking, IsSplit, PlansSubmission};
+ghost use Rattle.wb_plan.specs.Plans.{at_of, drawing_refusal, IsAsking, IsBegun, IsFit, IsSplit, PlansSubmission};
 ghost use Rattle.wb_plan.specs.Targeted.{told_of};
-ghost use Rattle.wb_tables.specs.Kept.{plain_of, registry_of, live_plain};
+ghost use Rattle.wb_tables.specs.Kept.{plain_of, live_plain};
 ghost use Rattle.wb_tables.specs.Places.{IsLookedUp};
 
 use crate::plan::{At, Opening, Plan, Planned, answering, refusing};
@@ -19,9 +19,10 @@ use crate::refused::{Refusal, refuse_answers};
 use std::alloc::Global;
 use wb_access::{digest, draw};
 use wb_base::{AnswerFault, Answers, Memory, Moment, Words};
+use wb_case::Case;
 use wb_list::TryClone;
 use wb_model::{Actor, Body, ContextItem, Deed, Entry, FormItem, Numbering, TenantItem, Told};
-use wb_tables::{Tenancy, context, newest_form, report_of_receipt};
+use wb_tables::{Tenancy, report_of_receipt};
 use wb_terms::{ack_due, day_of, expiry, feedback_due};
 use wb_trigger::{Split, check};
 use wb_views::submission_view;
@@ -35,11 +36,11 @@ struct Asking<'a> {
 
 // The open context of an id, with its form in the newest version.
 fn find_asking(tenancy: &Tenancy, id: u32) -> Option<Asking<'_>>
-    ensures { MatchOption result (open_form (context_by id tenancy.now.contexts) tenancy.now.forms ≡ None) (λ a. IsAsking (registry_of tenancy.now) id a.context.now a.item.now) }
+    ensures { MatchOption result (open_form (context_by id tenancy.now.configuration.registry.contexts) tenancy.now.configuration.registry.forms ≡ None) (λ a. IsAsking (tenancy.now.configuration.registry) id a.context.now a.item.now) }
 {
-    match context(tenancy.contexts.as_slice(), id) {
+    match tenancy.configuration.context(id) {
         Some(context) if context.is_open => {
-            match newest_form(tenancy.forms.as_slice(), context.form) {
+            match tenancy.configuration.newest_form(context.form) {
                 Some(item) => Some(Asking { context, item }),
                 None => None,
             }
@@ -69,7 +70,7 @@ fn is_taken(tenancy: &Tenancy, at: &At) -> bool
     report_of_receipt(
         tenancy,
         at.time,
-        &digest(&tenancy.settings.salt, receipt.as_slice()),
+        &digest(&tenancy.configuration.settings().salt, receipt.as_slice()),
     )
     .is_some()
 }
@@ -77,12 +78,13 @@ fn is_taken(tenancy: &Tenancy, at: &At) -> bool
 // What stands in the way of a draw: the last number is drawn, the day's quota, or a live report's receipt.
 fn hindrance(tenancy: &Tenancy, at: &At) -> Option<Refusal>
     requires place { IsLookedUp (plain_of tenancy.now) }
-    ensures { option_map told_of result ≡ drawing_refusal tenancy.now.settings.quota (drawing (at_of at.now) (live_plain at.now.time (plain_of tenancy.now))) }
+    ensures { option_map told_of result ≡ drawing_refusal tenancy.now.configuration.registry.settings.quota (drawing (at_of at.now) (live_plain at.now.time (plain_of tenancy.now))) }
 {
-    let quota = tenancy.settings.quota;
+    let settings = tenancy.configuration.settings();
+    let quota = settings.quota;
     if tenancy.numbering.last == u32::MAX {
         Some(Refusal::NumbersSpent)
-    } else if drawn_today(&tenancy.settings, tenancy.numbering, at.time) >= quota {
+    } else if drawn_today(settings, tenancy.numbering, at.time) >= quota {
         Some(Refusal::QuotaSpent(quota))
     } else if is_taken(tenancy, at) {
         Some(Refusal::ReceiptTaken)
@@ -104,9 +106,10 @@ fn first_entry(
     requires place { IsLookedUp (plain_of tenancy.now) }
     requires low { 1 ≤ context.now.retention }
     requires high { context.now.retention ≤ 3_650 }
-    ensures { IfOk result (λ entry. entry ≡ submission_entry (at_of at.now) (registry_of tenancy.now) (Checked None public mark) context.now item.now) }
+    ensures { IfOk result (λ entry. entry ≡ submission_entry (at_of at.now) (tenancy.now.configuration.registry) (Checked None public mark) context.now item.now) }
 {
-    let received = day_of(at.time, tenancy.settings.offset);
+    let settings = tenancy.configuration.settings();
+    let received = day_of(at.time, settings.offset);
     let receipt = draw(&at.words);
     Ok(Entry {
         at: at.time,
@@ -120,7 +123,7 @@ fn first_entry(
             form: item.id,
             mark,
             readers: context.recipients.try_clone()?,
-            receipt: digest(&tenancy.settings.salt, receipt.as_slice()),
+            receipt: digest(&settings.salt, receipt.as_slice()),
             received,
             version: item.version,
         },
@@ -145,6 +148,16 @@ fn secret_in(mark: bool, sealed: Answers) -> Option<Answers>
     if mark { Some(sealed) } else { None }
 }
 
+// The report that begins with an entry.
+fn started(alloc: Global, entry: Entry) -> Result<Case, Memory>
+    ensures { IfOk result (λ case. case.items ≡ entry ∷ []) }
+{
+    match Case::start(alloc, entry) {
+        Ok(case) => Ok(case),
+        Err(_) => Err(Memory),
+    }
+}
+
 // The plan of a report that begins.
 fn begin(
     alloc: Global,
@@ -158,7 +171,7 @@ fn begin(
     requires low { 1 ≤ asking.now.context.now.retention }
     requires high { asking.now.context.now.retention ≤ 3_650 }
     ensures told { IfOk result (λ plan. plan.told ≡ told 201 (submission_data (tenancy.now.numbering.last + 1) (receipt_text at.now.words))) }
-    ensures change { IfOk result (λ plan. plan.change ≡ Planned.Begins (record { entry = submission_entry (at_of at.now) (registry_of tenancy.now) (Checked None split.public split.mark) asking.now.context.now asking.now.item.now; secret = if split.mark then Some split.sealed else None })) }
+    ensures change { IfOk result (λ plan. IsBegun plan.change (submission_entry (at_of at.now) (tenancy.now.configuration.registry) (Checked None split.public split.mark) asking.now.context.now asking.now.item.now) (if split.mark then Some split.sealed else None)) }
 {
     let told = submitted(alloc, tenancy.numbering.last + 1, &at.words)?;
     let Split {
@@ -167,10 +180,11 @@ fn begin(
         mark,
     } = split;
     let entry = first_entry(tenancy, at, asking.context, asking.item, public, mark)?;
+    let case = started(alloc, entry)?;
     Ok(Plan {
         told,
         change: Planned::Begins(Opening {
-            entry,
+            case,
             secret: secret_in(mark, sealed),
         }),
     })
@@ -185,9 +199,9 @@ fn draw_number(
     split: Split,
 ) -> Result<Plan, Memory>
     requires place { IsLookedUp (plain_of tenancy.now) }
-    requires asking { (id : ℕ) × IsAsking (registry_of tenancy.now) id asking.now.context.now asking.now.item.now }
-    ensures plan { IfOk result (λ plan. (id : ℕ) (answers : Answered) → IsAsking (registry_of tenancy.now) id asking.now.context.now asking.now.item.now → IsSplit asking.now.item.now.form answers split → PlansSubmission (live_plain at.now.time (plain_of tenancy.now)) (at_of at.now) id answers plan) }
-    ensures number { IfOk result (λ plan. HasNumber tenancy.now.numbering.last plan.change) }
+    requires asking { (id : ℕ) × IsAsking (tenancy.now.configuration.registry) id asking.now.context.now asking.now.item.now }
+    ensures plan { IfOk result (λ plan. (id : ℕ) (answers : Answered) → IsAsking (tenancy.now.configuration.registry) id asking.now.context.now asking.now.item.now → IsSplit asking.now.item.now.form answers split → PlansSubmission (live_plain at.now.time (plain_of tenancy.now)) (at_of at.now) id answers plan) }
+    ensures fit { IfOk result (λ plan. IsFit tenancy.now plan.change) }
 {
     match hindrance(tenancy, at) {
         Some(why) => refusing(alloc, why),
@@ -218,7 +232,7 @@ pub fn submit(
 ) -> Result<Plan, Memory>
     requires place { IsLookedUp (plain_of tenancy.now) }
     ensures plan { IfOk result (PlansSubmission (live_plain at.now.time (plain_of tenancy.now)) (at_of at.now) id answers.now) }
-    ensures number { IfOk result (λ plan. HasNumber tenancy.now.numbering.last plan.change) }
+    ensures fit { IfOk result (λ plan. IsFit tenancy.now plan.change) }
 {
     let Some(asking) = find_asking(tenancy, id) else {
         return refusing(alloc, Refusal::NotFound);

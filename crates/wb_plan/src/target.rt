@@ -1,24 +1,21 @@
 //! Whom and what a request is about: session, role, right and thing, in this order.
 ghost use Rattle.std.specs.Prelude.{◌≡◌, Some};
-ghost use Rattle.std.specs.Option.{option_copied};
 ghost use Rattle.wb_model.specs.Commands.{has_right as has_right_by};
 ghost use Rattle.wb_model.specs.Tables.{report as report_by, user_named as user_called, with_receipt};
 ghost use Rattle.wb_model.specs.Targets.{finds as finds_by, target as target_by, named_case as named_case_by, user_target as user_target_by, reporter_target as reporter_target_by, session_target as session_target_by, entering as entering_by, returning as returning_by, unasked as unasked_by};
 ghost use Rattle.wb_base.specs.Secrets.{digest as digest_of};
 ghost use Rattle.wb_plan.specs.Needs.{need_of, right_of};
-ghost use Rattle.wb_plan.specs.Targeted.{target_of};
-ghost use Rattle.wb_tables.specs.Kept.{case_of, session_of, plain_of, live_plain};
+ghost use Rattle.wb_plan.specs.Targeted.{IsCustodied, target_of};
+ghost use Rattle.wb_tables.specs.Kept.{case_of, plain_of, live_plain};
+ghost use Rattle.wb_tables.specs.Logins.{login_of};
 ghost use Rattle.wb_tables.specs.Places.{IsLookedUp};
 
-use crate::readers::reads;
 use crate::refused::Refusal;
 use crate::routes::{Need, Right, needed};
 use wb_access::digest;
-use wb_base::{Moment, Number, Presented, Role, UserId};
+use wb_base::{Moment, Number, Presented, Role, Text, UserId};
 use wb_model::{Command, Rights, UserItem};
-use wb_tables::{
-    Case, Session, Tenancy, Who, live_report, live_session, report_of_receipt, user, user_named,
-};
+use wb_tables::{Login, Report, Tenancy, Who, live_report, live_session, reads, report_of_receipt};
 
 /// What a request is about.
 #[derive(Drop)]
@@ -28,7 +25,7 @@ pub enum Target<'a> {
     /// No report, by this caller.
     Alone(Option<Who>),
     /// A live report that the caller finds.
-    On(Who, &'a Case),
+    On(Who, &'a Report),
 }
 
 // Whether a user has a right.
@@ -44,12 +41,12 @@ fn has_right(right: Right, may: Rights) -> bool
 }
 
 // Whether a user of this role finds a report: a recipient finds those that it reads, a custodian every live one.
-fn finds(role: Role, user: UserId, case: &Case) -> bool
-    ensures { result ≡ finds_by role user (case_of case.now) }
+fn finds(role: Role, user: UserId, report: &Report) -> bool
+    ensures { result ≡ finds_by role user (case_of report.now) }
 {
     match role {
         Role::Custodian => true,
-        Role::Reporter | Role::Recipient | Role::Admin => reads(case.trail.as_slice(), user),
+        Role::Reporter | Role::Recipient | Role::Admin => reads(report, user),
     }
 }
 
@@ -62,11 +59,12 @@ fn named<'a>(
     number: u32,
 ) -> Target<'a>
     requires place { IsLookedUp (plain_of tenancy.now) }
-    ensures { target_of result ≡ named_case_by role user.now.id (report_by number (live_plain time (plain_of tenancy.now)).cases) }
+    ensures target { target_of result ≡ named_case_by role user.now.id (report_by number (live_plain time (plain_of tenancy.now)).cases) }
+    ensures custodied { IsCustodied result }
 {
     match live_report(tenancy, time, number) {
-        Some(case) => if finds(role, user.id, case) {
-            Target::On(Who::User(user.id), case)
+        Some(report) => if finds(role, user.id, report) {
+            Target::On(Who::User(user.id), report)
         } else {
             Target::Nobody(Refusal::NotFound)
         },
@@ -83,7 +81,8 @@ fn user_target<'a>(
     need: Need,
 ) -> Target<'a>
     requires place { IsLookedUp (plain_of tenancy.now) }
-    ensures { target_of result ≡ user_target_by (live_plain time (plain_of tenancy.now)) has user.now (need_of need) }
+    ensures target { target_of result ≡ user_target_by (live_plain time (plain_of tenancy.now)) has user.now (need_of need) }
+    ensures custodied { IsCustodied result }
 {
     let alone = Target::Alone(Some(Who::User(user.id)));
     match need {
@@ -107,11 +106,12 @@ fn user_target<'a>(
 // The target of a reporter.
 fn reporter_target(tenancy: &Tenancy, time: Moment, number: Number, need: Need) -> Target<'_>
     requires place { IsLookedUp (plain_of tenancy.now) }
-    ensures { target_of result ≡ reporter_target_by (live_plain time (plain_of tenancy.now)) number (need_of need) }
+    ensures target { target_of result ≡ reporter_target_by (live_plain time (plain_of tenancy.now)) number (need_of need) }
+    ensures custodied { IsCustodied result }
 {
     match need {
         Need::AnySession | Need::Own => match live_report(tenancy, time, number.get()) {
-            Some(case) => Target::On(Who::Reporter(number), case),
+            Some(report) => Target::On(Who::Reporter(number), report),
             None => Target::Nobody(Refusal::NoSession),
         },
         Need::Anyone | Need::Staff(_) | Need::Names(..) => Target::Nobody(Refusal::WrongRole),
@@ -119,31 +119,29 @@ fn reporter_target(tenancy: &Tenancy, time: Moment, number: Number, need: Need) 
 }
 
 // The target of a session.
-fn session_target<'a>(
-    tenancy: &'a Tenancy,
-    time: Moment,
-    need: Need,
-    session: &Session,
-) -> Target<'a>
+fn session_target<'a>(tenancy: &'a Tenancy, time: Moment, need: Need, session: &Login) -> Target<'a>
     requires place { IsLookedUp (plain_of tenancy.now) }
-    ensures { target_of result ≡ session_target_by (live_plain time (plain_of tenancy.now)) (need_of need) (Some (session_of session.now)) }
+    ensures target { target_of result ≡ session_target_by (live_plain time (plain_of tenancy.now)) (need_of need) (Some (login_of session.now)) }
+    ensures custodied { IsCustodied result }
 {
-    match &session.who {
-        Who::User(id) => match user(tenancy.users.as_slice(), *id) {
+    match session.who {
+        Who::User(id) => match tenancy.configuration.user(id) {
             Some(user) => user_target(tenancy, time, session.role, user, need),
             None => Target::Nobody(Refusal::NoSession),
         },
-        Who::Reporter(number) => reporter_target(tenancy, time, *number, need),
+        Who::Reporter(number) => reporter_target(tenancy, time, number, need),
     }
 }
 
 // The target of a login by a name and a password: an enabled user.
-fn entering<'a>(tenancy: &'a Tenancy, name: &[u8], password: &[u8]) -> Target<'a>
-    ensures { target_of result ≡ entering_by tenancy.now.settings.salt password.now (user_called name.now tenancy.now.users) }
+fn entering<'a>(tenancy: &'a Tenancy, name: &Text, password: &Text) -> Target<'a>
+    ensures target { target_of result ≡ entering_by tenancy.now.configuration.registry.settings.salt password.now (user_called name.now tenancy.now.configuration.registry.users) }
+    ensures custodied { IsCustodied result }
 {
-    match user_named(tenancy.users.as_slice(), name) {
+    let salt = &tenancy.configuration.settings().salt;
+    match tenancy.configuration.user_named(name) {
         Some(user) => {
-            if user.enabled && user.secret == digest(&tenancy.settings.salt, password) {
+            if user.enabled && user.secret == digest(salt, password.as_bytes()) {
                 Target::Alone(Some(Who::User(user.id)))
             } else {
                 Target::Nobody(Refusal::BadLogin)
@@ -154,12 +152,14 @@ fn entering<'a>(tenancy: &'a Tenancy, name: &[u8], password: &[u8]) -> Target<'a
 }
 
 // The target of a login by a receipt: the reporter of a live report.
-fn returning<'a>(tenancy: &'a Tenancy, time: Moment, receipt: &[u8]) -> Target<'a>
+fn returning<'a>(tenancy: &'a Tenancy, time: Moment, receipt: &Text) -> Target<'a>
     requires place { IsLookedUp (plain_of tenancy.now) }
-    ensures { target_of result ≡ returning_by (with_receipt (digest_of tenancy.now.settings.salt receipt.now) (live_plain time (plain_of tenancy.now)).cases) }
+    ensures target { target_of result ≡ returning_by (with_receipt (digest_of tenancy.now.configuration.registry.settings.salt receipt.now) (live_plain time (plain_of tenancy.now)).cases) }
+    ensures custodied { IsCustodied result }
 {
-    match report_of_receipt(tenancy, time, &digest(&tenancy.settings.salt, receipt)) {
-        Some(case) => Target::On(Who::Reporter(case.number), case),
+    let salt = &tenancy.configuration.settings().salt;
+    match report_of_receipt(tenancy, time, &digest(salt, receipt.as_bytes())) {
+        Some(report) => Target::On(Who::Reporter(report.number), report),
         None => Target::Nobody(Refusal::BadLogin),
     }
 }
@@ -167,15 +167,12 @@ fn returning<'a>(tenancy: &'a Tenancy, time: Moment, receipt: &[u8]) -> Target<'
 // The target of a request that needs no session.
 fn unasked<'a>(tenancy: &'a Tenancy, time: Moment, command: &Command) -> Target<'a>
     requires place { IsLookedUp (plain_of tenancy.now) }
-    ensures { target_of result ≡ unasked_by (live_plain time (plain_of tenancy.now)) command.now }
+    ensures target { target_of result ≡ unasked_by (live_plain time (plain_of tenancy.now)) command.now }
+    ensures custodied { IsCustodied result }
 {
     match command {
-        Command::Login { user, password, .. } => entering(
-            tenancy,
-            user.as_bytes(),
-            password.as_bytes(),
-        ),
-        Command::ReceiptLogin { receipt, .. } => { returning(tenancy, time, receipt.as_bytes()) }
+        Command::Login { user, password, .. } => entering(tenancy, user, password),
+        Command::ReceiptLogin { receipt, .. } => returning(tenancy, time, receipt),
         _ => Target::Alone(None),
     }
 }
@@ -188,14 +185,15 @@ pub fn find_target<'a>(
     command: &Command,
 ) -> Target<'a>
     requires place { IsLookedUp (plain_of tenancy.now) }
-    ensures { target_of result ≡ target_by (live_plain time (plain_of tenancy.now)) presented.now command.now }
+    ensures target { target_of result ≡ target_by (live_plain time (plain_of tenancy.now)) presented.now command.now }
+    ensures custodied { IsCustodied result }
 {
     let need = needed(command);
     if need == Need::Anyone {
         return unasked(tenancy, time, command);
     }
     match live_session(tenancy, time, presented) {
-        Some(session) => session_target(tenancy, time, need, session),
+        Some(session) => session_target(tenancy, time, need, &session),
         None => Target::Nobody(Refusal::NoSession),
     }
 }

@@ -15,7 +15,7 @@ use Rattle.wb_custody.specs.SealedAnswers.{answers_of}
 use Rattle.wb_model.specs.Tables.{has_number, report}
 use Rattle.wb_tables.specs.Kept.{case_of}
 use Rattle.wb_model.specs.Opened.{AtMost}
-use Rattle.wb_tables.specs.declared.tenancy.Case.{Case as KeptCase}
+use Rattle.wb_tables.specs.declared.tenancy.Report.{Report as KeptCase}
 
 abbrev pub number_of : KeptCase → ℕ
 number_of c = c.number

@@ -11,7 +11,7 @@ use Rattle.wb_custody.specs.declared.sealed.SealedItem.{SealedItem}
 use Rattle.wb_model.specs.Opened.{AtMost}
 use Rattle.wb_tables.specs.Places.{ArePlaces}
 use Rattle.wb_tables.specs.Kept.{Place, case_of, place_of, live_at, numbers_at, sessions_at}
-use Rattle.wb_tables.specs.declared.tenancy.Case.{Case as KeptCase}
+use Rattle.wb_tables.specs.declared.tenancy.Report.{Report as KeptCase}
 use Rattle.wb_tables.specs.declared.tenancy.Tenancy.{Tenancy as KeptTenancy}
 use Rattle.wb_tables.proofs.CaseLists.{number_of}
 
@@ -50,14 +50,14 @@ pub counted_next : (all : List Place) (x : KeptTenancy) (left : List Place) (liv
     → IsCounted all left (live + length x.cases.items) (numbers + x.numbering.last) (sessions + length x.sessions.items)
 counted_next all x left live numbers sessions ascending small h =
     let few : length x.cases.items ≤ x.numbering.last + 1 = few_cases x.numbering.last x.cases.items ascending h.places.0.1.most in
-    let above : h.id < x.settings.tenant = h.places.0.0 in
+    let above : h.id < x.configuration.tenant = h.places.0.0 in
     let cases : length (map case_of x.cases.items) ≡ length x.cases.items = simp length-map in
     let live_split : live_at (place_of x ∷ left) ≡ length (map case_of x.cases.items) + live_at left = sum_by-cons cases_at (place_of x) left in
     let numbers_split : numbers_at (place_of x ∷ left) ≡ x.numbering.last + numbers_at left = sum_by-cons last_at (place_of x) left in
     let sessions_split : sessions_at (place_of x ∷ left) ≡ standing_at (place_of x) + sessions_at left = sum_by-cons standing_at (place_of x) left in
     let standing : standing_at (place_of x) ≡ length x.sessions.items = simp length-map in
     record {
-      id = x.settings.tenant;
+      id = x.configuration.tenant;
       turns = h.turns;
       sealed = h.sealed;
       places = h.places.1;

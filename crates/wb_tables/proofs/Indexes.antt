@@ -1,5 +1,5 @@
 -- The index of expiry days has the reports' own, and so tells which reports do not live.
-use Rattle.std.proofs.Common.{◌≡◌, ℕ, ◌<◌, ℤ, ◌++◌, Bool, true, false, cond, not, List, [], ◌∷◌, map, find, length, Option, Some, None, refl, sym, ap, ◌∙◌, arith}
+use Rattle.std.proofs.Common.{◌≡◌, ℕ, ◌<◌, ℤ, ◌++◌, Bool, true, false, cond, not, List, [], ◌∷◌, map, find, length, Option, Some, None, refl, sym, ap, ◌∙◌, subst, arith}
 use Rattle.std.specs.Prelude.{filter, ◌==◌, ◌&&◌, ◌||◌, int_lt, is_some}
 use Rattle.std.specs.List.{list_any, list_all}
 use Rattle.std.specs.Ordering.{int_cmp, int_eq, nat_cmp, is_le, ordering_reverse}
@@ -16,10 +16,10 @@ use Rattle.wb_model.specs.Opened.{AtMost, Apart}
 use Rattle.wb_model.proofs.Leaving.{apart_filter, apart_push}
 use Rattle.wb_terms.specs.Index.{same_kind, same_term, is_up_to, first_of, numbers_up_to}
 use Rattle.wb_terms.specs.declared.term_index.Term.{Term}
-use Rattle.wb_tables.specs.Indexed.{expiry_of, is_begun, IsIndexed, AreExpired, IsTakenOut}
+use Rattle.wb_tables.specs.Indexed.{expiry_of, is_begun, IsIndexed, AreExpired, IsTakenOut, AreCustodied}
 use Rattle.wb_tables.specs.Kept.{case_of, lives_on}
 use Rattle.wb_tables.specs.Places.{is_dead}
-use Rattle.wb_tables.specs.declared.tenancy.Case.{Case as KeptCase}
+use Rattle.wb_tables.specs.declared.tenancy.Report.{Report as KeptCase}
 use Rattle.wb_tables.proofs.CaseLists.{number_of}
 
 -- ---- one of a list
@@ -28,7 +28,7 @@ use Rattle.wb_tables.proofs.CaseLists.{number_of}
 abbrev pub IsOneOf : {X : Type 0} → X → List X → Type 0
 IsOneOf {X} x xs = (q : X → Bool) → q x ≡ true → list_any q xs ≡ true
 
-or_true : (b : Bool) → (b || true) ≡ true
+pub or_true : (b : Bool) → (b || true) ≡ true
 or_true true = refl
 or_true false = refl
 
@@ -62,7 +62,7 @@ one_answer true b f g = sym (f refl)
 one_answer false true f g = g refl
 one_answer false false f g = refl
 
-any_found : {X : Type 0} (p : X → Bool) (xs : List X) → list_any p xs ≡ is_some (find p xs)
+pub any_found : {X : Type 0} (p : X → Bool) (xs : List X) → list_any p xs ≡ is_some (find p xs)
 any_found p [] = refl
 any_found p (x ∷ xs) = by (any_found p xs) (p x)
   where
@@ -70,7 +70,7 @@ any_found p (x ∷ xs) = by (any_found p xs) (p x)
     by rest true = refl
     by rest false = rest
 
-some_none : {X : Type 0} (o : Option X) → is_some o ≡ false → o ≡ None
+pub some_none : {X : Type 0} (o : Option X) → is_some o ≡ false → o ≡ None
 some_none None e = refl
 some_none (Some x) e = absurd (grind (arith, e))
 
@@ -78,7 +78,7 @@ any_map : {X Y : Type 0} (f : X → Y) (p : Y → Bool) (xs : List X) → list_a
 any_map f p [] = refl
 any_map f p (x ∷ xs) = ap (λ b. p (f x) || b) (any_map f p xs)
 
-any_filter : {X : Type 0} (p q : X → Bool) (xs : List X) → list_any p (filter q xs) ≡ list_any (λ x. p x && q x) xs
+pub any_filter : {X : Type 0} (p q : X → Bool) (xs : List X) → list_any p (filter q xs) ≡ list_any (λ x. p x && q x) xs
 any_filter p q [] = refl
 any_filter p q (x ∷ xs) = by (q x) (p x) (any_filter p q xs)
   where
@@ -105,7 +105,7 @@ all_one p q (x ∷ xs) all one = by (λ f g. all_one p q xs f g) (p x) (q x) all
 
 -- ---- terms
 
-term_self : (t : Term) → same_term t t ≡ true
+pub term_self : (t : Term) → same_term t t ≡ true
 term_self t =
     let tenants : (t.tenant == t.tenant) ≡ true = grind (arith, nat_tests) in
     let days : int_eq t.day t.day ≡ true = (signed_Decides t.day t.day).1 refl in
@@ -446,3 +446,41 @@ map_without n (k ∷ ks) = rw (← unsigned_ties k.number n) (by (k.number == n)
 
 pub left_cases : (n : ℕ) (ks left : List KeptCase) → left ≡ filter (λ k. not (has_key nat_cmp number_of n k)) ks → map case_of left ≡ without n (map case_of ks)
 left_cases n ks left e = ap (map case_of) e ∙ map_without n ks
+
+filter_same : {X : Type 0} (p q : X → Bool) (xs : List X) → ((x : X) → p x ≡ q x) → filter p xs ≡ filter q xs
+filter_same p q [] same = refl
+filter_same p q (x ∷ xs) same = ap (λ b. cond b (x ∷ filter p xs) (filter p xs)) (same x) ∙ ap (λ ys. cond (q x) (x ∷ ys) ys) (filter_same p q xs same)
+
+-- the reports that live are those that were there, where what was taken out did not live
+living_left : (today : ℤ) (n : ℕ) (ks : List KeptCase) → list_any (λ c. has_number n c && lives_on today c) (map case_of ks) ≡ false
+    → filter (λ k. lives_on today (case_of k)) (filter (λ k. not (has_number n (case_of k))) ks) ≡ filter (λ k. lives_on today (case_of k)) ks
+living_left today n [] e = refl
+living_left today n (k ∷ ks) e = by (λ g. living_left today n ks g) (has_number n (case_of k)) (lives_on today (case_of k)) refl e
+  where
+    by : (list_any (λ c. has_number n c && lives_on today c) (map case_of ks) ≡ false → filter (λ k. lives_on today (case_of k)) (filter (λ k. not (has_number n (case_of k))) ks) ≡ filter (λ k. lives_on today (case_of k)) ks)
+        → (h l : Bool) → lives_on today (case_of k) ≡ l → ((h && l) || list_any (λ c. has_number n c && lives_on today c) (map case_of ks)) ≡ false
+        → filter (λ k. lives_on today (case_of k)) (cond (not h) (k ∷ filter (λ k. not (has_number n (case_of k))) ks) (filter (λ k. not (has_number n (case_of k))) ks)) ≡ cond l (k ∷ filter (λ k. lives_on today (case_of k)) ks) (filter (λ k. lives_on today (case_of k)) ks)
+    by rest true true f g = absurd (grind (arith, g))
+    by rest true false f g = rest g
+    by rest false true f g = rw f (ap (λ ds. k ∷ ds) (rest g))
+    by rest false false f g = rw f (rest g)
+
+pub left_reports : (tenant : ℕ) (today : ℤ) (ks left : List KeptCase) (terms : List Term) → IsIndexed tenant (map case_of ks) terms → (t : Term) → Some t ≡ first_of Expiry (filter (is_up_to tenant today) terms) → left ≡ filter (λ k. not (has_key nat_cmp number_of t.number k)) ks
+    → filter (λ k. lives_on today (case_of k)) left ≡ filter (λ k. lives_on today (case_of k)) ks
+left_reports tenant today ks left terms h t e is =
+    let dead = (taken tenant today (map case_of ks) terms h t e).0.dead in
+    ap (filter (λ k. lives_on today (case_of k))) (is ∙ filter_same (λ k. not (has_key nat_cmp number_of t.number k)) (λ k. not (has_number t.number (case_of k))) ks (λ k. ap not (sym (unsigned_ties k.number t.number))))
+    ∙ living_left today t.number ks (taken_live tenant today (map case_of ks) terms h t.number dead)
+
+-- ---- the requests that are kept
+
+pub custodied_filtered : (p : KeptCase → Bool) (cs : List KeptCase) → AreCustodied cs → AreCustodied (filter p cs)
+custodied_filtered p [] all = tt
+custodied_filtered p (c ∷ cs) all = by (custodied_filtered p cs all.1) (p c)
+  where
+    by : AreCustodied (filter p cs) → (b : Bool) → AreCustodied (cond b (c ∷ filter p cs) (filter p cs))
+    by later true = (all.0, later)
+    by later false = later
+
+pub left_custodied : (n : ℕ) (ks left : List KeptCase) → left ≡ filter (λ k. not (has_key nat_cmp number_of n k)) ks → AreCustodied ks → AreCustodied left
+left_custodied n ks left is all = subst AreCustodied (sym is) (custodied_filtered (λ k. not (has_key nat_cmp number_of n k)) ks all)

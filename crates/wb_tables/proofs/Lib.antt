@@ -3,5 +3,7 @@ pub mod Counting
 pub mod DeadNumbers
 pub mod Indexes
 pub mod Lookups
+pub mod NotedReports
 pub mod PlacesAt
 pub mod Purges
+pub mod SessionLists

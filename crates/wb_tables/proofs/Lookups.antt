@@ -1,20 +1,13 @@
 -- What is found among what passes a test: what was found, where that passes.
 use Rattle.std.proofs.Common.{◌≡◌, ℕ, ℤ, Bor, Bool, true, false, cond, List, [], ◌∷◌, map, find, Option, Some, None, refl, sym, ap, ◌∙◌}
 use Rattle.std.specs.Prelude.{filter, ◌&&◌, ◌||◌, option_map, is_some, if◌then◌else◌}
-use Rattle.std.specs.Ordering.{nat_cmp}
-use Rattle.std.specs.Cmp.{unsigned_ties}
-use Rattle.wb_base.specs.declared.words.Digest.{Digest}
-use Rattle.wb_base.proofs.AnswerLemmas.{find-same}
-use Rattle.wb_list.specs.Keyed.{has_key}
-use Rattle.wb_model.specs.Tables.{Case, Session, has_number, report, is_there, is_live, same_digest}
-use Rattle.wb_model.specs.Opened.{Apart, has_turn}
-use Rattle.wb_tables.specs.Kept.{case_of, session_of, plain_of, live_plain, lives_on, is_session}
+use Rattle.wb_model.specs.Tables.{Case, has_number, report, is_there, is_live}
+use Rattle.wb_model.specs.Opened.{Apart}
+use Rattle.wb_tables.specs.Kept.{case_of, plain_of, live_plain, lives_on}
 use Rattle.wb_base.specs.Days.{day_of}
 use Rattle.std.specs.Option.{option_copied}
-use Rattle.wb_tables.specs.declared.tenancy.Case.{Case as KeptCase}
-use Rattle.wb_tables.specs.declared.tenancy.Session.{Session as KeptSession}
+use Rattle.wb_tables.specs.declared.tenancy.Report.{Report as KeptCase}
 use Rattle.wb_tables.specs.declared.tenancy.Tenancy.{Tenancy as KeptTenancy}
-use Rattle.wb_tables.proofs.CaseLists.{find-map}
 
 abbrev pub kept : {X : Type 0} → (X → Bool) → Option X → Option X
 kept Q None = None
@@ -46,10 +39,10 @@ find_kept {K} {X} P k Q (x ∷ xs) o = by (find_kept P k Q xs o.1) (P k x) (Q x)
 -- ---- reports
 
 -- what the code found
-pub report_kept : (x : KeptTenancy) (time n : ℕ) (today : ℤ) (o : Option KeptCase) → Apart has_number (plain_of x).cases → today ≡ day_of time x.settings.offset → option_map case_of o ≡ report n (map case_of x.cases.items)
+pub report_kept : (x : KeptTenancy) (time n : ℕ) (today : ℤ) (o : Option KeptCase) → Apart has_number (plain_of x).cases → today ≡ day_of time x.configuration.registry.settings.offset → option_map case_of o ≡ report n (map case_of x.cases.items)
     → kept (lives_on today) (option_map case_of o) ≡ report n (live_plain time (plain_of x)).cases
 report_kept x time n today o apart day found =
-    ap (λ d. kept (lives_on d) (option_map case_of o)) day ∙ (ap (kept (is_live x.settings time)) found ∙ sym (find_kept has_number n (is_live x.settings time) (map case_of x.cases.items) apart))
+    ap (λ d. kept (lives_on d) (option_map case_of o)) day ∙ (ap (kept (is_live x.configuration.registry.settings time)) found ∙ sym (find_kept has_number n (is_live x.configuration.registry.settings time) (map case_of x.cases.items) apart))
 
 pub there-found : (n : ℕ) (cs : List Case) → is_there n cs ≡ is_some (report n cs)
 there-found n [] = refl
@@ -58,21 +51,6 @@ there-found n (c ∷ cs) = by (there-found n cs) (has_number n c) refl
     by : is_there n cs ≡ is_some (report n cs) → (b : Bool) → has_number n c ≡ b → (b || is_there n cs) ≡ is_some (cond b (Some c) (report n cs))
     by rest true e = refl
     by rest false e = rest
-
--- ---- sessions
-
-abbrev pub turn_of : KeptSession → ℕ
-turn_of s = s.turn
-
-pub session-found : (turn : ℕ) (ss : List KeptSession) → find (has_turn turn) (map session_of ss) ≡ option_map session_of (find (has_key nat_cmp turn_of turn) ss)
-session-found turn ss = find-map session_of (has_turn turn) ss ∙ ap (option_map session_of) (find-same (λ s. has_turn turn (session_of s)) (has_key nat_cmp turn_of turn) (λ s. unsigned_ties s.turn turn) ss)
-
-pub live_session : (Q : Session → Bool) (turn : ℕ) (d : Digest) (ss : List KeptSession) → Apart has_turn (map session_of ss) → find (is_session turn d) (filter Q (map session_of ss)) ≡ kept (λ s. same_digest s.digest d && Q s) (option_map session_of (find (has_key nat_cmp turn_of turn) ss))
-live_session Q turn d ss apart = find_under has_turn turn (λ s. same_digest s.digest d) Q (map session_of ss) apart ∙ ap (kept (λ s. same_digest s.digest d && Q s)) (session-found turn ss)
-
-pub session_kept : (Q : Session → Bool) (turn : ℕ) (d : Digest) (ss : List KeptSession) (o : Option KeptSession) → Apart has_turn (map session_of ss) → o ≡ find (has_key nat_cmp turn_of turn) ss
-    → kept (λ s. same_digest s.digest d && Q s) (option_map session_of o) ≡ find (is_session turn d) (filter Q (map session_of ss))
-session_kept Q turn d ss o apart found = ap (λ f. kept (λ s. same_digest s.digest d && Q s) (option_map session_of f)) found ∙ sym (live_session Q turn d ss apart)
 
 some_mapped : {X Y : Type 0} (f : X → Y) (o : Option X) → is_some (option_map f o) ≡ is_some o
 some_mapped f None = refl

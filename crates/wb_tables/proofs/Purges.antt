@@ -13,9 +13,10 @@ use Rattle.wb_model.proofs.Leaving.{apart_filter}
 use Rattle.wb_list.specs.Room.{Room}
 use Rattle.wb_custody.specs.declared.sealed.SealedItem.{SealedItem}
 use Rattle.wb_custody.specs.SealedAnswers.{answers_of}
-use Rattle.wb_tables.specs.Indexed.{IsTakenOut}
-use Rattle.wb_tables.specs.Kept.{Place, place_of, tables_of, tenancy_of, sealed_of, live_place, purged_tenancy, live_plain, lives_on}
+use Rattle.wb_tables.specs.Indexed.{IsTakenOut, AreFewRequests}
+use Rattle.wb_tables.specs.Kept.{Place, case_of, place_of, tables_of, tenancy_of, sealed_of, live_place, purged_tenancy, live_plain, lives_on}
 use Rattle.wb_tables.specs.Places.{IsPlace, ArePlaces, is_tenant, is_dead, gone_under}
+use Rattle.wb_tables.specs.declared.tenancy.Report.{Report as KeptCase}
 use Rattle.wb_tables.specs.declared.tenancy.Tenancy.{Tenancy as KeptTenancy}
 
 -- ---- lists
@@ -137,6 +138,18 @@ none_of n today (c ∷ cs) e = by (λ g. none_of n today cs g) (has_number n c) 
 pub purging_cases : (t : ℕ) (today : ℤ) (all now : List Case) (old new : Room SealedItem) → IsPurging t today all now old new → list_any (λ c. not (lives_on today c)) now ≡ false → now ≡ filter (lives_on today) all
 purging_cases t today all now old new h live = sym (all_kept today now live) ∙ h.live
 
+reports_kept : (today : ℤ) (ks : List KeptCase) → list_any (λ c. not (lives_on today c)) (map case_of ks) ≡ false → filter (λ k. lives_on today (case_of k)) ks ≡ ks
+reports_kept today [] e = refl
+reports_kept today (k ∷ ks) e = by (λ g. reports_kept today ks g) (lives_on today (case_of k)) e
+  where
+    by : (list_any (λ c. not (lives_on today c)) (map case_of ks) ≡ false → filter (λ k. lives_on today (case_of k)) ks ≡ ks) → (b : Bool) → (not b || list_any (λ c. not (lives_on today c)) (map case_of ks)) ≡ false
+        → cond b (k ∷ filter (λ k. lives_on today (case_of k)) ks) (filter (λ k. lives_on today (case_of k)) ks) ≡ k ∷ ks
+    by rest true f = ap (λ ds. k ∷ ds) (rest f)
+    by rest false f = absurd (grind (arith, f))
+
+pub purging_reports : (today : ℤ) (now all : List KeptCase) → list_any (λ c. not (lives_on today c)) (map case_of now) ≡ false → filter (λ k. lives_on today (case_of k)) now ≡ filter (λ k. lives_on today (case_of k)) all → now ≡ filter (λ k. lives_on today (case_of k)) all
+purging_reports today now all live same = sym (reports_kept today now live) ∙ same
+
 pub purging_here : (t : ℕ) (today : ℤ) (all now : List Case) (old new : Room SealedItem) → IsPurging t today all now old new → list_any (λ c. not (lives_on today c)) now ≡ false → (n : ℕ) → answers_of new.items t n ≡ gone_under n today all (answers_of old.items t n)
 purging_here t today all now old new h live n = sym (ap (λ b. if b then None else answers_of new.items t n) (none_of n today now live)) ∙ h.here n
 
@@ -162,7 +175,7 @@ same_tables t u p s = λ i. record { plain = p i; sealed = fun_ext s i }
 
 -- ---- one tenant
 
-pub live_tenancy : (time : ℕ) (x y : KeptTenancy) → y.settings ≡ x.settings → (plain_same : (place_of y).plain ≡ live_plain time (place_of x).plain) → place_of y ≡ live_place time (place_of x)
+pub live_tenancy : (time : ℕ) (x y : KeptTenancy) → y.configuration ≡ x.configuration → (plain_same : (place_of y).plain ≡ live_plain time (place_of x).plain) → place_of y ≡ live_place time (place_of x)
 live_tenancy time x y s p = λ i. record { id = (s i).tenant; plain = p i }
 
 within_cond : (turns last : ℕ) (b : Bool) (x : Session) (ss : List Session) → (x.turn ≤ turns) × IsWithin last x.who → AreWithin turns last ss → AreWithin turns last (cond b (x ∷ ss) ss)
@@ -172,6 +185,14 @@ within_cond turns last false x ss h all = all
 within_filter : (turns last : ℕ) (p : Session → Bool) (ss : List Session) → AreWithin turns last ss → AreWithin turns last (filter p ss)
 within_filter turns last p [] all = tt
 within_filter turns last p (x ∷ ss) all = within_cond turns last (p x) x (filter p ss) all.0 (within_filter turns last p ss all.1)
+
+few_filter : (p : Case → Bool) (cs : List Case) → AreFewRequests cs → AreFewRequests (filter p cs)
+few_filter p [] h = tt
+few_filter p (c ∷ cs) h = by (p c) (few_filter p cs h.1)
+  where
+    by : (b : Bool) → AreFewRequests (filter p cs) → AreFewRequests (cond b (c ∷ filter p cs) (filter p cs))
+    by true rest = (h.0, rest)
+    by false rest = rest
 
 -- what holds of the place after it
 pub purged_is_place : (turns time : ℕ) (items new : List SealedItem) (x : Place) → IsPlace turns items x → ((n : ℕ) → answers_of new x.id n ≡ (purged time (tables_of items x)).sealed n) → IsPlace turns new (live_place time x)
@@ -186,6 +207,7 @@ purged_is_place turns time items new x h here = record {
   drawn = h.drawn;
   most = most_filter x.plain.numbering.last (is_live x.plain.registry.settings time) x.plain.cases h.most;
   sessions = within_filter turns x.plain.numbering.last (lasts time (live_cases x.plain time)) x.plain.sessions h.sessions;
+  requests = few_filter (is_live x.plain.registry.settings time) x.plain.cases h.requests;
   unsealed = λ n absent. here n ∙ ap (λ b. if b then sealed_of items x.id n else None) absent;
 }
 
@@ -198,7 +220,7 @@ same_tenancy : (x y : Tenancy) → x.id ≡ y.id → x.tables ≡ y.tables → x
 same_tenancy x y i t = λ k. record { id = i k; tables = t k }
 
 pub same_place : (turns : ℕ) (items new : List SealedItem) (x : Place) → IsPlace turns items x → ((n : ℕ) → answers_of new x.id n ≡ answers_of items x.id n) → IsPlace turns new x
-same_place turns items new x h same = record { id = h.id; plain = h.plain; drawn = h.drawn; most = h.most; sessions = h.sessions; unsealed = λ n e. same n ∙ h.unsealed n e }
+same_place turns items new x h same = record { id = h.id; plain = h.plain; drawn = h.drawn; most = h.most; sessions = h.sessions; requests = h.requests; unsealed = λ n e. same n ∙ h.unsealed n e }
 
 pub places_above : (turns k t : ℕ) (items new : List SealedItem) (xs : List Place) → t ≤ k → ArePlaces turns k items xs → AreOthers items new t → ArePlaces turns k new xs
 places_above turns k t items new [] le all others = tt
@@ -226,21 +248,21 @@ purged_first time items new x y e here =
     ap (tenancy_of new) e ∙ same_tenancy (tenancy_of new (live_place time x)) (purged_tenancy time (tenancy_of items x)) refl (same_tables (tables_of new (live_place time x)) (purged time (tables_of items x)) refl here)
 
 -- the others, once the first is purged
-pub rest_places : (turns k : ℕ) (items mid : List SealedItem) (ks : List KeptTenancy) (x : KeptTenancy) (rest : List KeptTenancy) → ks ≡ x ∷ rest → ArePlaces turns k items (map place_of ks) → AreOthers items mid x.settings.tenant → ArePlaces turns x.settings.tenant mid (map place_of rest)
+pub rest_places : (turns k : ℕ) (items mid : List SealedItem) (ks : List KeptTenancy) (x : KeptTenancy) (rest : List KeptTenancy) → ks ≡ x ∷ rest → ArePlaces turns k items (map place_of ks) → AreOthers items mid x.configuration.tenant → ArePlaces turns x.configuration.tenant mid (map place_of rest)
 rest_places turns k items mid ks x rest e all others =
     let split : ArePlaces turns k items (place_of x ∷ map place_of rest) = subst (λ (l : List KeptTenancy). ArePlaces turns k items (map place_of l)) e all in
-    places_above turns x.settings.tenant x.settings.tenant items mid (map place_of rest) (omega arith) split.1 others
+    places_above turns x.configuration.tenant x.configuration.tenant items mid (map place_of rest) (omega arith) split.1 others
 
 pub all_purged : (turns time k : ℕ) (items mid new : List SealedItem) (ks : List KeptTenancy) (x : KeptTenancy) (rest : List KeptTenancy) (y : Place) (zs : List Place) → ks ≡ x ∷ rest → ArePlaces turns k items (map place_of ks) → y ≡ live_place time (place_of x)
-    → ((n : ℕ) → answers_of mid x.settings.tenant n ≡ (purged time (tables_of items (place_of x))).sealed n) → AreOthers items mid x.settings.tenant
+    → ((n : ℕ) → answers_of mid x.configuration.tenant n ≡ (purged time (tables_of items (place_of x))).sealed n) → AreOthers items mid x.configuration.tenant
     → ((t n : ℕ) → find (is_tenant t) (map place_of rest) ≡ None → answers_of new t n ≡ answers_of mid t n) → map (tenancy_of new) zs ≡ map (purged_tenancy time) (map (tenancy_of mid) (map place_of rest))
     → tenancy_of new y ∷ map (tenancy_of new) zs ≡ map (purged_tenancy time) (map (tenancy_of items) (map place_of ks))
 all_purged turns time k items mid new ks x rest y zs e all first here others kept made =
     let split : ArePlaces turns k items (place_of x ∷ map place_of rest) = subst (λ (l : List KeptTenancy). ArePlaces turns k items (map place_of l)) e all in
-    let absent = absent_below turns x.settings.tenant x.settings.tenant items (map place_of rest) (omega arith) split.1 in
-    let head : tenancy_of new y ≡ purged_tenancy time (tenancy_of items (place_of x)) = purged_first time items new (place_of x) y first (λ n. kept x.settings.tenant n absent ∙ here n) in
+    let absent = absent_below turns x.configuration.tenant x.configuration.tenant items (map place_of rest) (omega arith) split.1 in
+    let head : tenancy_of new y ≡ purged_tenancy time (tenancy_of items (place_of x)) = purged_first time items new (place_of x) y first (λ n. kept x.configuration.tenant n absent ∙ here n) in
     let tail : map (tenancy_of new) zs ≡ map (purged_tenancy time) (map (tenancy_of items) (map place_of rest)) =
-    made ∙ ap (map (purged_tenancy time)) (tenancies_above turns x.settings.tenant x.settings.tenant items mid (map place_of rest) (omega arith) split.1 others) in
+    made ∙ ap (map (purged_tenancy time)) (tenancies_above turns x.configuration.tenant x.configuration.tenant items mid (map place_of rest) (omega arith) split.1 others) in
     ap (λ t. t ∷ map (tenancy_of new) zs) head
     ∙ (ap (λ ts. purged_tenancy time (tenancy_of items (place_of x)) ∷ ts) tail
     ∙ sym (ap (λ (l : List KeptTenancy). map (purged_tenancy time) (map (tenancy_of items) (map place_of l))) e))

@@ -1,19 +1,20 @@
 -- The reports of a tenant, and the index of the days on which they expire.
-use Rattle.std.specs.Prelude.{◌≡◌, ℕ, ℤ, ◌==◌, not, Bool, true, List, length, filter}
+use Rattle.std.specs.Prelude.{◌≡◌, ◌≤◌, ℕ, ℤ, ◌==◌, not, Bool, true, false, List, [], ◌∷◌, length, filter, if◌then◌else◌}
 use Rattle.std.specs.List.{list_any, list_all}
 use Rattle.wb_base.specs.declared.kind.Kind.TheVariants.{Expiry}
+use Rattle.wb_model.specs.Access.{requests}
 use Rattle.wb_model.specs.Opened.{Apart}
 use Rattle.wb_model.specs.Tables.{Case, has_number}
 use Rattle.wb_model.specs.Trails.{expires}
 use Rattle.wb_terms.specs.Index.{same_term}
 use Rattle.wb_terms.specs.declared.term_index.Term.{Term}
 use Rattle.wb_tables.specs.Lives.{lives_on, is_dead}
-use Rattle.wb_tables.specs.declared.tenancy.Case.{Case as KeptCase}
+use Rattle.wb_tables.specs.declared.tenancy.Report.{Report}
 
 -- what is seen of the table: whose reports they are, the reports, and the room for more
 pub record Reports : Type 0 where
   pub tenant : ℕ
-  pub items : List KeptCase
+  pub items : List Report
   pub spare : ℕ
 
 -- a report expires on a day
@@ -30,6 +31,10 @@ pub record IsIndexed (tenant : ℕ) (cs : List Case) (ts : List Term) : Type 0 w
   pub begun : list_all is_begun cs ≡ true
   pub terms : (t : Term) → list_any (same_term t) ts ≡ list_any (λ c. same_term t (expiry_of tenant c)) cs
 
+-- whether a term is in the index after one moved, where this tells of it before
+abbrev pub moved : Term → Term → Term → Bool → Bool
+moved before after t old = if same_term t after then true else if same_term t before then false else old
+
 -- these are the numbers of the reports that do not live on this day, in whatever order
 abbrev pub AreExpired : ℤ → List Case → List ℕ → Type 0
 AreExpired today cs ns = (n : ℕ) → list_any (λ m. m == n) ns ≡ is_dead n today cs
@@ -39,3 +44,15 @@ pub record IsTakenOut (today : ℤ) (n : ℕ) (old new : List Case) : Type 0 whe
   pub dead : is_dead n today old ≡ true
   pub left : new ≡ filter (λ c. not (has_number n c)) old
   pub live : filter (lives_on today) new ≡ filter (lives_on today) old
+
+-- ---- the requests for an identity
+
+-- those that are kept of each report are those of its trail
+abbrev pub AreCustodied : List Report → Type 0
+AreCustodied [] = Unit {0}
+AreCustodied (r ∷ rs) = (r.desk.items ≡ requests r.case.items) × AreCustodied rs
+
+-- each report has at most 100
+abbrev pub AreFewRequests : List Case → Type 0
+AreFewRequests [] = Unit {0}
+AreFewRequests (c ∷ cs) = (length (requests c.trail) ≤ 100) × AreFewRequests cs

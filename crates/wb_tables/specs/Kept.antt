@@ -4,28 +4,16 @@ use Rattle.std.specs.List.{sum_by}
 use Rattle.wb_base.specs.declared.words.Digest.{Digest}
 use Rattle.wb_custody.specs.declared.sealed.SealedItem.{SealedItem}
 use Rattle.wb_custody.specs.SealedAnswers.{answers_of}
-use Rattle.wb_model.specs.Tables.{Registry, Plain, Session, Who, TheUser, TheReporter, lasts, same_digest}
+use Rattle.wb_model.specs.Tables.{Plain, Session, lasts, same_digest}
 use Rattle.wb_model.specs.Host.{Sealed, Tables, live_cases, purged}
 use Rattle.wb_model.specs.Tenants.{Tenancy}
 pub use Rattle.wb_tables.specs.Lives.{case_of, lives_on}
+pub use Rattle.wb_tables.specs.Logins.{session_of}
 use Rattle.wb_tables.specs.declared.counts.Counts.{Counts}
-use Rattle.wb_tables.specs.declared.tenancy.Session.{Session as KeptSession}
-use Rattle.wb_tables.specs.declared.tenancy.Who.{Who as KeptWho}
-use Rattle.wb_tables.specs.declared.tenancy.Who.TheVariants as kept
 use Rattle.wb_tables.specs.declared.tenancy.Tenancy.{Tenancy as KeptTenancy}
 
-abbrev pub who_of : KeptWho → Who
-who_of (kept.User u) = TheUser u
-who_of (kept.Reporter n) = TheReporter n
-
-abbrev pub session_of : KeptSession → Session
-session_of s = record { turn = s.turn; digest = s.digest; role = s.role; who = who_of s.who; at = s.at }
-
-abbrev pub registry_of : KeptTenancy → Registry
-registry_of x = record { settings = x.settings; users = x.users; forms = x.forms; contexts = x.contexts }
-
 abbrev pub plain_of : KeptTenancy → Plain
-plain_of x = record { registry = registry_of x; numbering = x.numbering; cases = map case_of x.cases.items; sessions = map session_of x.sessions.items }
+plain_of x = record { registry = x.configuration.registry; numbering = x.numbering; cases = map case_of x.cases.items; sessions = map session_of x.sessions.items }
 
 -- a tenant's tables but for identity answers, under its id
 pub record Place : Type 0 where
@@ -33,7 +21,7 @@ pub record Place : Type 0 where
   pub plain : Plain
 
 abbrev pub place_of : KeptTenancy → Place
-place_of x = record { id = x.settings.tenant; plain = plain_of x }
+place_of x = record { id = x.configuration.tenant; plain = plain_of x }
 
 -- the identity answers of a tenant's reports
 abbrev pub sealed_of : List SealedItem → ℕ → Sealed

@@ -1,6 +1,9 @@
+pub mod Configured
 pub mod Dead
 pub mod Indexed
 pub mod Kept
 pub mod Lives
+pub mod Logins
+pub mod Noted
 pub mod Places
 pub mod Standing

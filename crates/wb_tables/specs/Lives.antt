@@ -3,10 +3,10 @@ use Rattle.std.specs.Prelude.{ℕ, ℤ, ◌==◌, ◌&&◌, not, int_lt, Bool, L
 use Rattle.std.specs.List.{list_any}
 use Rattle.wb_model.specs.Tables.{Case, has_number}
 use Rattle.wb_model.specs.Trails.{expires}
-use Rattle.wb_tables.specs.declared.tenancy.Case.{Case as KeptCase}
+use Rattle.wb_tables.specs.declared.tenancy.Report.{Report}
 
-abbrev pub case_of : KeptCase → Case
-case_of c = record { number = c.number; trail = c.trail.items }
+abbrev pub case_of : Report → Case
+case_of r = record { number = r.number; trail = r.case.items }
 
 -- a report has a trail and expires after this day
 abbrev pub lives_on : ℤ → Case → Bool

@@ -1,7 +1,7 @@
 -- What holds of each tenant that is kept.
-use Rattle.std.specs.Prelude.{◌≡◌, ℕ, ℤ, ◌<◌, ◌≤◌, ◌==◌, Bool, true, false, slice_index_or, List, [], ◌∷◌, length, Option, None, if◌then◌else◌}
+use Rattle.std.specs.Prelude.{◌≡◌, ℕ, ℤ, ◌<◌, ◌≤◌, ◌==◌, Bool, true, false, slice_index_or, List, [], ◌∷◌, filter, length, Option, None, if◌then◌else◌}
 use Rattle.wb_base.specs.AnswerList.{Answered}
-use Rattle.wb_base.specs.Days.{IsOffset}
+use Rattle.wb_base.specs.Days.{IsOffset, day_of}
 use Rattle.wb_base.specs.FormFaults.{is_good}
 use Rattle.wb_custody.specs.declared.sealed.SealedItem.{SealedItem}
 use Rattle.wb_custody.specs.SealedAnswers.{answers_of}
@@ -10,6 +10,8 @@ use Rattle.wb_model.specs.Legal.{IsSound}
 use Rattle.wb_model.specs.Opened.{AtMost, AreWithin, Apart, has_turn}
 use Rattle.wb_model.specs.Tables.{Registry, Plain, Case, has_number, has_receipt, is_there}
 pub use Rattle.wb_tables.specs.Lives.{is_dead}
+use Rattle.wb_tables.specs.Indexed.{AreFewRequests}
+use Rattle.wb_tables.specs.Lives.{case_of, lives_on}
 use Rattle.wb_tables.specs.Kept.{Place}
 use Rattle.wb_tables.specs.declared.tenancy.Tenancy.{Tenancy as KeptTenancy}
 
@@ -39,6 +41,8 @@ pub record IsPlace (turns : ℕ) (items : List SealedItem) (x : Place) : Type 0 
   pub most : AtMost x.plain.numbering.last x.plain.cases
   -- each session was made by a turn, and for a report whose number was drawn
   pub sessions : AreWithin turns x.plain.numbering.last x.plain.sessions
+  -- each report has at most 100 requests for its identity
+  pub requests : AreFewRequests x.plain.cases
   -- identity answers stand under reports that are there
   pub unsealed : (n : ℕ) → is_there n x.plain.cases ≡ false → answers_of items x.id n ≡ None
 
@@ -53,12 +57,18 @@ ArePlaces turns k sealed (x ∷ xs) = ((k < x.id) × IsPlace turns sealed x) × 
 abbrev pub gone_under : ℕ → ℤ → List Case → Option Answered → Option Answered
 gone_under n today cs given = if is_dead n today cs then None else given
 
--- each tenant has as much room for reports as before
-abbrev pub AreRoomy : List KeptTenancy → List KeptTenancy → Type 0
-AreRoomy [] [] = Unit {0}
-AreRoomy [] (y ∷ ys) = ⊥
-AreRoomy (x ∷ xs) [] = ⊥
-AreRoomy (x ∷ xs) (y ∷ ys) = (x.cases.spare ≤ y.cases.spare) × AreRoomy xs ys
+-- a tenant that was purged at a time: what it is set up with stays, so do the reports that live, and there is no less room
+pub record IsPurged (now : ℕ) (x y : KeptTenancy) : Type 0 where
+  pub configuration : y.configuration ≡ x.configuration
+  pub cases : y.cases.items ≡ filter (λ r. lives_on (day_of now x.configuration.registry.settings.offset) (case_of r)) x.cases.items
+  pub room : x.cases.spare ≤ y.cases.spare
+  pub logins : x.sessions.spare ≤ y.sessions.spare
+
+abbrev pub ArePurged : ℕ → List KeptTenancy → List KeptTenancy → Type 0
+ArePurged now [] [] = Unit {0}
+ArePurged now [] (y ∷ ys) = ⊥
+ArePurged now (x ∷ xs) [] = ⊥
+ArePurged now (x ∷ xs) (y ∷ ys) = IsPurged now x y × ArePurged now xs ys
 
 -- ---- where a tenant is
 
@@ -68,4 +78,4 @@ is_tenant t x = x.id == t
 -- the tenancy at this place is the tenant's
 pub record IsAt (t : ℕ) (kept : List KeptTenancy) (i : ℕ) : Type 0 where
   pub within : i < length kept
-  pub id : (d : KeptTenancy) → (slice_index_or kept i d).settings.tenant ≡ t
+  pub id : (d : KeptTenancy) → (slice_index_or kept i d).configuration.tenant ≡ t

@@ -1,20 +1,31 @@
 //! The reports of a tenant, and the days on which they expire.
-ghost use Rattle.std.specs.Prelude.{◌≡◌, ◌+◌, ◌<◌, ◌≤◌, ◌++◌, ◌∷◌, [], ℕ, true, false, not, map, IfOk, OnOk, OnErr, IfSome, IfNone, option_map};
+ghost use Rattle.std.specs.Prelude.{◌≡◌, ◌+◌, ◌<◌, ◌≤◌, ◌++◌, ◌∷◌, [], ℕ, true, false, not, length, map, filter, List, Some, IfOk, OnOk, OnErr, IfSome, OnSome, IfNone, option_map};
 ghost use Rattle.std.specs.List.{list_any};
 ghost use Rattle.std.specs.Option.{option_copied};
-ghost use Rattle.std.specs.Ordering.{nat_cmp};
+ghost use Rattle.std.specs.Ordering.{int_eq, nat_cmp};
+ghost use Rattle.wb_case.specs.Plans.{GivesPlan, IsInRange};
+ghost use Rattle.wb_custody.specs.Plans as custody;
 ghost use Rattle.wb_list.specs.Keyed.{IsAscending};
+ghost use Rattle.wb_model.specs.Access.{requests};
+ghost use Rattle.wb_model.specs.Host.{noted};
+ghost use Rattle.wb_model.specs.Legal.{is_reporter, right_actor};
 ghost use Rattle.wb_model.specs.Opened.{AtMost};
-ghost use Rattle.wb_model.specs.Tables.{report as report_by};
-ghost use Rattle.wb_tables.specs.Indexed.{AreExpired, IsTakenOut, is_begun, expiry_of};
+ghost use Rattle.wb_model.specs.Tables.{is_there, report as report_by};
+ghost use Rattle.wb_model.specs.Trails.{has_identity};
+ghost use Rattle.wb_model.specs.declared.entry.Entry.{Entry as EntryData};
+ghost use Rattle.wb_tables.specs.Indexed.{AreCustodied, AreExpired, AreFewRequests, IsTakenOut, is_begun, expiry_of, moved};
 ghost use Rattle.wb_tables.specs.Lives.{case_of, lives_on};
+ghost use Rattle.wb_tables.specs.Noted.{IsReady};
+ghost use Rattle.wb_terms.specs.Index.{same_term};
+ghost use Rattle.wb_terms.specs.declared.term_index.Term.{Term as TermData};
 
-use crate::reports::expires;
-use crate::tenancy::Case;
+use crate::noting::{Acting, Moving, Noting, expires};
+use crate::tenancy::Report;
 use std::alloc::Global;
 use std::marker::Model;
-use wb_base::{Day, Kind, Memory, Number, Tenant};
+use wb_base::{Day, Kind, Memory, Moment, Number, Tenant};
 use wb_list::Sorted;
+use wb_model::{Act, Actor, CaseFault, CustodyFault, Entry, Move};
 use wb_terms::{Term, TermIndex};
 
 /// The reports of a tenant, in the order of their numbers. Those that do not live on a day are found without a walk
@@ -22,31 +33,44 @@ use wb_terms::{Term, TermIndex};
 #[derive(Drop)]
 pub struct Cases {
     tenant: Tenant,
-    cases: Sorted<Case>,
+    cases: Sorted<Report>,
     terms: TermIndex,
 }
 
 impl Model for Cases {
     ghost use Rattle.std.specs.Prelude.{map, min};
-    ghost use Rattle.wb_tables.specs.Indexed.{Reports, IsIndexed};
+    ghost use Rattle.wb_tables.specs.Indexed.{Reports, IsIndexed, AreCustodied};
     ghost use Rattle.wb_tables.specs.Lives.{case_of};
 
     ghost Value = { Reports };
 
     ghost view = { λ c. record { tenant = c.tenant; items = c.cases.items; spare = min c.cases.spare c.terms.spare } };
 
-    ghost invariant = { λ c. IsIndexed c.tenant (map case_of c.cases.items) c.terms.items };
+    ghost invariant = { λ c. IsIndexed c.tenant (map case_of c.cases.items) c.terms.items × AreCustodied c.cases.items };
 }
 
 // The day on which a report expires, as a term.
-fn expiry(tenant: Tenant, case: &Case) -> Term
-    ensures { result ≡ expiry_of tenant (case_of case.now) }
+fn expiry(tenant: Tenant, report: &Report) -> Term
+    ensures { result ≡ expiry_of tenant (case_of report.now) }
 {
     Term {
         tenant,
-        day: expires(case.trail.as_slice()),
-        number: case.number,
+        day: expires(report),
+        number: report.number,
         kind: Kind::Expiry,
+    }
+}
+
+// Moves a term to a day, into room that was made. On another day it is not there yet.
+fn move_term(terms: &mut TermIndex, term: Term, day: Day)
+    requires room { 0 < terms.old.spare }
+    requires free { int_eq term.day day ≡ false → list_any (same_term (record term { day = day })) terms.old.items ≡ false }
+    requires there { list_any (same_term term) terms.old.items ≡ true }
+    ensures { (t : TermData) → list_any (same_term t) terms.new.items ≡ moved term (record term { day = day }) t (list_any (same_term t) terms.old.items) }
+{
+    if term.day != day {
+        terms.remove(&term);
+        terms.add(Term { day, ..term });
     }
 }
 
@@ -64,21 +88,23 @@ impl Cases {
     }
 
     /// All reports, in the order of their numbers.
-    pub fn as_slice(&self) -> &[Case]
+    pub fn as_slice(&self) -> &[Report]
         ensures all { result.now ≡ self.now.items }
-        ensures ascending { IsAscending nat_cmp (λ case. case.number) self.now.items }
+        ensures ascending { IsAscending nat_cmp (λ report. report.number) self.now.items }
+        ensures custodied { AreCustodied self.now.items }
     {
         self.cases.as_slice()
     }
 
     /// The report of a number, found by binary search.
-    pub fn find(&self, number: u32) -> Option<&Case>
-        ensures { option_map case_of (option_copied result) ≡ report_by number (map case_of self.now.items) }
+    pub fn find(&self, number: u32) -> Option<&Report>
+        ensures found { option_map case_of (option_copied result) ≡ report_by number (map case_of self.now.items) }
+        ensures custodied { IfSome result (λ report. report.now.desk.items ≡ requests report.now.case.items) }
     {
         self.cases.find(&number)
     }
 
-    /// Makes room for one more report.
+    /// Makes room for one more report, or one more entry of one.
     pub fn reserve(&mut self) -> Result<(), Memory>
         ensures tenant { self.new.tenant ≡ self.old.tenant }
         ensures items { self.new.items ≡ self.old.items }
@@ -90,17 +116,73 @@ impl Cases {
     }
 
     /// Adds a report with the greatest number, into room that was made. It takes no memory.
-    pub fn add(&mut self, case: Case)
+    pub fn add(&mut self, report: Report)
         requires room { 0 < self.old.spare }
-        requires above { (last : ℕ) × (AtMost last (map case_of self.old.items) × (last < case.number)) }
-        requires begun { is_begun (case_of case) ≡ true }
+        requires above { (last : ℕ) × (AtMost last (map case_of self.old.items) × (last < report.number)) }
+        requires begun { is_begun (case_of report) ≡ true }
+        requires custodied { report.desk.items ≡ requests report.case.items }
         ensures tenant { self.new.tenant ≡ self.old.tenant }
-        ensures items { self.new.items ≡ self.old.items ++ case ∷ [] }
+        ensures items { self.new.items ≡ self.old.items ++ report ∷ [] }
         ensures room { self.old.spare ≤ self.new.spare + 1 }
     {
-        let term = expiry(self.tenant, &case);
-        self.cases.add(case);
+        let term = expiry(self.tenant, &report);
+        self.cases.add(report);
         self.terms.add(term);
+    }
+
+    /// The entry of an act on the report of a number, with room for it there, or the first rule that refuses it.
+    pub fn act(
+        &mut self,
+        number: Number,
+        at: Moment,
+        by: Actor,
+        act: Act,
+    ) -> Result<Entry, CaseFault>
+        requires there { is_there number (map case_of self.old.items) ≡ true }
+        requires range { IsInRange act }
+        ensures tenant { self.new.tenant ≡ self.old.tenant }
+        ensures cases { map case_of self.new.items ≡ map case_of self.old.items }
+        ensures plan { (trail : List EntryData) → report_by number (map case_of self.old.items) ≡ Some (record { number = number; trail = trail }) → GivesPlan trail at by act result }
+        ensures ready { IfOk result (λ entry. right_actor entry.deed entry.by ≡ true → IsReady number entry self.new.items) }
+    {
+        self.cases.change(&number.get(), Acting { at, by, act })
+    }
+
+    /// The entry of a user's move with the requests for the identity of the report of a number, with room for it there,
+    /// or the first rule that refuses it.
+    pub fn move_requests(
+        &mut self,
+        number: Number,
+        at: Moment,
+        by: Actor,
+        move_: Move,
+    ) -> Result<Entry, CustodyFault>
+        requires there { is_there number (map case_of self.old.items) ≡ true }
+        requires few { AreFewRequests (map case_of self.old.items) }
+        requires user { is_reporter by ≡ false }
+        ensures tenant { self.new.tenant ≡ self.old.tenant }
+        ensures cases { map case_of self.new.items ≡ map case_of self.old.items }
+        ensures plan { (trail : List EntryData) → report_by number (map case_of self.old.items) ≡ Some (record { number = number; trail = trail }) → custody.GivesPlan (length trail) (has_identity trail) (requests trail) at by move_ result }
+        ensures ready { IfOk result (λ entry. IsReady number entry self.new.items) }
+    {
+        self.cases.change(&number.get(), Moving { at, by, move_ })
+    }
+
+    /// Puts an entry on the report of a number, into room that was made there and here. It takes no memory.
+    pub fn note(&mut self, number: Number, entry: Entry)
+        requires ready { IsReady number entry self.old.items }
+        requires room { 0 < self.old.spare }
+        ensures tenant { self.new.tenant ≡ self.old.tenant }
+        ensures cases { map case_of self.new.items ≡ map (noted number entry) (map case_of self.old.items) }
+    {
+        let expiry = self.cases.change(&number.get(), Noting(entry));
+        let term = Term {
+            tenant: self.tenant,
+            day: expiry.before,
+            number,
+            kind: Kind::Expiry,
+        };
+        move_term(&mut self.terms, term, expiry.after);
     }
 
     /// The numbers of the reports that do not live on this day. It takes no memory where there are none.
@@ -115,6 +197,7 @@ impl Cases {
     pub fn take_expired(&mut self, today: Day) -> Option<Number>
         ensures tenant { self.new.tenant ≡ self.old.tenant }
         ensures taken { IfSome result (λ n. IsTakenOut today n (map case_of self.old.items) (map case_of self.new.items)) }
+        ensures living { OnSome result (filter (λ r. lives_on today (case_of r)) self.new.items ≡ filter (λ r. lives_on today (case_of r)) self.old.items) }
         ensures none { IfNone result (list_any (λ c. not (lives_on today c)) (map case_of self.old.items) ≡ false) }
         ensures left { IfNone result (self.new.items ≡ self.old.items) }
         ensures kept { self.old.spare ≤ self.new.spare }

@@ -31,7 +31,7 @@ pub fn count(turns: u64, tenancies: &[Tenancy]) -> Counts
     for tenancy in tenancies {
         live += tenancy.cases.as_slice().len() as u64;
         numbers += tenancy.numbering.last as u64;
-        sessions += tenancy.sessions.as_slice().len() as u64;
+        sessions += tenancy.sessions.len() as u64;
     }
     Counts {
         turns,

@@ -40,7 +40,7 @@ fn push_tenant(batch: &mut Vec<Change>, tenancy: &Tenancy, time: Moment) -> Resu
     ensures err { OnErr result (has_dead time (plain_of tenancy.now) ≡ true) }
 {
     let numbers = dead_numbers(tenancy, time)?;
-    push_drops(batch, tenancy.settings.tenant, numbers.as_slice())
+    push_drops(batch, tenancy.configuration.tenant(), numbers.as_slice())
 }
 
 /// What a purge of all tenants drops of the kept rows. It takes no memory where all reports are live.

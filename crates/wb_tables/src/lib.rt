@@ -2,21 +2,22 @@
 #![tactic(auto)]
 
 mod cases;
+mod configuration;
 mod counts;
 mod dead;
+mod noting;
 mod purge;
-mod registry;
 mod reports;
 mod sessions;
 mod tenancy;
 mod tenants;
 
 pub use cases::Cases;
+pub use configuration::Configuration;
 pub use counts::{Counts, count};
 pub use dead::dead_batch;
 pub use purge::purge_all;
-pub use registry::{context, newest_form, user, user_named};
-pub use reports::{live_report, lives, report_of_receipt, today_at};
-pub use sessions::live_session;
-pub use tenancy::{Case, Session, Tenancy, Who};
+pub use reports::{live_report, lives, reads, report_of_receipt, today_at};
+pub use sessions::{Sessions, live_session};
+pub use tenancy::{Login, Report, Tenancy, Who};
 pub use tenants::place_at;

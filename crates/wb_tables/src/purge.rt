@@ -1,41 +1,20 @@
 //! The purge of what is not live. It takes no memory and cannot fail.
 ghost use Rattle.std.specs.Prelude.{◌≡◌, ◌≢◌, ◌≤◌, ℕ, map, filter, find, None};
 ghost use Rattle.wb_custody.specs.SealedAnswers.{answers_of};
-ghost use Rattle.wb_tables.specs.Places.{IsPlace, ArePlaces, is_tenant, gone_under, AreRoomy};
-ghost use Rattle.wb_tables.specs.Kept.{case_of, session_of, place_of, tables_of, tenancy_of, lives_on, live_place, purged_tenancy};
+ghost use Rattle.wb_tables.specs.Places.{IsPlace, ArePlaces, is_tenant, gone_under, IsPurged, ArePurged};
+ghost use Rattle.wb_tables.specs.Kept.{case_of, place_of, tables_of, tenancy_of, lives_on, live_place, purged_tenancy};
 ghost use Rattle.wb_model.specs.Host.{purged};
-ghost use Rattle.wb_model.specs.Tables.{lasts as lasts_at};
 
 use crate::cases::Cases;
 use crate::reports::today_at;
-use crate::sessions::lasts;
-use crate::tenancy::{Session, Tenancy};
+use crate::tenancy::Tenancy;
 use wb_base::{Day, Moment, Tenant};
 use wb_custody::SealedTable;
-use wb_list::{ItemTest, Sorted};
-
-/// A session that does not last at this time, where these reports are there.
-#[derive(Drop)]
-struct Ended<'a> {
-    time: Moment,
-    cases: &'a Cases,
-}
-
-impl ItemTest<Session> for Ended<'_> {
-    ghost use Rattle.std.specs.Prelude.{not, map};
-    ghost use Rattle.wb_model.specs.Tables.{lasts};
-    ghost use Rattle.wb_tables.specs.Kept.{case_of, session_of};
-
-    ghost passes = { λ ended session. not (lasts ended.time (map case_of ended.cases.now.items) (session_of session)) };
-
-    fn passes(&self, session: &Session) -> bool {
-        !lasts(session, self.cases, self.time)
-    }
-}
 
 // Drops the reports that are not live, and their identity answers. Each is found by the index of expiry days.
 fn drop_dead(cases: &mut Cases, sealed: &mut SealedTable, tenant: Tenant, today: Day)
     ensures cases { map case_of cases.new.items ≡ filter (lives_on today) (map case_of cases.old.items) }
+    ensures reports { cases.new.items ≡ filter (λ r. lives_on today (case_of r)) cases.old.items }
     ensures here { (n : ℕ) → answers_of sealed.new.items tenant n ≡ gone_under n today (map case_of cases.old.items) (answers_of sealed.old.items tenant n) }
     ensures others { (t n : ℕ) → t ≢ tenant → answers_of sealed.new.items t n ≡ answers_of sealed.old.items t n }
     ensures room { cases.old.spare ≤ cases.new.spare }
@@ -46,25 +25,19 @@ fn drop_dead(cases: &mut Cases, sealed: &mut SealedTable, tenant: Tenant, today:
     }
 }
 
-// Drops the sessions that do not last.
-fn drop_ended(sessions: &mut Sorted<Session>, cases: &Cases, time: Moment)
-    ensures { map session_of sessions.new.items ≡ filter (lasts_at time (map case_of cases.now.items)) (map session_of sessions.old.items) }
-{
-    sessions.drop_passing(&Ended { time, cases });
-}
-
 /// Purges a tenant.
 pub fn purge(tenancy: &mut Tenancy, sealed: &mut SealedTable, time: Moment)
     requires { (turns : ℕ) × IsPlace turns sealed.old.items (place_of tenancy.old) }
     ensures place { place_of tenancy.new ≡ live_place time (place_of tenancy.old) }
     ensures here { (n : ℕ) → answers_of sealed.new.items (place_of tenancy.old).id n ≡ (purged time (tables_of sealed.old.items (place_of tenancy.old))).sealed n }
     ensures others { (t n : ℕ) → t ≢ (place_of tenancy.old).id → answers_of sealed.new.items t n ≡ answers_of sealed.old.items t n }
-    ensures room { tenancy.old.cases.spare ≤ tenancy.new.cases.spare }
+    ensures kept { IsPurged time tenancy.old tenancy.new }
     ensures sealed_room { sealed.old.spare ≤ sealed.new.spare }
 {
     let today = today_at(tenancy, time);
-    drop_dead(&mut tenancy.cases, sealed, tenancy.settings.tenant, today);
-    drop_ended(&mut tenancy.sessions, &tenancy.cases, time);
+    let tenant = tenancy.configuration.tenant();
+    drop_dead(&mut tenancy.cases, sealed, tenant, today);
+    tenancy.sessions.drop_ended(&tenancy.cases, time);
 }
 
 // Purges these tenants.
@@ -73,7 +46,7 @@ fn purge_each(tenancies: &mut [Tenancy], sealed: &mut SealedTable, time: Moment)
     ensures places { map place_of tenancies.new ≡ map (live_place time) (map place_of tenancies.old) }
     ensures hosts { map (tenancy_of sealed.new.items) (map place_of tenancies.new) ≡ map (purged_tenancy time) (map (tenancy_of sealed.old.items) (map place_of tenancies.old)) }
     ensures others { (t n : ℕ) → find (is_tenant t) (map place_of tenancies.old) ≡ None → answers_of sealed.new.items t n ≡ answers_of sealed.old.items t n }
-    ensures room { AreRoomy tenancies.old tenancies.new }
+    ensures kept { ArePurged time tenancies.old tenancies.new }
     ensures sealed_room { sealed.old.spare ≤ sealed.new.spare }
 {
     match tenancies.split_first_mut() {
@@ -91,9 +64,9 @@ pub fn purge_all(tenancies: &mut [Tenancy], sealed: &mut SealedTable, time: Mome
     requires { (turns : ℕ) × ((k : ℕ) × ArePlaces turns k sealed.old.items (map place_of tenancies.old)) }
     ensures places { map place_of tenancies.new ≡ map (live_place time) (map place_of tenancies.old) }
     ensures hosts { map (tenancy_of sealed.new.items) (map place_of tenancies.new) ≡ map (purged_tenancy time) (map (tenancy_of sealed.old.items) (map place_of tenancies.old)) }
-    ensures kept { (turns k : ℕ) → ArePlaces turns k sealed.old.items (map place_of tenancies.old) → ArePlaces turns k sealed.new.items (map place_of tenancies.new) }
+    ensures places_kept { (turns k : ℕ) → ArePlaces turns k sealed.old.items (map place_of tenancies.old) → ArePlaces turns k sealed.new.items (map place_of tenancies.new) }
     ensures others { (t n : ℕ) → find (is_tenant t) (map place_of tenancies.old) ≡ None → answers_of sealed.new.items t n ≡ answers_of sealed.old.items t n }
-    ensures room { AreRoomy tenancies.old tenancies.new }
+    ensures kept { ArePurged time tenancies.old tenancies.new }
     ensures sealed_room { sealed.old.spare ≤ sealed.new.spare }
 {
     purge_each(tenancies, sealed, time);

@@ -10,7 +10,7 @@ pub fn place_at(tenancies: &[Tenancy], t: u32) -> Option<usize>
     ensures { MatchOption result (find (is_tenant t) (map place_of tenancies.now) ≡ None) (λ i. IsAt t tenancies.now i) }
 {
     for (at, tenancy) in tenancies.iter().enumerate() {
-        if tenancy.settings.tenant.id() == t {
+        if tenancy.configuration.tenant().id() == t {
             return Some(at);
         }
     }

@@ -5,5 +5,4 @@ pub mod Members
 pub mod NoFloats
 pub mod PlainLists
 pub mod PlainTenants
-pub mod RequestLists
 pub mod SortedDues

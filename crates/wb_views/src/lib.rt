@@ -3,12 +3,9 @@
 
 mod admin;
 mod asked;
-mod bare;
-mod facts;
 mod lists;
 mod names;
 mod parts;
-mod readers;
 mod recipient;
 mod refusals;
 mod remarks;
@@ -18,11 +15,9 @@ mod short;
 mod submission;
 mod submitted;
 mod tenant;
-mod walked;
 
 pub use admin::admin_view;
 pub use asked::push_custodied;
-pub use bare::trail_view;
 pub use lists::{custody_view, due_view, list_view};
 pub use names::{role_name, state_name, status_name};
 pub use recipient::recipient_view;

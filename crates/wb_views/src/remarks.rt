@@ -39,8 +39,8 @@ fn some_user(actor: Actor) -> Option<UserId>
     }
 }
 
-/// The remark that an entry is. The notice of a grant is one only where it was not withheld.
-pub(crate) fn remark_of(entry: &Entry) -> Option<Remark<'_>>
+// The remark that an entry is. The notice of a grant is one only where it was not withheld.
+fn remark_of(entry: &Entry) -> Option<Remark<'_>>
     ensures { option_map remark_seen result ≡ trails.remark_of entry.now }
 {
     let (from, kind, text, internal) = match &entry.deed {

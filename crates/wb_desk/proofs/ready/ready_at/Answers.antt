@@ -2,8 +2,8 @@ use Rattle.wb_tables.proofs.PlacesAt.{place_at}
 use Rattle.wb_desk.proofs.Tenants.{set_same}
 use Rattle.wb_desk.proofs.ready.ready_at.Goals as goal
 
-pub ready_of-requires-clause-place : goal.ready_of-requires-clause-place
-ready_of-requires-clause-place c = (c.requires.places.0, place_at c.requires.places.0 0 c.args.place c.args.sealed.now.items c.args.tenancies.now c.index-tenancies-place.result c.requires.places.1 c.requires.within)
+pub plan_turn-requires-clause-place : goal.plan_turn-requires-clause-place
+plan_turn-requires-clause-place c = (place_at c.requires.places.0 0 c.args.place c.args.sealed.now.items c.args.tenancies.now c.index-tenancies-place.result c.requires.places.1 c.requires.within).plain
 
 pub returns-clause-tenants_left : goal.returns-clause-tenants_left
-returns-clause-tenants_left c = set_same c.args.place c.args.tenancies.now c.ready_of.new.tenancy c.index-tenancies-place.result c.requires.within c.ready_of.ensures.tenancy_left
+returns-clause-tenants_left c = set_same c.args.place c.args.tenancies.now c.plan_turn.new.tenancy c.index-tenancies-place.result c.requires.within c.plan_turn.ensures.place

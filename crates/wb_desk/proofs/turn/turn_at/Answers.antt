@@ -4,11 +4,10 @@ use Rattle.wb_base.specs.KeptRows.{all_changed, IsGoodChange}
 use Rattle.wb_model.specs.Commands.{tenant_of}
 use Rattle.wb_model.specs.Rows.{rows_of}
 use Rattle.wb_tables.specs.Kept.{place_of, tenancy_of}
-use Rattle.wb_desk.specs.Ready.{plan_of, planned_of}
 use Rattle.wb_desk.proofs.KeptTurns.{keeps_at, lost_turn, names_none, pick}
 use Rattle.wb_desk.proofs.Tenants.{tenant_there}
 use Rattle.wb_desk.proofs.TurnRows.{batch_same, rows_at}
-use Rattle.wb_desk.proofs.Whole.{IsPurge, purge_of, places_left, turn_over, some_more, room_left, length_same, own_at}
+use Rattle.wb_desk.proofs.Whole.{IsPurge, purge_of, places_left, turn_over, room_left, length_same, own_at}
 use Rattle.wb_desk.proofs.turn.turn_at.Goals as goal
 
 pub returns-in_default-clause-turn : goal.returns-in_default-clause-turn
@@ -27,28 +26,26 @@ pub returns-in-Err-clause-turn : goal.returns-in-Err-clause-turn
 returns-in-Err-clause-turn g c =
     lost_turn (map place_of c.args.tenancies.now) c.args.sealed.now.items (map place_of c.prepare_at.new.tenancies) c.prepare_at.new.sealed.items c.args.at.now c.args.asked.now c.in-Err.lost (record { places = c.prepare_at.ensures.tenants_left; sealed = c.prepare_at.ensures.sealed_left })
     (pick c.args.tenancies.now c.args.place c.requires.place.within (λ d.
-    keeps_at (tenant_of c.args.asked.now.command) c.args.place c.args.at.now c.args.asked.now c.args.sealed.now.items c.args.tenancies.now d (plan_of c.in-Ok.batched.ready) c.in-Ok.batched.batch.items c.requires.places c.requires.place refl (c.in-Ok.ensures.plan d)
-    (batch_same c.args.at.now.time c.args.place c.args.tenancies.now c.prepare_at.new.tenancies d (planned_of c.in-Ok.batched.ready.opened) c.in-Ok.batched.batch.items c.prepare_at.ensures.tenants_left (c.in-Ok.ensures.batch d))
+    keeps_at (tenant_of c.args.asked.now.command) c.args.place c.args.at.now c.args.asked.now c.args.sealed.now.items c.args.tenancies.now d c.in-Ok.batched.plan c.in-Ok.batched.batch.items c.requires.places c.requires.place refl (c.in-Ok.ensures.plan d)
+    (batch_same c.args.at.now.time c.args.place c.args.tenancies.now c.prepare_at.new.tenancies d c.in-Ok.batched.plan.change c.in-Ok.batched.batch.items c.prepare_at.ensures.tenants_left (c.in-Ok.ensures.batch d))
     (subst (λ l. l ≢ []) c.as_slice.ensures.value c.in-Err.ensures.asked)))
 
 pub make_at-requires-clause-room : goal.make_at-requires-clause-room
 make_at-requires-clause-room g c =
     let within : c.args.place < length c.prepare_at.new.tenancies = length_same c.args.place c.args.tenancies.now c.prepare_at.new.tenancies c.prepare_at.ensures.tenants_left c.requires.place.within in
-    some_more c.in-Ok.batched.ready.opened
-    (λ o h. room_left c.args.at.now.time c.args.place c.prepare_at.new.sealed.spare c.purge_all.new.sealed.spare c.prepare_at.new.tenancies c.purge_all.new.tenancies o c.purge_all.ensures.room c.purge_all.ensures.places within c.purge_all.ensures.sealed_room h)
-    c.in-Ok.ensures.room
+    room_left c.args.at.now.time c.args.place c.prepare_at.new.sealed.spare c.purge_all.new.sealed.spare c.prepare_at.new.tenancies c.purge_all.new.tenancies c.in-Ok.batched.plan.change c.purge_all.ensures.kept c.purge_all.ensures.places within c.purge_all.ensures.sealed_room c.in-Ok.ensures.room
 
 pub make_at-requires-clause-own : goal.make_at-requires-clause-own
 make_at-requires-clause-own g c = λ d.
     let purge : IsPurge c.args.at.now.time (map place_of c.args.tenancies.now) c.args.sealed.now.items (map place_of c.purge_all.new.tenancies) c.purge_all.new.sealed.items = (purge_of c.args.at.now.time (map place_of c.args.tenancies.now) (map place_of c.prepare_at.new.tenancies) (map place_of c.purge_all.new.tenancies) c.args.sealed.now.items c.prepare_at.new.sealed.items c.purge_all.new.sealed.items
     (sym c.prepare_at.ensures.tenants_left) (sym c.prepare_at.ensures.sealed_left) c.purge_all.ensures.places c.purge_all.ensures.hosts) in
-    own_at c.args.place c.args.at.now c.args.asked.now c.in-Ok.batched.ready c.args.sealed.now.items c.args.tenancies.now c.purge_all.new.tenancies d purge.places c.requires.place.within (c.in-Ok.ensures.plan d)
+    own_at c.args.place c.args.at.now c.args.asked.now c.in-Ok.batched.plan c.args.sealed.now.items c.args.tenancies.now c.purge_all.new.tenancies d purge.places c.requires.place.within (c.in-Ok.ensures.plan d)
 
 pub returns-clause-turn : goal.returns-clause-turn
 returns-clause-turn g c =
     let purge : IsPurge c.args.at.now.time (map place_of c.args.tenancies.now) c.args.sealed.now.items (map place_of c.purge_all.new.tenancies) c.purge_all.new.sealed.items = (purge_of c.args.at.now.time (map place_of c.args.tenancies.now) (map place_of c.prepare_at.new.tenancies) (map place_of c.purge_all.new.tenancies) c.args.sealed.now.items c.prepare_at.new.sealed.items c.purge_all.new.sealed.items
     (sym c.prepare_at.ensures.tenants_left) (sym c.prepare_at.ensures.sealed_left) c.purge_all.ensures.places c.purge_all.ensures.hosts) in
-    turn_over (tenant_of c.args.asked.now.command) c.args.place c.args.at.now c.args.asked.now c.in-Ok.batched.ready c.args.sealed.now.items c.purge_all.new.sealed.items c.make_at.new.sealed.items c.args.tenancies.now c.purge_all.new.tenancies c.make_at.new.tenancies
+    turn_over (tenant_of c.args.asked.now.command) c.args.place c.args.at.now c.args.asked.now c.in-Ok.batched.plan c.args.sealed.now.items c.purge_all.new.sealed.items c.make_at.new.sealed.items c.args.tenancies.now c.purge_all.new.tenancies c.make_at.new.tenancies
     c.requires.places c.requires.place refl c.in-Ok.ensures.plan purge c.make_at.ensures.made
     (c.make_at.ensures.places c.args.at.now.turn (places_left c.args.at.now.turn c.args.at.now.time (map place_of c.args.tenancies.now) c.args.sealed.now.items (map place_of c.purge_all.new.tenancies) c.purge_all.new.sealed.items c.requires.places purge)) c.make_at.ensures.sessions
 
@@ -58,7 +55,7 @@ returns-clause-kept g c = λ h held.
     (sym c.prepare_at.ensures.tenants_left) (sym c.prepare_at.ensures.sealed_left) c.purge_all.ensures.places c.purge_all.ensures.hosts) in
     subst (g.K.Keeper.holds c.keep.new.keeper)
     (ap (all_changed (rows_of (map (tenancy_of c.args.sealed.now.items) (map place_of c.args.tenancies.now)))) c.as_slice.ensures.value
-    ∙ rows_at c.args.at.now.turn c.args.at.now.time c.args.place c.args.sealed.now.items c.purge_all.new.sealed.items c.make_at.new.sealed.items c.args.tenancies.now c.purge_all.new.tenancies c.make_at.new.tenancies (planned_of c.in-Ok.batched.ready.opened) c.in-Ok.batched.batch.items c.requires.places c.requires.place.within
-    (λ d. batch_same c.args.at.now.time c.args.place c.args.tenancies.now c.prepare_at.new.tenancies d (planned_of c.in-Ok.batched.ready.opened) c.in-Ok.batched.batch.items c.prepare_at.ensures.tenants_left (c.in-Ok.ensures.batch d))
+    ∙ rows_at c.args.at.now.turn c.args.at.now.time c.args.place c.args.sealed.now.items c.purge_all.new.sealed.items c.make_at.new.sealed.items c.args.tenancies.now c.purge_all.new.tenancies c.make_at.new.tenancies c.in-Ok.batched.plan.change c.in-Ok.batched.batch.items c.requires.places c.requires.place.within
+    (λ d. batch_same c.args.at.now.time c.args.place c.args.tenancies.now c.prepare_at.new.tenancies d c.in-Ok.batched.plan.change c.in-Ok.batched.batch.items c.prepare_at.ensures.tenants_left (c.in-Ok.ensures.batch d))
     purge c.make_at.ensures.made)
     (c.in-Ok-keep.ensures.ok h (rows_of (map (tenancy_of c.args.sealed.now.items) (map place_of c.args.tenancies.now))) held)

@@ -1,18 +1,19 @@
 use Rattle.std.proofs.Common.{sym, ap, ◌∙◌}
 use Rattle.std.specs.Option.{option_map}
+use Rattle.std.proofs.lemmas.Result.{IfOk-weaker}
 use Rattle.wb_model.specs.Requests.{submission_fault, public, secret, mark}
 use Rattle.wb_plan.specs.Plans.{at_of}
 use Rattle.wb_plan.specs.Targeted.{told_of}
 use Rattle.wb_tables.specs.Kept.{plain_of, live_plain}
 use Rattle.wb_plan.proofs.Results.{ok_both}
-use Rattle.wb_plan.proofs.Submissions.{sound_context, hindered, refused_plan, begun}
+use Rattle.wb_plan.proofs.Submissions.{sound_context, hindered, refused_plan, begun, fit_begun, asks_none, number_left}
 use Rattle.wb_plan.proofs.submission.draw_number.Goals as goal
 
 pub begin-requires-clause-low : goal.begin-requires-clause-low
-begin-requires-clause-low c = (sound_context c.requires.asking.0 c.args.asking.now.context.now c.args.tenancy.now.contexts c.requires.asking.1.context c.requires.place.registry.sound.contexts).0
+begin-requires-clause-low c = (sound_context c.requires.asking.0 c.args.asking.now.context.now c.args.tenancy.now.configuration.registry.contexts c.requires.asking.1.context c.requires.place.registry.sound.contexts).0
 
 pub begin-requires-clause-high : goal.begin-requires-clause-high
-begin-requires-clause-high c = (sound_context c.requires.asking.0 c.args.asking.now.context.now c.args.tenancy.now.contexts c.requires.asking.1.context c.requires.place.registry.sound.contexts).1
+begin-requires-clause-high c = (sound_context c.requires.asking.0 c.args.asking.now.context.now c.args.tenancy.now.configuration.registry.contexts c.requires.asking.1.context c.requires.place.registry.sound.contexts).1
 
 pub returns-in-Some-clause-plan : goal.returns-in-Some-clause-plan
 unfolding submission_fault
@@ -31,3 +32,6 @@ returns-in-None-clause-plan c =
     ok_both c.begin.result
     (λ plan told change id answers a s. begun p (at_of c.args.at.now) id answers c.args.asking.now.context.now c.args.asking.now.item.now c.args.split.public c.args.split.sealed c.args.split.mark a s.valid free s.public s.sealed s.mark plan told change)
     c.begin.ensures.told c.begin.ensures.change
+
+pub returns-in-None-clause-fit : goal.returns-in-None-clause-fit
+returns-in-None-clause-fit c = IfOk-weaker c.begin.result _ _ (λ plan begun. fit_begun c.args.tenancy.now plan.change _ _ (number_left c.args.tenancy.now.configuration.registry.settings.quota _ (sym c.hindrance.ensures ∙ ap (option_map told_of) c.in-None.is)) (asks_none _ _ _ _ _) begun) c.begin.ensures.change

@@ -7,7 +7,7 @@ use Rattle.wb_plan.proofs.Submissions.{newest_good, faulted, refused_plan}
 use Rattle.wb_plan.proofs.submission.submit.Goals as goal
 
 pub check-requires : goal.check-requires
-check-requires c = newest_good c.in-Some.asking.context.now.form c.in-Some.asking.item.now c.args.tenancy.now.forms c.in-Some.ensures.form c.requires.place.registry.forms
+check-requires c = newest_good c.in-Some.asking.context.now.form c.in-Some.asking.item.now c.args.tenancy.now.configuration.registry.forms c.in-Some.ensures.form c.requires.place.registry.forms
 
 pub returns-in-Ok-clause-plan : goal.returns-in-Ok-clause-plan
 returns-in-Ok-clause-plan c =

@@ -13,6 +13,6 @@ loop-tenancy-preserved c =
     let split : drop loop.tenancy-index ks ≡ x ∷ rest = rw add-one (drop-cons ks loop.tenancy-index x within ∙ ap (λ y. y ∷ drop (suc loop.tenancy-index) ks) (sym c.tenancy-item.is)) in
     let small : x.numbering.last < 4_294_967_296 = omega arith in
     let before : IsCounted (map place_of ks) (place_of x ∷ map place_of rest) loop.live loop.numbers loop.sessions = subst (λ left. IsCounted (map place_of ks) (map place_of left) loop.live loop.numbers loop.sessions) split loop.invariant in
-    subst (λ n. IsCounted (map place_of ks) (map place_of rest) (loop.live + n) (loop.numbers + x.numbering.last) (loop.sessions + length c.as_slice-in-loop-tenancy.result.now)) (sym (ap length c.as_slice.ensures.all))
-    (subst (λ n. IsCounted (map place_of ks) (map place_of rest) (loop.live + length x.cases.items) (loop.numbers + x.numbering.last) (loop.sessions + n)) (sym (ap length c.as_slice-in-loop-tenancy.ensures.all))
+    subst (λ n. IsCounted (map place_of ks) (map place_of rest) (loop.live + n) (loop.numbers + x.numbering.last) (loop.sessions + c.len.result)) (sym (ap length c.as_slice.ensures.all))
+    (subst (λ n. IsCounted (map place_of ks) (map place_of rest) (loop.live + length x.cases.items) (loop.numbers + x.numbering.last) (loop.sessions + n)) (sym c.len.ensures)
     (counted_next (map place_of ks) x (map place_of rest) loop.live loop.numbers loop.sessions c.as_slice.ensures.ascending small before))

@@ -4,7 +4,7 @@ use Rattle.wb_tables.proofs.Purges.{rest_places, all_purged}
 use Rattle.wb_tables.proofs.purge.+purge_each.Goals as goal
 
 pub purge_each-requires : goal.purge_each-requires
-purge_each-requires t c = (search rules, (c.requires.0, (c.in-Some.tenancy.now.settings.tenant, rest_places c.requires.0 c.requires.1.0 c.args.sealed.now.items c.purge.new.sealed.items c.args.tenancies.now c.in-Some.tenancy.now c.in-Some.rest.now c.in-Some.ensures.cases.0 c.requires.1.1 c.purge.ensures.others)))
+purge_each-requires t c = (search rules, (c.requires.0, (c.in-Some.tenancy.now.configuration.tenant, rest_places c.requires.0 c.requires.1.0 c.args.sealed.now.items c.purge.new.sealed.items c.args.tenancies.now c.in-Some.tenancy.now c.in-Some.rest.now c.in-Some.ensures.cases.0 c.requires.1.1 c.purge.ensures.others)))
 
 pub returns-in-Some-clause-hosts : goal.returns-in-Some-clause-hosts
 returns-in-Some-clause-hosts t c =

@@ -7,4 +7,4 @@ use Rattle.wb_tables.proofs.sessions.is_kept.Goals as goal
 pub returns : goal.returns
 returns c =
     let cs = map case_of c.args.cases.now.items in
-    c.is_some.ensures ∙ (there_found c.get.result cs c.find.result c.find.ensures ∙ ap (λ n. is_there n cs) c.get.ensures.value)
+    c.is_some.ensures ∙ (there_found c.get.result cs c.find.result c.find.ensures.found ∙ ap (λ n. is_there n cs) c.get.ensures.value)

@@ -1,6 +1,0 @@
-use Rattle.std.proofs.Common.{◌≡◌, ◌==◌, drop}
-use Rattle.std.specs.List.{list_any}
-use Rattle.wb_plan.proofs.readers.has.Given as goal
-
-abbrev pub invariant-loop-reader : goal.invariant-loop-reader
-invariant-loop-reader l = list_any (λ x. x == l.user) (drop l.reader-index l.readers) ≡ list_any (λ x. x == l.user) l.readers

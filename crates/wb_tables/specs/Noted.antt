@@ -1,0 +1,53 @@
+-- What is planned and done on a report in its place in the table.
+use Rattle.std.specs.Prelude.{◌≡◌, ◌<◌, ◌≤◌, ◌++◌, ◌∷◌, [], ℕ, ℤ, true, List, length, find, Some, Result, IfOk, OnOk}
+use Rattle.std.specs.Ordering.{nat_cmp}
+use Rattle.wb_list.specs.Keyed.{has_key}
+use Rattle.wb_case.specs.Plans.{GivesPlan}
+use Rattle.wb_case.specs.Summaries.{needed_by}
+use Rattle.wb_custody.specs.Desks.{HasRoom}
+use Rattle.wb_custody.specs.Plans as custody
+use Rattle.wb_model.specs.declared.act.Act.{Act}
+use Rattle.wb_model.specs.declared.act.CaseFault.{CaseFault}
+use Rattle.wb_model.specs.declared.act.CustodyFault.{CustodyFault}
+use Rattle.wb_model.specs.declared.act.Move.{Move}
+use Rattle.wb_model.specs.declared.entry.Actor.{Actor}
+use Rattle.wb_model.specs.declared.entry.Entry.{Entry}
+use Rattle.wb_model.specs.Access.{requests}
+use Rattle.wb_model.specs.Legal.{right_actor}
+use Rattle.wb_model.specs.Trails.{has_identity, expires}
+use Rattle.wb_tables.specs.declared.tenancy.Report.{Report}
+
+-- there is room on a report for an entry, which is by whom it may be
+pub record IsRoomy (e : Entry) (r : Report) : Type 0 where
+  pub room : 0 < r.case.spare
+  pub few : needed_by e.deed ≤ 32
+  pub desk : HasRoom r.desk e.deed
+  pub actor : right_actor e.deed e.by ≡ true
+
+-- the report of a number is there, with room for an entry
+pub record IsReady (n : ℕ) (e : Entry) (reports : List Report) : Type 0 where
+  pub report : Report
+  pub found : find (has_key nat_cmp (λ (r : Report). r.number) n) reports ≡ Some report
+  pub roomy : IsRoomy e report
+
+-- an act was planned: the report is as it was, but for its room
+pub record IsActed (at : ℕ) (by : Actor) (act : Act) (old new : Report) (answer : Result Entry CaseFault) : Type 0 where
+  pub items : new.case.items ≡ old.case.items
+  pub desk : new.desk ≡ old.desk
+  pub plan : GivesPlan old.case.items at by act answer
+  pub room : OnOk answer (0 < new.case.spare)
+  pub few : IfOk answer (λ e. needed_by e.deed ≤ 32)
+
+-- a move was planned
+pub record IsMoved (at : ℕ) (by : Actor) (move : Move) (old new : Report) (answer : Result Entry CustodyFault) : Type 0 where
+  pub items : new.case.items ≡ old.case.items
+  pub requests : new.desk.items ≡ old.desk.items
+  pub plan : custody.GivesPlan (length old.case.items) (has_identity old.case.items) old.desk.items at by move answer
+  pub roomy : IfOk answer (λ e. IsRoomy e new)
+
+-- an entry was noted, before which the report expired on one day and after which on another
+pub record IsNoted (e : Entry) (old new : Report) (before after : ℤ) : Type 0 where
+  pub items : new.case.items ≡ old.case.items ++ e ∷ []
+  pub requests : (before : List Entry) → old.desk.items ≡ requests before → new.desk.items ≡ requests (before ++ e ∷ [])
+  pub before_is : before ≡ expires old.case.items
+  pub after_is : after ≡ expires new.case.items

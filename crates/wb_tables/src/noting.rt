@@ -1,0 +1,104 @@
+//! What is planned and done on a report in its place in the table.
+ghost use Rattle.std.specs.Prelude.{◌≡◌};
+ghost use Rattle.wb_model.specs.Trails.{expires as expires_by};
+
+use crate::tenancy::Report;
+use wb_base::{Day, Moment};
+use wb_list::ItemChange;
+use wb_model::{Act, Actor, CaseFault, CustodyFault, Entry, Move};
+
+/// An act that is planned.
+#[derive(Drop)]
+pub(crate) struct Acting {
+    pub(crate) at: Moment,
+    pub(crate) by: Actor,
+    pub(crate) act: Act,
+}
+
+impl ItemChange<Report> for Acting {
+    type Answer = Result<Entry, CaseFault>;
+
+    ghost use Rattle.wb_case.specs.Plans.{IsInRange};
+    ghost use Rattle.wb_tables.specs.Noted.{IsActed};
+
+    ghost asks = { λ acting report. IsInRange acting.act };
+
+    ghost makes = { λ acting old new answer. IsActed acting.at acting.by acting.act old new answer };
+
+    fn change(self, report: &mut Report) -> Result<Entry, CaseFault> {
+        report.case.plan(self.at, self.by, self.act)
+    }
+}
+
+/// A move with the requests for a report's identity that is planned.
+#[derive(Drop)]
+pub(crate) struct Moving {
+    pub(crate) at: Moment,
+    pub(crate) by: Actor,
+    pub(crate) move_: Move,
+}
+
+impl ItemChange<Report> for Moving {
+    type Answer = Result<Entry, CustodyFault>;
+
+    ghost use Rattle.std.specs.Prelude.{◌≡◌, ◌≤◌, length, false};
+    ghost use Rattle.wb_model.specs.Legal.{is_reporter};
+    ghost use Rattle.wb_tables.specs.Noted.{IsMoved};
+
+    ghost asks = { λ moving report. (length report.desk.items ≤ 100) × (is_reporter moving.by ≡ false) };
+
+    ghost makes = { λ moving old new answer. IsMoved moving.at moving.by moving.move_ old new answer };
+
+    fn change(self, report: &mut Report) -> Result<Entry, CustodyFault> {
+        let entries = report.case.trail().len();
+        let mark = report.case.summary().has_identity;
+        match report
+            .desk
+            .plan(entries, mark, self.at, self.by, self.move_)
+        {
+            Ok(entry) => match report.case.reserve() {
+                Ok(()) => Ok(entry),
+                Err(_) => Err(CustodyFault::Memory),
+            },
+            Err(fault) => Err(fault),
+        }
+    }
+}
+
+/// One more entry.
+#[derive(Drop)]
+pub(crate) struct Noting(pub(crate) Entry);
+
+/// The days on which a report expired before an entry, and expires after it.
+#[derive(Clone, Copy)]
+pub(crate) struct Expiries {
+    pub(crate) before: Day,
+    pub(crate) after: Day,
+}
+
+// The day on which a report expires.
+pub(crate) fn expires(report: &Report) -> Day
+    ensures { result ≡ expires_by report.now.case.items }
+{
+    report.case.summary().expires
+}
+
+impl ItemChange<Report> for Noting {
+    type Answer = Expiries;
+
+    ghost use Rattle.wb_tables.specs.Noted.{IsRoomy, IsNoted};
+
+    ghost asks = { λ noting report. IsRoomy noting.0 report };
+
+    ghost makes = { λ noting old new answer. IsNoted noting.0 old new answer.before answer.after };
+
+    fn change(self, report: &mut Report) -> Expiries {
+        let before = expires(report);
+        report.desk.take(&self.0);
+        report.case.take(self.0);
+        Expiries {
+            before,
+            after: expires(report),
+        }
+    }
+}

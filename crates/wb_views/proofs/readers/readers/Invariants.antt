@@ -1,6 +1,0 @@
-use Rattle.std.proofs.Common.{◌≡◌, take}
-use Rattle.wb_model.specs.Trails as trails
-use Rattle.wb_views.proofs.readers.readers.Given as goal
-
-abbrev pub invariant-loop-entry : goal.invariant-loop-entry
-invariant-loop-entry l = l.found.items ≡ trails.readers (take l.entry-index l.trail)
