@@ -19,8 +19,6 @@ mod request_bodies;
 #[cfg(test)]
 mod requests;
 #[cfg(test)]
-mod shown_reports;
-#[cfg(test)]
 mod starter_host;
 #[cfg(test)]
 mod written;

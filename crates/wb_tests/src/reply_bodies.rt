@@ -1,8 +1,20 @@
 //! The bodies of refusals, and of a submission's reply.
-use crate::shown_reports::{NEW_YEAR, day, text};
+use std::alloc::Global;
 use std::str;
 use std::test::Fail;
+use wb_base::{Day, Text};
 use wb_views::{Detail, refusal, submission_view};
+
+/// 2025-01-01.
+const NEW_YEAR: i32 = 20_089;
+
+fn day(days: i32) -> Result<Day, Fail> {
+    Ok(Day::try_new(days).ok_or("a day")?)
+}
+
+fn text(alloc: Global, text: &str) -> Result<Text, Fail> {
+    Ok(Text::from_str(alloc, text)?)
+}
 
 #[test]
 fn refusals_say_what_is_refused(rt: HostRuntime) -> Result<(), Fail> {
