@@ -1,4 +1,3 @@
-pub mod Entries
 pub mod Gives
 pub mod Items
 pub mod Members

@@ -4,7 +4,7 @@ ghost use Rattle.serde_json.specs.Find.{as_str};
 ghost use Rattle.serde_json.specs.View.{view, items_view, members_view};
 ghost use Rattle.wb_base.specs.FormShape.{all_of};
 ghost use Rattle.wb_model.specs.Bodies.{under, answer, file as file_of, entries as entries_of, answers as answers_of, with_entry};
-ghost use Rattle.wb_kinds.specs.Entries.{AreBelow};
+ghost use Rattle.wb_bodies.specs.Entries.{AreBelow};
 ghost use Rattle.wb_kinds.specs.Gives.{Gives};
 
 use crate::row_no::RowNo;

@@ -40,8 +40,8 @@ fn ascend(users: &[UserId]) -> bool
     }
 }
 
-/// Whether there are 1 to 32 users, which ascend.
-pub fn are_readers(users: &[UserId]) -> bool
+// Whether there are 1 to 32 users, which ascend.
+fn are_readers(users: &[UserId]) -> bool
     ensures { result ≡ readers_test users.now }
 {
     1 <= users.len() && users.len() <= 32 && ascend(users)

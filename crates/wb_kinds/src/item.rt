@@ -1,9 +1,7 @@
 //! What a kept row stands for.
 
-use std::cmp::Ordering;
 use wb_base::{Number, Tenant};
 use wb_custody::SealedItem;
-use wb_list::Keyed;
 use wb_model::{ContextItem, Entry, FormItem, Numbering, TenantItem, UserItem};
 
 /// The numbering of a tenant.
@@ -11,20 +9,6 @@ use wb_model::{ContextItem, Entry, FormItem, Numbering, TenantItem, UserItem};
 pub struct NumberingItem {
     pub tenant: Tenant,
     pub numbering: Numbering,
-}
-
-impl Keyed for NumberingItem {
-    type Key = Tenant;
-
-    ghost key_of = { λ item. item.tenant };
-
-    fn compare(&self, key: &Tenant) -> Ordering {
-        self.tenant.cmp(key)
-    }
-
-    fn compare_to(&self, other: &NumberingItem) -> Ordering {
-        self.tenant.cmp(&other.tenant)
-    }
 }
 
 /// An entry of a report's trail.

@@ -16,7 +16,6 @@ mod rows;
 mod settings;
 mod users;
 
-pub use contexts::are_readers;
 pub use item::{EntryItem, Item, NumberingItem};
 pub use reading::{item_row, read_item};
 pub use rows::{entry_row, numbering_row, sealed_row};

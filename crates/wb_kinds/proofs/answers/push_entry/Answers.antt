@@ -1,5 +1,5 @@
 use Rattle.std.proofs.Common.{◌∙◌}
-use Rattle.wb_kinds.proofs.EntryLemmas.{absent, insert_last}
+use Rattle.wb_bodies.proofs.EntryLemmas.{absent, insert_last}
 use Rattle.wb_kinds.proofs.answers.push_entry.Goals as goal
 
 pub insert-requires : goal.insert-requires

@@ -1,6 +1,6 @@
 use Rattle.std.proofs.Common.{◌≡◌, ◌++◌, [], ◌∙◌, ap, string_bytes}
 use Rattle.wb_model.specs.Bodies.{with_entry}
-use Rattle.wb_kinds.proofs.EntryLemmas.{entries_step, below_step, ordered_step}
+use Rattle.wb_bodies.proofs.EntryLemmas.{entries_step, below_step, ordered_step}
 use Rattle.wb_kinds.proofs.answers.read_entries.Goals as goal
 
 pub loop-key-preserved : goal.loop-key-preserved

@@ -4,7 +4,7 @@ use Rattle.std.specs.String.{string_cmp}
 use Rattle.std.specs.Map.{keys_of}
 use Rattle.serde_json.specs.View.{members_view}
 use Rattle.wb_model.specs.Bodies.{entries}
-use Rattle.wb_kinds.proofs.EntryLemmas.{AreBelowAll}
+use Rattle.wb_bodies.proofs.EntryLemmas.{AreBelowAll}
 use Rattle.wb_kinds.proofs.answers.read_entries.Given as goal
 
 abbrev pub invariant-loop-key : goal.invariant-loop-key
