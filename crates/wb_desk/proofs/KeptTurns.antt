@@ -8,18 +8,18 @@ use Rattle.wb_model.specs.declared.command.Asked.{Asked}
 use Rattle.wb_model.specs.declared.command.Command.{Command}
 use Rattle.wb_model.specs.declared.command.Command.TheVariants as commands
 use Rattle.wb_model.specs.declared.entry.Entry.{Entry}
-use Rattle.wb_model.specs.Changes.{At, Nothing, Begins}
+use Rattle.wb_model.specs.Changes.{At, Nothing}
 use Rattle.wb_model.specs.Host.{Tables, purged, change_of as verdict_change, ruling, ruling_at}
 use Rattle.wb_model.specs.Past.{Past}
 use Rattle.wb_model.specs.Pasts.{AllOpened, standing_hosts, what_in}
 use Rattle.wb_model.specs.Requests.{Frame, outline, plain_part}
-use Rattle.wb_model.specs.Commands.{tenant_of, is_submission, is_of_sessions, is_health}
+use Rattle.wb_model.specs.Commands.{tenant_of, is_of_sessions, is_health}
 use Rattle.wb_model.specs.Scripts.{is_kept, has_to_keep}
-use Rattle.wb_model.specs.Tables.{is_live}
+use Rattle.wb_model.specs.Tables.{Registry, is_live}
 use Rattle.wb_model.specs.Targets.{target}
 use Rattle.wb_model.specs.declared.body.Told.{Told}
 use Rattle.wb_model.specs.Tenants.{Tenancy, Hosts, tenant_at, one, hosts_after}
-use Rattle.wb_model.proofs.Keeping.{keeps_in, submits_only, not_of_sessions}
+use Rattle.wb_model.proofs.Keeping.{keeps_in}
 use Rattle.wb_plan.specs.declared.plan.At.{At as KeptAt}
 use Rattle.wb_plan.specs.declared.plan.Plan.{Plan}
 use Rattle.wb_plan.specs.declared.plan.Planned.{Planned}
@@ -31,9 +31,11 @@ use Rattle.wb_tables.specs.Places.{ArePlaces, IsAt}
 use Rattle.wb_tables.specs.Standing.{hosts_of}
 use Rattle.wb_tables.specs.declared.tenancy.Tenancy.{Tenancy as KeptTenancy}
 use Rattle.wb_desk.specs.Puts.{first_puts, puts_of, IsBatch}
+use Rattle.wb_desk.specs.SetUp.{AreSetUpRight}
 use Rattle.wb_desk.specs.Turns.{HasToKeep, KeepsAt, IsLeft, IsTurn, IsTurnAt, IsFrameAt, standing}
 use Rattle.wb_desk.specs.declared.batch.Lost.{Lost}
 use Rattle.wb_desk.specs.declared.batch.Lost.TheVariants as lost
+use Rattle.wb_desk.proofs.KeptChanges.{IsKept, sessions_unkept}
 use Rattle.wb_desk.proofs.Tenants.{at_turn, at_frame_is, names_tenant, found_at}
 
 -- ---- a batch that is not empty
@@ -67,41 +69,55 @@ ruled turns now f at asked t p =
     ap (λ m. ruling (purged m t) (at_turn turns now f) f.asked) p.time
     ∙ (ap (λ (a : At). ruling (purged at.time t) a f.asked) (at_frame_is turns now f at asked p) ∙ ap (λ (a : Asked). ruling (purged at.time t) (at_of at) a) p.asked_of)
 
-begun_keeps : (turns now : ℕ) (f : Frame) (at : KeptAt) (asked : Asked) (h : Hosts) (x : Tenancy) (t : Tables) (entry : Entry) → x.tables ≡ t → h.turns ≡ turns → h.now ≡ now → IsFrameAt turns now f at asked → verdict_change (ruling (purged at.time t) (at_of at) asked) ≡ Begins entry
-    → (verdict_change (ruling_at (one turns now t) f) ≡ Nothing → ⊥) × (is_of_sessions f.asked.command ≡ false)
-begun_keeps turns now f at asked h x t entry e n m p opens = (
-  (λ none. let bad : Begins entry ≡ Nothing = sym opens ∙ (ap verdict_change (sym (ruled turns now f at asked t p)) ∙ none) in absurd (grind (arith, bad))),
-  not_of_sessions f.asked.command (ap (λ (a : Asked). is_submission (outline a.command)) p.asked_of ∙ submits_only (purged at.time t).plain (at_of at) (plain_part (purged at.time t).plain asked) (target (purged at.time t).plain asked.session (outline asked.command)) entry opens),
+-- a change whose rows are put is kept
+kept_puts : (now t : ℕ) (g : Registry) (x : Place) (c : Planned) → puts_of now x c ≢ [] → IsKept (change_of t g c)
+kept_puts now t g x planned.Nothing put = absurd (put refl)
+kept_puts now t g x (planned.Begins o) put = by o.case.items put
+  where
+    by : (trail : List Entry) → first_puts now x trail o.secret ≢ [] → IsKept (begins trail)
+    by [] put = absurd (put refl)
+    by (e ∷ es) put = tt
+kept_puts now t g x (planned.Notes n) put = tt
+kept_puts now t g x (planned.LogsIn login) put = absurd (put refl)
+kept_puts now t g x (planned.LogsOut turn who) put = absurd (put refl)
+kept_puts now t g x (planned.Configures c) put = tt
+
+outlined : (d : Command) → is_of_sessions (outline d) ≡ is_of_sessions d
+outlined (commands.Submit t c answers) = refl
+outlined (commands.GiveIdentity t answers) = refl
+outlined _ = refl
+
+-- and its request is no login or logout
+kept_keeps : (f : Frame) (at : KeptAt) (asked : Asked) (turns now : ℕ) (t : Tables) → IsFrameAt turns now f at asked → IsKept (verdict_change (ruling (purged at.time t) (at_of at) asked)) → (verdict_change (ruling_at (one turns now t) f) ≢ Nothing) × (is_of_sessions f.asked.command ≡ false)
+kept_keeps f at asked turns now t p kept = (
+  (λ none. subst IsKept (ap verdict_change (sym (ruled turns now f at asked t p)) ∙ none) kept),
+  ap (λ (a : Asked). is_of_sessions a.command) p.asked_of ∙ by (is_of_sessions asked.command) refl,
 )
+  where
+    by : (b : Bool) → is_of_sessions asked.command ≡ b → b ≡ false
+    by true e = absurd (sessions_unkept (purged at.time t).plain (at_of at) (plain_part (purged at.time t).plain asked) (target (purged at.time t).plain asked.session (outline asked.command)) (outlined asked.command ∙ e) kept)
+    by false e = refl
 
 -- a change is something to keep
-pub change_keeps : (t i : ℕ) (at : KeptAt) (asked : Asked) (items : List SealedItem) (ks : List KeptTenancy) (d : KeptTenancy) (plan : Plan) → ArePlaces at.turn 0 items (map place_of ks) → IsAt t ks i → t ≡ tenant_of asked.command
-    → Plans (purged at.time (tables_of items (place_of (get_or ks i d)))) (at_of at) asked plan → puts_of at.time (place_of (get_or ks i d)) plan.change ≢ [] → KeepsAt (map place_of ks) items at asked
-change_keeps t i at asked items ks d plan all is named h some = λ turns now f p. by turns now f p plan.change h.change some
-  where
-    by : (turns now : ℕ) (f : Frame) → IsFrameAt turns now f at asked → (c : Planned) → verdict_change (ruling (purged at.time (tables_of items (place_of (get_or ks i d)))) (at_of at) asked) ≡ change_of c → puts_of at.time (place_of (get_or ks i d)) c ≢ []
-        → HasToKeep (hosts_of (standing turns now (map place_of ks) items)) f
-    by turns now f p planned.Nothing e put = absurd (put refl)
-    by turns now f p (planned.Begins o) e put = first o.case.items e put
-      where
-        first : (trail : List Entry) → verdict_change (ruling (purged at.time (tables_of items (place_of (get_or ks i d)))) (at_of at) asked) ≡ begins trail → first_puts at.time (place_of (get_or ks i d)) trail o.secret ≢ [] → HasToKeep (hosts_of (standing turns now (map place_of ks) items)) f
-        first [] e put = absurd (put refl)
-        first (entry ∷ es) e put =
-            let kept = begun_keeps turns now f at asked (hosts_of (standing turns now (map place_of ks) items)) (tenancy_of items (place_of (get_or ks i d))) (tables_of items (place_of (get_or ks i d))) entry refl refl refl p e in
-            inr (record {
-              tenancy = tenancy_of items (place_of (get_or ks i d));
-              named = found_at at.turn 0 (tenant_at f) i items ks d all is.within (is.id d ∙ names_tenant turns now t f at asked p named);
-              changes = kept.0;
-              other = kept.1;
-            })
+change_keeps : (upto t i : ℕ) (at : KeptAt) (asked : Asked) (items : List SealedItem) (ks : List KeptTenancy) (d : KeptTenancy) (plan : Plan) → ArePlaces upto 0 items (map place_of ks) → IsAt t ks i → t ≡ tenant_of asked.command
+    → Plans (get_or ks i d).configuration.tenant (purged at.time (tables_of items (place_of (get_or ks i d)))) (at_of at) asked plan → puts_of at.time (place_of (get_or ks i d)) plan.change ≢ [] → KeepsAt (map place_of ks) items at asked
+change_keeps upto t i at asked items ks d plan all is named h put = λ turns now f p.
+    let x = get_or ks i d in
+    let kept = kept_keeps f at asked turns now (tables_of items (place_of x)) p (subst IsKept (sym h.change) (kept_puts at.time x.configuration.tenant x.configuration.registry (place_of x) plan.change put)) in
+    inr (record {
+      tenancy = tenancy_of items (place_of x);
+      named = found_at upto 0 (tenant_at f) i items ks d all is.within (is.id d ∙ names_tenant turns now t f at asked p named);
+      changes = kept.0;
+      other = kept.1;
+    })
 
-pub keeps_at : (t i : ℕ) (at : KeptAt) (asked : Asked) (items : List SealedItem) (ks : List KeptTenancy) (d : KeptTenancy) (plan : Plan) (batch : List RowChange) → ArePlaces at.turn 0 items (map place_of ks) → IsAt t ks i → t ≡ tenant_of asked.command
-    → Plans (purged at.time (tables_of items (place_of (get_or ks i d)))) (at_of at) asked plan → IsBatch at.time (map place_of ks) (puts_of at.time (place_of (get_or ks i d)) plan.change) batch → batch ≢ [] → KeepsAt (map place_of ks) items at asked
-keeps_at t i at asked items ks d plan batch all is named h b some = by (batch_some at.time (map place_of ks) (puts_of at.time (place_of (get_or ks i d)) plan.change) batch b some)
+pub keeps_at : (upto t i : ℕ) (at : KeptAt) (asked : Asked) (items : List SealedItem) (ks : List KeptTenancy) (d : KeptTenancy) (plan : Plan) (batch : List RowChange) → ArePlaces upto 0 items (map place_of ks) → IsAt t ks i → t ≡ tenant_of asked.command
+    → Plans (get_or ks i d).configuration.tenant (purged at.time (tables_of items (place_of (get_or ks i d)))) (at_of at) asked plan → IsBatch at.time (map place_of ks) (puts_of at.time (place_of (get_or ks i d)) plan.change) batch → batch ≢ [] → KeepsAt (map place_of ks) items at asked
+keeps_at upto t i at asked items ks d plan batch all is named h b some = by (batch_some at.time (map place_of ks) (puts_of at.time (place_of (get_or ks i d)) plan.change) batch b some)
   where
     by : (any_dead at.time (map place_of ks) ≡ true) ⊎ (puts_of at.time (place_of (get_or ks i d)) plan.change ≢ []) → KeepsAt (map place_of ks) items at asked
     by (inl dead) = dead_keeps (map place_of ks) items at asked dead
-    by (inr put) = change_keeps t i at asked items ks d plan all is named h put
+    by (inr put) = change_keeps upto t i at asked items ks d plan all is named h put
 
 -- ---- a lost turn
 
@@ -110,10 +126,10 @@ lost_turn xs items ys new at asked lost.Keeper left keeps = (left, keeps)
 lost_turn xs items ys new at asked lost.Memory left keeps = (left, λ health. keeps)
 
 -- what holds of the tables after it
-pub places_of : (xs : List Place) (items : List SealedItem) (at : KeptAt) (asked : Asked) (result : Result Told Lost) (ys : List Place) (new : List SealedItem) → ArePlaces at.turn 0 items xs → IsTurnAt xs items at asked result ys new → ArePlaces at.turn 0 new ys
-places_of xs items at asked (Ok told) ys new all turn = turn.places
-places_of xs items at asked (Err lost.Keeper) ys new all turn = subst (λ l. ArePlaces at.turn 0 l ys) (sym turn.0.sealed) (subst (λ l. ArePlaces at.turn 0 items l) (sym turn.0.places) all)
-places_of xs items at asked (Err lost.Memory) ys new all turn = subst (λ l. ArePlaces at.turn 0 l ys) (sym turn.0.sealed) (subst (λ l. ArePlaces at.turn 0 items l) (sym turn.0.places) all)
+pub right_of : (xs : List Place) (items : List SealedItem) (at : KeptAt) (asked : Asked) (result : Result Told Lost) (ys : List Place) (new : List SealedItem) → IsTurnAt xs items at asked result ys new → AreSetUpRight 0 xs → AreSetUpRight 0 ys
+right_of xs items at asked (Ok told) ys new turn = turn.set_up
+right_of xs items at asked (Err lost.Keeper) ys new turn = subst (AreSetUpRight 0) (sym turn.0.places)
+right_of xs items at asked (Err lost.Memory) ys new turn = subst (AreSetUpRight 0) (sym turn.0.places)
 
 pub sessions_of : (xs : List Place) (items : List SealedItem) (at : KeptAt) (asked : Asked) (result : Result Told Lost) (ys : List Place) (new : List SealedItem) → IsTurnAt xs items at asked result ys new → sessions_at ys ≤ sessions_at xs + 1
 sessions_of xs items at asked (Ok told) ys new turn = turn.sessions

@@ -1,7 +1,14 @@
 pub mod AlikeTurns
-pub mod Begun
+pub mod ChangeRows
+pub mod Changes
+pub mod KeptChanges
 pub mod KeptTurns
+pub mod OwnSessions
 pub mod PastTurns
+pub mod Rooms
+pub mod SessionCounts
+pub mod SetUps
+pub mod StandingPlaces
 pub mod StarterPlace
 pub mod Tenants
 pub mod TurnRows

@@ -1,68 +1,30 @@
 -- The rows after the batch of a turn are those of the tables after it.
-use Rattle.std.proofs.Common.{◌≡◌, inl, inr, ℕ, ◌<◌, ◌+◌, false, zero, suc, List, [], ◌∷◌, ◌++◌, length, map, set, get_or, Option, Some, None, refl, sym, ap, ◌∙◌, subst, arith}
+use Rattle.std.proofs.Common.{◌≡◌, inl, inr, ℕ, ◌<◌, ◌+◌, false, zero, suc, List, [], ◌∷◌, ◌++◌, length, map, set, get_or, refl, sym, ap, ◌∙◌, subst, arith}
 use Rattle.std.specs.Prelude.{All}
-use Rattle.std.proofs.lemmas.List.Elements.{All-nil, All-cons, All-append}
+use Rattle.std.proofs.lemmas.List.Elements.{All-append}
 use Rattle.std.proofs.lemmas.Bool.Decides.{nat_tests}
-use Rattle.wb_base.specs.AnswerList.{Answered}
 use Rattle.wb_base.specs.KeptRows.{all_changed, IsGoodChange}
-use Rattle.wb_tables.specs.Dead.{any_dead}
 use Rattle.wb_base.specs.declared.rows.Change.{Change as RowChange}
 use Rattle.wb_custody.specs.declared.sealed.SealedItem.{SealedItem}
-use Rattle.wb_model.specs.declared.entry.Entry.{Entry}
-use Rattle.wb_model.specs.Host.{changed, drawn}
 use Rattle.wb_model.specs.Opened.{AtMost}
-use Rattle.wb_base.specs.declared.rows.Change.TheVariants.{Put}
-use Rattle.wb_model.specs.Json.{answers_data}
-use Rattle.wb_model.specs.Rows.{row, rows_of, numbering_data, entry_data}
+use Rattle.wb_model.specs.Rows.{rows_of}
 use Rattle.wb_model.specs.Tables.{Case, has_number, is_there}
 use Rattle.wb_model.specs.Tenants.{Tenancy}
 use Rattle.wb_model.proofs.Found.{Held}
-use Rattle.wb_model.proofs.KindRows.{texts, opened_puts}
-use Rattle.wb_model.proofs.TurnRows.{changed_append, opened_rows}
+use Rattle.wb_model.proofs.TurnRows.{changed_append}
 use Rattle.wb_plan.specs.declared.plan.Planned.{Planned}
-use Rattle.wb_plan.specs.declared.plan.Planned.TheVariants as planned
-use Rattle.wb_plan.specs.Plans.{begins, change_of, given_of}
-use Rattle.wb_tables.specs.Kept.{Place, place_of, tables_of, tenancy_of, live_place, purged_tenancy}
+use Rattle.wb_plan.specs.Plans.{IsFit}
+use Rattle.wb_tables.specs.Dead.{any_dead}
+use Rattle.wb_tables.specs.Kept.{Place, place_of, tables_of, tenancy_of, purged_tenancy}
 use Rattle.wb_tables.specs.Places.{IsPlace, ArePlaces}
 use Rattle.wb_tables.specs.declared.tenancy.Tenancy.{Tenancy as KeptTenancy}
 use Rattle.wb_tables.proofs.PlacesAt.{place_at}
 use Rattle.wb_tables.proofs.Purges.{same_tables, tenancies_above, AreOthers}
-use Rattle.wb_desk.specs.Puts.{sealed_put, first_puts, puts_of, IsBatch}
+use Rattle.wb_desk.specs.Puts.{puts_of, IsBatch}
 use Rattle.wb_desk.specs.Ready.{IsMadeAt}
+use Rattle.wb_desk.proofs.ChangeRows.{IsPuttable, IsRowed, as_place, made_one, change_rows, good_puts, live_puts}
 use Rattle.wb_desk.proofs.Tenants.{id_above}
 use Rattle.wb_desk.proofs.Whole.{IsPurge, IsLiveAt, places_left, live_at}
-
--- ---- what a change puts
-
-puts_same : (now : ℕ) (x : Place) (entry : Entry) (es : List Entry) (secret : Option Answered) → first_puts now x (entry ∷ es) secret ≡ opened_puts texts x.id now entry secret x.plain
-puts_same now x entry es None = refl
-puts_same now x entry es (Some a) = refl
-
--- the same of the tables once they are purged
-pub live_puts : (now time : ℕ) (x : Place) (c : Planned) → puts_of now (live_place time x) c ≡ puts_of now x c
-live_puts now time x planned.Nothing = refl
-live_puts now time x (planned.Begins o) = by o.case.items
-  where
-    by : (trail : List Entry) → first_puts now (live_place time x) trail o.secret ≡ first_puts now x trail o.secret
-    by [] = refl
-    by (e ∷ es) = refl
-
--- a tenant as a place
-abbrev as_place : Tenancy → Place
-as_place y = record { id = y.id; plain = y.tables.plain }
-
-abbrev made_one : ℕ → Planned → Tenancy → Tenancy
-made_one now c y = record { id = y.id; tables = changed now (change_of c) (given_of c) y.tables }
-
-change_rows : (before after : List Tenancy) (y : Tenancy) → ((x : Tenancy) → Held x before → x.id < y.id) → ((x : Tenancy) → Held x after → y.id < x.id) → AtMost y.tables.plain.numbering.last y.tables.plain.cases
-    → y.tables.sealed (y.tables.plain.numbering.last + 1) ≡ None → (now : ℕ) (c : Planned)
-    → all_changed (rows_of (before ++ (y ∷ after))) (puts_of now (as_place y) c) ≡ rows_of (before ++ (made_one now c y ∷ after))
-change_rows before after y below above most unsealed now planned.Nothing = refl
-change_rows before after y below above most unsealed now (planned.Begins o) = by o.case.items
-  where
-    by : (trail : List Entry) → all_changed (rows_of (before ++ (y ∷ after))) (first_puts now (as_place y) trail o.secret) ≡ rows_of (before ++ (record { id = y.id; tables = changed now (begins trail) o.secret y.tables } ∷ after))
-    by [] = refl
-    by (e ∷ es) = ap (all_changed (rows_of (before ++ (y ∷ after)))) (puts_same now (as_place y) e es o.secret) ∙ opened_rows before after y below above most unsealed now e o.secret
 
 -- ---- the tenant at a place, and those before and after it
 
@@ -116,6 +78,14 @@ there_above last n (c ∷ cs) all lt =
     let other : has_number n c ≡ false = grind (arith, nat_tests, all.0, lt) in
     rw other (there_above last n cs all.1 lt)
 
+rowed : (turns : ℕ) (items : List SealedItem) (x : Place) → IsPlace turns items x → IsRowed (tenancy_of items x)
+rowed turns items x h = record {
+  most = h.most;
+  unsealed = h.unsealed (x.plain.numbering.last + 1) (there_above x.plain.numbering.last (x.plain.numbering.last + 1) x.plain.cases h.most (omega arith));
+  ascend = h.ascend;
+  versions = h.plain.registry.versions;
+}
+
 -- the batch over the tables that were made ready is that over the tables before
 same_at : (i : ℕ) (ks ls : List KeptTenancy) (d : KeptTenancy) → map place_of ls ≡ map place_of ks → place_of (get_or ls i d) ≡ place_of (get_or ks i d)
 same_at i [] [] d e = refl
@@ -145,13 +115,13 @@ rows_without now items new xs ys batch b purge = purge_then now items new xs ys 
 
 -- and where the tenant at a place makes a change
 pub rows_at : (turns now i : ℕ) (items mid new : List SealedItem) (ks ls ms : List KeptTenancy) (c : Planned) (batch : List RowChange) → ArePlaces turns 0 items (map place_of ks) → i < length ks
-    → ((d : KeptTenancy) → IsBatch now (map place_of ks) (puts_of now (place_of (get_or ks i d)) c) batch) → IsPurge now (map place_of ks) items (map place_of ls) mid → IsMadeAt i now c mid new ls ms
+    → ((d : KeptTenancy) → IsBatch now (map place_of ks) (puts_of now (place_of (get_or ks i d)) c) batch) → IsPurge now (map place_of ks) items (map place_of ls) mid → ((d : KeptTenancy) → IsPuttable (place_of (get_or ls i d)) c) → IsMadeAt i now c mid new ls ms
     → all_changed (rows_of (map (tenancy_of items) (map place_of ks))) batch ≡ rows_of (map (tenancy_of new) (map place_of ms))
-rows_at turns now i items mid new ks ls ms c batch all lt b purge made =
+rows_at turns now i items mid new ks ls ms c batch all lt b purge puttable_at made =
     purge_then now items mid (map place_of ks) (map place_of ls) (puts_of now (place_of (get_or ks i made.tenancy)) c) batch (b made.tenancy) purge
     ∙ (ap (λ l. all_changed (rows_of l) (puts_of now (place_of (get_or ks i made.tenancy)) c)) split.whole
     ∙ (ap (all_changed (rows_of (split.before ++ ((tenancy_of mid (place_of (get_or ls i made.tenancy))) ∷ split.after)))) puts_here
-    ∙ (change_rows split.before split.after (tenancy_of mid (place_of (get_or ls i made.tenancy))) split.below split.above here.most (here.unsealed ((place_of (get_or ls i made.tenancy)).plain.numbering.last + 1) (there_above (place_of (get_or ls i made.tenancy)).plain.numbering.last ((place_of (get_or ls i made.tenancy)).plain.numbering.last + 1) (place_of (get_or ls i made.tenancy)).plain.cases here.most (omega arith))) now c
+    ∙ (change_rows split.before split.after (tenancy_of mid (place_of (get_or ls i made.tenancy))) split.below split.above (rowed turns mid (place_of (get_or ls i made.tenancy)) here) now c (puttable_at made.tenancy)
     ∙ ap rows_of (ap (λ t. split.before ++ (t ∷ split.after)) (sym one) ∙ (sym (split.made new made.tenancy (made.others made.tenancy)) ∙ ap (λ (l : List KeptTenancy). map (tenancy_of new) (map place_of l)) (sym made.set_at))))))
   where
     live : IsLiveAt now i ks ls
@@ -167,7 +137,9 @@ rows_at turns now i items mid new ks ls ms c batch all lt b purge made =
     here = place_at turns 0 i mid ls made.tenancy places live.within
 
     puts_here : puts_of now (place_of (get_or ks i made.tenancy)) c ≡ puts_of now (as_place (tenancy_of mid (place_of (get_or ls i made.tenancy)))) c
-    puts_here = sym (live_puts now now (place_of (get_or ks i made.tenancy)) c) ∙ ap (λ x. puts_of now x c) (sym (live.place made.tenancy))
+    puts_here =
+        sym (live_puts now now (place_of (get_or ks i made.tenancy)) c (place_at turns 0 i items ks made.tenancy all lt).plain.cases (subst (λ x. IsPuttable x c) (live.place made.tenancy) (puttable_at made.tenancy)))
+        ∙ ap (λ x. puts_of now x c) (sym (live.place made.tenancy))
 
     one : tenancy_of new (place_of made.tenancy) ≡ made_one now c (tenancy_of mid (place_of (get_or ls i made.tenancy)))
     one = same_tenancy (tenancy_of new (place_of made.tenancy)) (made_one now c (tenancy_of mid (place_of (get_or ls i made.tenancy)))) (made.id made.tenancy) (made.tables made.tenancy)
@@ -179,29 +151,15 @@ same_index i [] d e lt = absurd (omega arith)
 same_index zero (x ∷ ks) d e lt = refl
 same_index (suc i) (x ∷ ks) d e lt = same_index i ks d e (omega arith)
 
-good_sealed : (t n : ℕ) (s : Option Answered) → All IsGoodChange (sealed_put t n s)
-good_sealed t n None = All-nil IsGoodChange
-good_sealed t n (Some a) = All-cons IsGoodChange (Put (row 7 t n 0 (answers_data a))) [] (omega arith, λ e. refl) (All-nil IsGoodChange)
-
-good_puts : (now : ℕ) (x : Place) (c : Planned) → All IsGoodChange (puts_of now x c)
-good_puts now x planned.Nothing = All-nil IsGoodChange
-good_puts now x (planned.Begins o) = by o.case.items
-  where
-    by : (trail : List Entry) → All IsGoodChange (first_puts now x trail o.secret)
-    by [] = All-nil IsGoodChange
-    by (e ∷ es) =
-        All-cons IsGoodChange (Put (row 2 x.id 0 0 (numbering_data (drawn now x.plain.registry.settings x.plain.numbering)))) (Put (row 6 x.id (x.plain.numbering.last + 1) 1 (entry_data e)) ∷ sealed_put x.id (x.plain.numbering.last + 1) o.secret) (omega arith, λ e. absurd (omega (arith, e)))
-        (All-cons IsGoodChange (Put (row 6 x.id (x.plain.numbering.last + 1) 1 (entry_data e))) (sealed_put x.id (x.plain.numbering.last + 1) o.secret) (omega arith, λ e. absurd (omega (arith, e))) (good_sealed x.id (x.plain.numbering.last + 1) o.secret))
-
-pub batch_made : (now i : ℕ) (ks : List KeptTenancy) (x d : KeptTenancy) (c : Planned) (drops batch : List RowChange) → i < length ks → x ≡ get_or ks i x
+pub batch_made : (now i : ℕ) (ks : List KeptTenancy) (x d : KeptTenancy) (c : Planned) (drops batch : List RowChange) → i < length ks → x ≡ get_or ks i x → IsFit now (get_or ks i d) c
     → ((items : List SealedItem) → all_changed (rows_of (map (tenancy_of items) (map place_of ks))) drops ≡ rows_of (map (purged_tenancy now) (map (tenancy_of items) (map place_of ks))))
     → All IsGoodChange drops → (any_dead now (map place_of ks) ≡ false → drops ≡ []) → batch ≡ drops ++ puts_of now (place_of x) c → IsBatch now (map place_of ks) (puts_of now (place_of (get_or ks i d)) c) batch
-batch_made now i ks x d c drops batch lt is rows good none e = record {
+batch_made now i ks x d c drops batch lt is fit rows good none e = record {
   drops = drops;
   is = whole;
   rows = rows;
   none = none;
-  good = subst (All IsGoodChange) (sym whole) (All-append IsGoodChange drops (puts_of now (place_of (get_or ks i d)) c) good (good_puts now (place_of (get_or ks i d)) c));
+  good = subst (All IsGoodChange) (sym whole) (All-append IsGoodChange drops (puts_of now (place_of (get_or ks i d)) c) good (good_puts now (get_or ks i d) c fit));
 }
   where
     whole : batch ≡ drops ++ puts_of now (place_of (get_or ks i d)) c

@@ -1,4 +1,6 @@
+pub mod Desks
 pub mod Kept
 pub mod Puts
 pub mod Ready
+pub mod SetUp
 pub mod Turns

@@ -4,6 +4,7 @@
 mod batch;
 mod desk;
 mod ready;
+mod setting;
 mod starter;
 mod take;
 mod turn;

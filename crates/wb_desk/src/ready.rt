@@ -1,18 +1,18 @@
 //! A turn that is ready to be made: it is planned, what it has to keep is written, and all memory is taken.
 ghost use Rattle.std.specs.Prelude.{◌≡◌, ◌<◌, ◌++◌, ℕ, List, [], true, map, length, slice_index_or, IfOk, OnOk, OnErr};
 ghost use Rattle.wb_custody.specs.declared.sealed.SealedItem.{SealedItem};
-ghost use Rattle.wb_model.specs.Built.{is_built};
+ghost use Rattle.wb_model.specs.Commands.{tenant_of as tenant_of_command};
 ghost use Rattle.wb_model.specs.Fits.{fits};
 ghost use Rattle.wb_model.specs.Host.{purged};
 ghost use Rattle.wb_model.specs.Tenants.{without_tenant as told_without};
 ghost use Rattle.wb_plan.specs.Plans.{IsFit, IsRoomy, Plans, at_of};
 ghost use Rattle.wb_tables.specs.Dead.{any_dead};
 ghost use Rattle.wb_tables.specs.Kept.{place_of, tables_of};
-ghost use Rattle.wb_tables.specs.Places.{IsPlace, ArePlaces};
+ghost use Rattle.wb_tables.specs.Places.{IsPlace, ArePlaces, IsAt};
 ghost use Rattle.wb_tables.specs.declared.tenancy.Tenancy.{Tenancy as KeptTenancy};
 ghost use Rattle.wb_desk.specs.Puts.{puts_of, IsBatch};
 
-use crate::batch::put_opening;
+use crate::batch::{put_noted, put_opening, put_setting};
 use std::alloc::Global;
 use wb_base::{Change, Memory, Moment};
 use wb_custody::SealedTable;
@@ -43,12 +43,11 @@ fn ready_at(
     at: &At,
     asked: &Asked,
 ) -> Result<Plan, Memory>
-    requires places { (turns : ℕ) × ArePlaces turns 0 sealed.old.items (map place_of tenancies.old) }
-    requires within { place < length tenancies.old }
-    requires built { is_built asked.now.command ≡ true }
+    requires places { (turns : ℕ) × (turns < at.now.turn) × ArePlaces turns 0 sealed.old.items (map place_of tenancies.old) }
+    requires place { IsAt (tenant_of_command asked.now.command) tenancies.old place }
     requires fits { fits asked.now ≡ true }
-    ensures plan { IfOk result (λ plan. (d : KeptTenancy) → Plans (purged at.now.time (tables_of sealed.old.items (place_of (slice_index_or tenancies.old place d)))) (at_of at.now) asked.now plan) }
-    ensures room { IfOk result (λ plan. (d : KeptTenancy) → IsRoomy (slice_index_or tenancies.new place d) sealed.new.spare plan.change) }
+    ensures plan { IfOk result (λ plan. (d : KeptTenancy) → Plans (slice_index_or tenancies.old place d).configuration.tenant (purged at.now.time (tables_of sealed.old.items (place_of (slice_index_or tenancies.old place d)))) (at_of at.now) asked.now plan) }
+    ensures room { IfOk result (λ plan. (d : KeptTenancy) → IsRoomy at.now.time (slice_index_or tenancies.new place d) sealed.new.spare plan.change) }
     ensures tenants_left { map place_of tenancies.new ≡ map place_of tenancies.old }
     ensures sealed_left { sealed.new.items ≡ sealed.old.items }
 {
@@ -65,12 +64,15 @@ fn put_change(
     change: &Planned,
 ) -> Result<(), Memory>
     requires place { (turns : ℕ) × (items : List SealedItem) × IsPlace turns items (place_of tenancy.now) }
-    requires fit { IsFit tenancy.now change.now }
+    requires fit { IsFit time tenancy.now change.now }
     ensures { OnOk result (batch.new.items ≡ batch.old.items ++ puts_of time (place_of tenancy.now) change.now) }
 {
     match change {
         Planned::Nothing => Ok(()),
         Planned::Begins(opening) => put_opening(alloc, batch, tenancy, time, opening),
+        Planned::Notes(noted) => put_noted(alloc, batch, tenancy, noted),
+        Planned::LogsIn(_) | Planned::LogsOut(..) => Ok(()),
+        Planned::Configures(next) => put_setting(batch, &next.row),
     }
 }
 
@@ -84,7 +86,7 @@ fn batch_at(
 ) -> Result<Vec<Change>, Memory>
     requires places { (turns : ℕ) × (items : List SealedItem) × ArePlaces turns 0 items (map place_of tenancies.now) }
     requires within { place < length tenancies.now }
-    requires room { (spare : ℕ) × ((d : KeptTenancy) → IsRoomy (slice_index_or tenancies.now place d) spare change.now) }
+    requires room { (spare : ℕ) × ((d : KeptTenancy) → IsRoomy time (slice_index_or tenancies.now place d) spare change.now) }
     ensures { IfOk result (λ batch. (d : KeptTenancy) → IsBatch time (map place_of tenancies.now) (puts_of time (place_of (slice_index_or tenancies.now place d)) change.now) batch.items) }
 {
     let mut batch = dead_batch(alloc, tenancies, time)?;
@@ -101,12 +103,11 @@ pub fn prepare_at(
     at: &At,
     asked: &Asked,
 ) -> Result<Batched, Memory>
-    requires places { (turns : ℕ) × ArePlaces turns 0 sealed.old.items (map place_of tenancies.old) }
-    requires within { place < length tenancies.old }
-    requires built { is_built asked.now.command ≡ true }
+    requires places { (turns : ℕ) × (turns < at.now.turn) × ArePlaces turns 0 sealed.old.items (map place_of tenancies.old) }
+    requires place { IsAt (tenant_of_command asked.now.command) tenancies.old place }
     requires fits { fits asked.now ≡ true }
-    ensures plan { IfOk result (λ b. (d : KeptTenancy) → Plans (purged at.now.time (tables_of sealed.old.items (place_of (slice_index_or tenancies.old place d)))) (at_of at.now) asked.now b.plan) }
-    ensures room { IfOk result (λ b. (d : KeptTenancy) → IsRoomy (slice_index_or tenancies.new place d) sealed.new.spare b.plan.change) }
+    ensures plan { IfOk result (λ b. (d : KeptTenancy) → Plans (slice_index_or tenancies.old place d).configuration.tenant (purged at.now.time (tables_of sealed.old.items (place_of (slice_index_or tenancies.old place d)))) (at_of at.now) asked.now b.plan) }
+    ensures room { IfOk result (λ b. (d : KeptTenancy) → IsRoomy at.now.time (slice_index_or tenancies.new place d) sealed.new.spare b.plan.change) }
     ensures batch { IfOk result (λ b. (d : KeptTenancy) → IsBatch at.now.time (map place_of tenancies.new) (puts_of at.now.time (place_of (slice_index_or tenancies.new place d)) b.plan.change) b.batch.items) }
     ensures tenants_left { map place_of tenancies.new ≡ map place_of tenancies.old }
     ensures sealed_left { sealed.new.items ≡ sealed.old.items }

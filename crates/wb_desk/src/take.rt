@@ -1,21 +1,25 @@
 //! The change of a turn. It takes no memory and cannot fail.
-ghost use Rattle.std.specs.Prelude.{◌≡◌, ◌≢◌, ◌<◌, ◌≤◌, ◌+◌, ◌∷◌, [], ℕ};
+ghost use Rattle.std.specs.Prelude.{◌≡◌, ◌≢◌, ◌<◌, ◌≤◌, ◌+◌, ◌∷◌, [], ℕ, map};
 ghost use Rattle.wb_base.specs.Days.{IsOffset};
 ghost use Rattle.wb_custody.specs.SealedAnswers.{answers_of};
 ghost use Rattle.wb_model.specs.Access.{requests};
-ghost use Rattle.wb_model.specs.Changes.{Begins};
+ghost use Rattle.wb_model.specs.Changes.{Begins, Notes, LogsIn, LogsOut};
 ghost use Rattle.wb_model.specs.Host.{plain_after, drawn, sealed_under};
+ghost use Rattle.wb_model.specs.Tables.{Who as WhoValue};
 ghost use Rattle.wb_model.specs.declared.entry.Entry.{Entry as EntryValue};
 ghost use Rattle.wb_tables.specs.Kept.{case_of, plain_of, place_of, sealed_of};
+ghost use Rattle.wb_tables.specs.Logins.{AreEarlier, login_of, session_of};
+ghost use Rattle.wb_tables.specs.Noted.{IsReady};
 ghost use Rattle.wb_tables.specs.Places.{IsPlace};
+ghost use Rattle.wb_desk.specs.Ready.{AreBy};
 
 use std::alloc::Global;
 use wb_base::{Answers, Moment, Number, Tenant};
 use wb_case::Case;
 use wb_custody::{AccessDesk, SealedTable};
 use wb_model::{Numbering, TenantItem};
-use wb_plan::Opening;
-use wb_tables::{Report, Tenancy};
+use wb_plan::{Noted, Opening};
+use wb_tables::{Login, Report, Tenancy};
 use wb_terms::day_of;
 
 /// The numbering after a draw.
@@ -59,6 +63,43 @@ fn put_secret(sealed: &mut SealedTable, tenant: Tenant, number: Number, secret: 
     if let Some(secret) = secret {
         sealed.put(tenant, number, secret);
     }
+}
+
+/// A report gets an entry, and the identity answers that come with it are put, into room that was made.
+pub fn note_entry(tenancy: &mut Tenancy, sealed: &mut SealedTable, noted: Noted)
+    requires ready { IsReady noted.number noted.entry tenancy.old.cases.items }
+    requires room { 0 < tenancy.old.cases.spare }
+    requires sealed_room { 0 < sealed.old.spare }
+    ensures id { (place_of tenancy.new).id ≡ (place_of tenancy.old).id }
+    ensures plain { (time : ℕ) → plain_of tenancy.new ≡ plain_after time (Notes noted.number noted.entry) (plain_of tenancy.old) }
+    ensures here { (n : ℕ) → answers_of sealed.new.items (place_of tenancy.old).id n ≡ sealed_under noted.number noted.secret (sealed_of sealed.old.items (place_of tenancy.old).id) n }
+    ensures others { (t n : ℕ) → t ≢ (place_of tenancy.old).id → answers_of sealed.new.items t n ≡ answers_of sealed.old.items t n }
+{
+    let Noted {
+        number,
+        entry,
+        secret,
+    } = noted;
+    tenancy.cases.note(number, entry);
+    put_secret(sealed, tenancy.configuration.tenant(), number, secret);
+}
+
+/// A session begins, in room that was made.
+pub fn log_in(tenancy: &mut Tenancy, login: Login)
+    requires room { 0 < tenancy.old.sessions.spare }
+    requires later { AreEarlier login.turn (map session_of tenancy.old.sessions.items) }
+    ensures id { (place_of tenancy.new).id ≡ (place_of tenancy.old).id }
+    ensures plain { (time : ℕ) → plain_of tenancy.new ≡ plain_after time (LogsIn (login_of login)) (plain_of tenancy.old) }
+{
+    tenancy.sessions.open(login);
+}
+
+/// The session that was made at a turn ends.
+pub fn log_out(tenancy: &mut Tenancy, turn: u64)
+    ensures id { (place_of tenancy.new).id ≡ (place_of tenancy.old).id }
+    ensures plain { (time : ℕ) (who : WhoValue) → AreBy turn who (plain_of tenancy.old).sessions → plain_of tenancy.new ≡ plain_after time (LogsOut turn who) (plain_of tenancy.old) }
+{
+    tenancy.sessions.close(turn);
 }
 
 /// A report begins: its number is drawn, and the report and its identity answers are put into room that was made.

@@ -2,21 +2,22 @@
 ghost use Rattle.std.specs.Prelude.{◌≡◌, ◌≢◌, ◌<◌, ◌≤◌, ◌+◌, ℕ, None, Err, true, find, map, length, slice_index_or};
 ghost use Rattle.wb_base.specs.Outside.{Rose};
 ghost use Rattle.wb_custody.specs.SealedAnswers.{answers_of};
-ghost use Rattle.wb_model.specs.Built.{is_built};
 ghost use Rattle.wb_model.specs.Commands.{tenant_of as tenant_of_command};
 ghost use Rattle.wb_model.specs.Fits.{fits};
 ghost use Rattle.wb_model.specs.Host.{changed};
 ghost use Rattle.wb_model.specs.Rows.{rows_of};
-ghost use Rattle.wb_plan.specs.Plans.{IsRoomy, change_of, given_of};
+ghost use Rattle.wb_plan.specs.Plans.{IsRoomy, given_of};
 ghost use Rattle.wb_tables.specs.Kept.{place_of, plain_of, tables_of, tenancy_of, sessions_at};
 ghost use Rattle.wb_tables.specs.Places.{IsPlace, ArePlaces, is_tenant, IsAt};
 ghost use Rattle.wb_tables.specs.declared.tenancy.Tenancy.{Tenancy as KeptTenancy};
-ghost use Rattle.wb_desk.specs.Ready.{IsOwn, IsMadeAt};
+ghost use Rattle.wb_desk.specs.Ready.{IsOwn, IsMadeAt, planned_change};
+ghost use Rattle.wb_desk.specs.SetUp.{AreSetUpRight};
 ghost use Rattle.wb_desk.specs.Turns.{IsTurnAt};
 
 use crate::batch::{Lost, keep};
 use crate::ready::{prepare_at, prepare_without};
-use crate::take::open_case;
+use crate::setting::configure;
+use crate::take::{log_in, log_out, note_entry, open_case};
 use std::alloc::Global;
 use wb_base::{Keeper, Moment};
 use wb_custody::SealedTable;
@@ -33,18 +34,19 @@ fn make(
     change: Planned,
 )
     requires place { (turns : ℕ) × IsPlace turns sealed.old.items (place_of tenancy.old) }
-    requires room { IsRoomy tenancy.old sealed.old.spare change }
-    requires own { IsOwn (plain_of tenancy.old) (change_of change) }
-    ensures tables { tables_of sealed.new.items (place_of tenancy.new) ≡ changed time (change_of change) (given_of change) (tables_of sealed.old.items (place_of tenancy.old)) }
+    requires room { IsRoomy time tenancy.old sealed.old.spare change }
+    requires own { IsOwn (plain_of tenancy.old).sessions change }
+    ensures tables { tables_of sealed.new.items (place_of tenancy.new) ≡ changed time (planned_change tenancy.old change) (given_of change) (tables_of sealed.old.items (place_of tenancy.old)) }
     ensures id { (place_of tenancy.new).id ≡ (place_of tenancy.old).id }
     ensures others { (t n : ℕ) → t ≢ (place_of tenancy.old).id → answers_of sealed.new.items t n ≡ answers_of sealed.old.items t n }
-    ensures place { (turns : ℕ) → IsPlace turns sealed.old.items (place_of tenancy.old) → IsPlace turns sealed.new.items (place_of tenancy.new) }
-    // A turn makes one session at most.
-    ensures sessions { length (place_of tenancy.new).plain.sessions ≤ length (place_of tenancy.old).plain.sessions + 1 }
 {
     match change {
         Planned::Nothing => {}
         Planned::Begins(opening) => open_case(alloc, tenancy, sealed, time, opening),
+        Planned::Notes(noted) => note_entry(tenancy, sealed, noted),
+        Planned::LogsIn(login) => log_in(tenancy, login),
+        Planned::LogsOut(turn, _) => log_out(tenancy, turn),
+        Planned::Configures(next) => configure(tenancy, next.proposal),
     }
 }
 
@@ -59,10 +61,11 @@ fn make_at(
 )
     requires places { (turns : ℕ) × ArePlaces turns 0 sealed.old.items (map place_of tenancies.old) }
     requires within { place < length tenancies.old }
-    requires room { (d : KeptTenancy) → IsRoomy (slice_index_or tenancies.old place d) sealed.old.spare change }
-    requires own { (d : KeptTenancy) → IsOwn (plain_of (slice_index_or tenancies.old place d)) (change_of change) }
+    requires room { (d : KeptTenancy) → IsRoomy time (slice_index_or tenancies.old place d) sealed.old.spare change }
+    requires own { (d : KeptTenancy) → IsOwn (plain_of (slice_index_or tenancies.old place d)).sessions change }
     ensures made { IsMadeAt place time change sealed.old.items sealed.new.items tenancies.old tenancies.new }
-    ensures places { (turns : ℕ) → ArePlaces turns 0 sealed.old.items (map place_of tenancies.old) → ArePlaces turns 0 sealed.new.items (map place_of tenancies.new) }
+    ensures set_up { AreSetUpRight 0 (map place_of tenancies.old) → AreSetUpRight 0 (map place_of tenancies.new) }
+    // A turn makes one session at most.
     ensures sessions { sessions_at (map place_of tenancies.new) ≤ sessions_at (map place_of tenancies.old) + 1 }
 {
     let tenancy = &mut tenancies[place];
@@ -79,9 +82,8 @@ fn turn_at<K: Keeper>(
     at: &At,
     asked: &Asked,
 ) -> Result<Told, Lost>
-    requires places { ArePlaces at.now.turn 0 sealed.old.items (map place_of tenancies.old) }
+    requires places { (turns : ℕ) × (turns < at.now.turn) × ArePlaces turns 0 sealed.old.items (map place_of tenancies.old) }
     requires place { IsAt (tenant_of_command asked.now.command) tenancies.old place }
-    requires built { is_built asked.now.command ≡ true }
     requires fits { fits asked.now ≡ true }
     ensures turn { IsTurnAt (map place_of tenancies.old) sealed.old.items at.now asked.now result (map place_of tenancies.new) sealed.new.items }
     ensures kept { K.honest keeper.new → K.holds keeper.old (rows_of (map (tenancy_of sealed.old.items) (map place_of tenancies.old))) → K.holds keeper.new (rows_of (map (tenancy_of sealed.new.items) (map place_of tenancies.new))) }
@@ -112,7 +114,7 @@ fn turn_without<K: Keeper>(
     at: &At,
     asked: &Asked,
 ) -> Result<Told, Lost>
-    requires places { ArePlaces at.now.turn 0 sealed.old.items (map place_of tenancies.old) }
+    requires places { (turns : ℕ) × (turns < at.now.turn) × ArePlaces turns 0 sealed.old.items (map place_of tenancies.old) }
     requires tenant { t ≡ tenant_of_command asked.now.command }
     requires absent { find (is_tenant t) (map place_of tenancies.old) ≡ None }
     ensures turn { IsTurnAt (map place_of tenancies.old) sealed.old.items at.now asked.now result (map place_of tenancies.new) sealed.new.items }
@@ -141,12 +143,9 @@ pub fn turn<K: Keeper>(
     at: &At,
     asked: &Asked,
 ) -> Result<Told, Lost>
-    requires places { ArePlaces at.now.turn 0 sealed.old.items (map place_of tenancies.old) }
-    requires built { is_built asked.now.command ≡ true }
+    requires places { (turns : ℕ) × (turns < at.now.turn) × ArePlaces turns 0 sealed.old.items (map place_of tenancies.old) }
     requires fits { fits asked.now ≡ true }
     ensures turn { IsTurnAt (map place_of tenancies.old) sealed.old.items at.now asked.now result (map place_of tenancies.new) sealed.new.items }
-    ensures places { ArePlaces at.now.turn 0 sealed.new.items (map place_of tenancies.new) }
-    ensures sessions { sessions_at (map place_of tenancies.new) ≤ sessions_at (map place_of tenancies.old) + 1 }
     ensures kept { K.honest keeper.new → K.holds keeper.old (rows_of (map (tenancy_of sealed.old.items) (map place_of tenancies.old))) → K.holds keeper.new (rows_of (map (tenancy_of sealed.new.items) (map place_of tenancies.new))) }
     ensures back { K.honest keeper.new → K.honest keeper.old }
     ensures later { K.count keeper.old ≤ K.count keeper.new }

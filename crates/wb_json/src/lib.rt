@@ -2,10 +2,12 @@
 #![tactic(auto)]
 
 mod members;
+mod names;
 mod values;
 
 pub use members::{
     put_date, put_date_or_null, put_flag, put_null, put_text, put_value, put_whole,
     put_whole_or_null, text_of,
 };
+pub use names::{kind_name, rights_value, role_name, state_name, status_name};
 pub use values::{Showing, answers_value, list_value};

@@ -4,7 +4,6 @@ ghost use Rattle.hex.specs.Hex.{encode_lower};
 ghost use Rattle.serde_json.specs.Data.{put, string};
 ghost use Rattle.serde_json.specs.View.{members_view};
 ghost use Rattle.wb_model.specs.Json.{or_null};
-ghost use Rattle.wb_model.specs.Names.{status_name as status_name_of};
 ghost use Rattle.wb_model.specs.Rows.{deed_keys};
 ghost use Rattle.wb_kinds.specs.Members.{puts};
 
@@ -13,8 +12,9 @@ use std::alloc::Global;
 use wb_base::{Digest, Memory, Text};
 use wb_json::{
     answers_value, list_value, put_date, put_flag, put_null, put_text, put_value, put_whole,
+    status_name,
 };
-use wb_model::{Deed, Status};
+use wb_model::Deed;
 
 /// The name of a deed.
 pub fn deed_name(deed: &Deed) -> &'static str
@@ -36,16 +36,6 @@ pub fn deed_name(deed: &Deed) -> &'static str
         Deed::Granted { .. } => "granted",
         Deed::Denied { .. } => "denied",
         Deed::Revoked { .. } => "revoked",
-    }
-}
-
-fn status_name(status: Status) -> &'static str
-    ensures { result.now ≡ status_name_of status }
-{
-    match status {
-        Status::New => "new",
-        Status::Opened => "opened",
-        Status::Closed => "closed",
     }
 }
 

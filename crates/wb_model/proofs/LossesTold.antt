@@ -29,7 +29,6 @@ use Rattle.wb_model.specs.declared.wire.WireFault.{WireFault}
 use Rattle.wb_model.specs.declared.wire.WireFault.TheVariants as faults
 use Rattle.wb_model.specs.Acts.{closed, has_status, acknowledged, has_reader, not_reader, same_context, context_closed, postpone_spent, full, case_fault, act_status}
 use Rattle.wb_model.specs.Bodies.{json, Numbers, bare, shaped}
-use Rattle.wb_model.specs.Built.{is_built}
 use Rattle.wb_model.specs.Changes.{At, Change, Answer, Says, Shows_own, Shows_identity, judged}
 use Rattle.wb_model.specs.Commands.{Need, Anyone, Any_session, Own, Staff, Names, need, has_right}
 use Rattle.wb_model.specs.Doings.{Doing, Acts, Moves, doing_fault, doing_told, actor_of}
@@ -48,8 +47,8 @@ use Rattle.wb_model.specs.Past.{Past, plain, tables}
 use Rattle.wb_model.specs.PastTurns.{at_frame, target_at, reply_at}
 use Rattle.wb_model.specs.Pasts.{AllOpened, part, has_tenant, reply_in}
 use Rattle.wb_model.specs.Playing.{IsPlaceOf, ArePlacesOf, is_loss, AreLossesTold}
-use Rattle.wb_model.specs.Readings.{Reading, Asks, Refuses, Reads, and_then, sized_by, sized, located, located_or_fault, routed, body_by, command_by, command, built, asks, reading_by}
-use Rattle.wb_model.specs.Refusals.{keeper_failed, no_memory, not_found, no_session, wrong_role, wrong_right, bad_login, numbers_spent, quota_spent, receipt_taken, not_built, faulty, form_faulty}
+use Rattle.wb_model.specs.Readings.{Reading, Asks, Refuses, Reads, and_then, sized_by, sized, located, located_or_fault, routed, body_by, command_by, command, asks, reading_by}
+use Rattle.wb_model.specs.Refusals.{keeper_failed, no_memory, not_found, no_session, wrong_role, wrong_right, bad_login, numbers_spent, quota_spent, receipt_taken, faulty, form_faulty}
 use Rattle.wb_model.specs.Refusing.{refuses_where}
 use Rattle.wb_model.specs.Replies.{fault_told}
 use Rattle.wb_model.specs.Requests.{Frame, Outcome, Unchecked, Checked, Request, outline, plain_part}
@@ -425,7 +424,7 @@ asked_told past f ByMemory = refl
 asked_told past f (Unread close) = refl
 
 fault_not_lost : (fault : WireFault) → fault ≢ faults.Memory → Served (fault_told fault)
-unfolding fault_told not_found not_built
+unfolding fault_told not_found
 fault_not_lost faults.Memory ne = absurd (ne refl)
 fault_not_lost _ ne = refl
 
@@ -471,8 +470,7 @@ asks_wants method text fields rest =
     then_wants _ (sized fields rest) (then_wants (sized_by rest) (declared_length fields) (test_wants (is_absent (codes "transfer-encoding") fields) _ _ (said_wants (values (codes "content-length") fields)) (λ e. cc))
     (λ said. test_wants (length rest == unwrap_or said 0) _ _ (λ e. cc) (λ e. cc)))
     (λ said. then_wants _ (located_or_fault text) (given_wants (located text) faults.NoRoute (λ e. cc))
-    (λ place. then_wants built _ (then_wants (command place.at rest said) (routed method place) (given_wants (route method place.methods) (faults.NoMethod place.number) (λ e. cc)) (λ r. command_wants place.at rest said r (bare r place.at)))
-    (λ c. test_wants (is_built c) _ _ (λ e. cc) (λ e. cc))))
+    (λ place. then_wants (command place.at rest said) (routed method place) (given_wants (route method place.methods) (faults.NoMethod place.number) (λ e. cc)) (λ r. command_wants place.at rest said r (bare r place.at))))
 
 refused_by : (presented : Presented) (closing : Bool) (r : Result Command WireFault) (fault : WireFault) (close : Bool) → Refuses fault close ≡ reading_by presented closing r → Wanting r → fault ≢ faults.Memory
 refused_by presented closing (Ok c) fault close is wants = λ e. cc

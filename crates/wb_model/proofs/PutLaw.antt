@@ -29,120 +29,120 @@ abbrev pub AreAfter : Key → List Row → Type 0
 AreAfter k [] = Unit {0}
 AreAfter k (r ∷ rs) = (key_cmp r.key k ≡ Greater) × AreAfter k rs
 
-less_kind : (k m : Key) → k.kind < m.kind → key_cmp k m ≡ Less
+pub less_kind : (k m : Key) → k.kind < m.kind → key_cmp k m ≡ Less
 less_kind k m lt = rw (sym (nat_cmp_is k.kind m.kind Less lt)) refl
 
-above_kind : (k m : Key) → m.kind < k.kind → key_cmp k m ≡ Greater
+pub above_kind : (k m : Key) → m.kind < k.kind → key_cmp k m ≡ Greater
 above_kind k m lt = rw (sym (nat_cmp_is k.kind m.kind Greater lt)) refl
 
-less_tenant : (k m : Key) → k.kind ≡ m.kind → k.tenant < m.tenant → key_cmp k m ≡ Less
+pub less_tenant : (k m : Key) → k.kind ≡ m.kind → k.tenant < m.tenant → key_cmp k m ≡ Less
 less_tenant k m same lt = rw (sym (nat_cmp_is k.kind m.kind Equal same), sym (nat_cmp_is k.tenant m.tenant Less lt)) refl
 
-above_tenant : (k m : Key) → k.kind ≡ m.kind → m.tenant < k.tenant → key_cmp k m ≡ Greater
+pub above_tenant : (k m : Key) → k.kind ≡ m.kind → m.tenant < k.tenant → key_cmp k m ≡ Greater
 above_tenant k m same lt = rw (sym (nat_cmp_is k.kind m.kind Equal same), sym (nat_cmp_is k.tenant m.tenant Greater lt)) refl
 
-less_number : (k m : Key) → k.kind ≡ m.kind → k.tenant ≡ m.tenant → k.a < m.a → key_cmp k m ≡ Less
+pub less_number : (k m : Key) → k.kind ≡ m.kind → k.tenant ≡ m.tenant → k.a < m.a → key_cmp k m ≡ Less
 less_number k m same here lt = rw (sym (nat_cmp_is k.kind m.kind Equal same), sym (nat_cmp_is k.tenant m.tenant Equal here), sym (nat_cmp_is k.a m.a Less lt)) refl
 
-same_key : (t a b kind : ℕ) → key_cmp (record { kind = kind; tenant = t; a = a; b = b }) (record { kind = kind; tenant = t; a = a; b = b }) ≡ Equal
+pub same_key : (t a b kind : ℕ) → key_cmp (record { kind = kind; tenant = t; a = a; b = b }) (record { kind = kind; tenant = t; a = a; b = b }) ≡ Equal
 same_key t a b kind = rw (sym (nat_cmp_is kind kind Equal refl), sym (nat_cmp_is t t Equal refl), sym (nat_cmp_is a a Equal refl), sym (nat_cmp_is b b Equal refl)) refl
 
 -- ---- a row that is put
 
-abbrev put : List Row → Row → List Row
+abbrev pub put : List Row → Row → List Row
 put rows x = insert_item key_cmp key_of rows x
 
-put_past : (a b : List Row) (x : Row) → AreBefore x.key a → put (a ++ b) x ≡ a ++ put b x
+pub put_past : (a b : List Row) (x : Row) → AreBefore x.key a → put (a ++ b) x ≡ a ++ put b x
 put_past [] b x h = refl
 put_past (r ∷ a) b x h = rw h.0 (ap (λ l. r ∷ l) (put_past a b x h.1))
 
 -- in place of a row with its key
-put_at : (a b c : List Row) (r x : Row) → AreBefore x.key a → key_cmp r.key x.key ≡ Equal → put ((a ++ (r ∷ b)) ++ c) x ≡ (a ++ (x ∷ b)) ++ c
+pub put_at : (a b c : List Row) (r x : Row) → AreBefore x.key a → key_cmp r.key x.key ≡ Equal → put ((a ++ (r ∷ b)) ++ c) x ≡ (a ++ (x ∷ b)) ++ c
 put_at [] b c r x h e = rw e refl
 put_at (s ∷ a) b c r x h e = rw h.0 (ap (λ l. s ∷ l) (put_at a b c r x h.1 e))
 
-put_here : (a b : List Row) (x : Row) → AreAfter x.key a → AreAfter x.key b → put (a ++ b) x ≡ x ∷ (a ++ b)
+pub put_here : (a b : List Row) (x : Row) → AreAfter x.key a → AreAfter x.key b → put (a ++ b) x ≡ x ∷ (a ++ b)
 put_here [] [] x h k = refl
 put_here [] (r ∷ b) x h k = rw k.0 refl
 put_here (r ∷ a) b x h k = rw h.0 refl
 
 -- between rows
-put_mid : (a b c : List Row) (x : Row) → AreBefore x.key a → AreAfter x.key b → AreAfter x.key c → put ((a ++ b) ++ c) x ≡ (a ++ (x ∷ b)) ++ c
+pub put_mid : (a b c : List Row) (x : Row) → AreBefore x.key a → AreAfter x.key b → AreAfter x.key c → put ((a ++ b) ++ c) x ≡ (a ++ (x ∷ b)) ++ c
 put_mid [] b c x h k m = put_here b c x k m
 put_mid (r ∷ a) b c x h k m = rw h.0 (ap (λ l. r ∷ l) (put_mid a b c x h.1 k m))
 
-put_last : (a b : List Row) (x : Row) → AreBefore x.key a → AreAfter x.key b → put (a ++ b) x ≡ a ++ (x ∷ b)
+pub put_last : (a b : List Row) (x : Row) → AreBefore x.key a → AreAfter x.key b → put (a ++ b) x ≡ a ++ (x ∷ b)
 put_last [] [] x h k = refl
 put_last [] (r ∷ b) x h k = rw k.0 refl
 put_last (r ∷ a) b x h k = rw h.0 (ap (λ l. r ∷ l) (put_last a b x h.1 k))
 
-before_append : (k : Key) (a b : List Row) → AreBefore k a → AreBefore k b → AreBefore k (a ++ b)
+pub before_append : (k : Key) (a b : List Row) → AreBefore k a → AreBefore k b → AreBefore k (a ++ b)
 before_append k [] b h g = g
 before_append k (r ∷ a) b h g = (h.0, before_append k a b h.1 g)
 
-before_each : {X : Type 0} (k : Key) (f : X → List Row) (xs : List X) → ((x : X) → Held x xs → AreBefore k (f x)) → AreBefore k (each f xs)
+pub before_each : {X : Type 0} (k : Key) (f : X → List Row) (xs : List X) → ((x : X) → Held x xs → AreBefore k (f x)) → AreBefore k (each f xs)
 before_each k f [] h = tt
 before_each k f (x ∷ xs) h = before_append k (f x) (each f xs) (h x (inl refl)) (before_each k f xs (λ y held. h y (inr held)))
 
-before_map : {X : Type 0} (k : Key) (f : X → Row) (xs : List X) → ((x : X) → key_cmp (f x).key k ≡ Less) → AreBefore k (map f xs)
+pub before_map : {X : Type 0} (k : Key) (f : X → Row) (xs : List X) → ((x : X) → key_cmp (f x).key k ≡ Less) → AreBefore k (map f xs)
 before_map k f [] h = tt
 before_map k f (x ∷ xs) h = (h x, before_map k f xs h)
 
-after_append : (k : Key) (a b : List Row) → AreAfter k a → AreAfter k b → AreAfter k (a ++ b)
+pub after_append : (k : Key) (a b : List Row) → AreAfter k a → AreAfter k b → AreAfter k (a ++ b)
 after_append k [] b h g = g
 after_append k (r ∷ a) b h g = (h.0, after_append k a b h.1 g)
 
-after_each : {X : Type 0} (k : Key) (f : X → List Row) (xs : List X) → ((x : X) → Held x xs → AreAfter k (f x)) → AreAfter k (each f xs)
+pub after_each : {X : Type 0} (k : Key) (f : X → List Row) (xs : List X) → ((x : X) → Held x xs → AreAfter k (f x)) → AreAfter k (each f xs)
 after_each k f [] h = tt
 after_each k f (x ∷ xs) h = after_append k (f x) (each f xs) (h x (inl refl)) (after_each k f xs (λ y held. h y (inr held)))
 
-each_append : {X : Type 0} (f : X → List Row) (xs ys : List X) → each f (xs ++ ys) ≡ each f xs ++ each f ys
+pub each_append : {X : Type 0} (f : X → List Row) (xs ys : List X) → each f (xs ++ ys) ≡ each f xs ++ each f ys
 each_append f [] ys = refl
 each_append f (x ∷ xs) ys = ap (λ l. f x ++ l) (each_append f xs ys) ∙ sym (append_assoc (f x) (each f xs) (each f ys))
 
-each_mid : {X : Type 0} (f : X → List Row) (xs ys : List X) (x : X) → each f (xs ++ (x ∷ ys)) ≡ (each f xs ++ f x) ++ each f ys
+pub each_mid : {X : Type 0} (f : X → List Row) (xs ys : List X) (x : X) → each f (xs ++ (x ∷ ys)) ≡ (each f xs ++ f x) ++ each f ys
 each_mid f xs ys x = each_append f xs (x ∷ ys) ∙ sym (append_assoc (each f xs) (f x) (each f ys))
 
-entries_before : (w : Texts) (k : Key) (t n i : ℕ) (es : List Entry) → ((j : ℕ) → key_cmp (record { kind = 6; tenant = t; a = n; b = j }) k ≡ Less) → AreBefore k (entry_rows w t n i es)
+pub entries_before : (w : Texts) (k : Key) (t n i : ℕ) (es : List Entry) → ((j : ℕ) → key_cmp (record { kind = 6; tenant = t; a = n; b = j }) k ≡ Less) → AreBefore k (entry_rows w t n i es)
 entries_before w k t n i [] h = tt
 entries_before w k t n i (e ∷ es) h = (h i, entries_before w k t n (i + 1) es h)
 
-entries_after : (w : Texts) (k : Key) (t n i : ℕ) (es : List Entry) → ((j : ℕ) → key_cmp (record { kind = 6; tenant = t; a = n; b = j }) k ≡ Greater) → AreAfter k (entry_rows w t n i es)
+pub entries_after : (w : Texts) (k : Key) (t n i : ℕ) (es : List Entry) → ((j : ℕ) → key_cmp (record { kind = 6; tenant = t; a = n; b = j }) k ≡ Greater) → AreAfter k (entry_rows w t n i es)
 entries_after w k t n i [] h = tt
 entries_after w k t n i (e ∷ es) h = (h i, entries_after w k t n (i + 1) es h)
 
-sealed_before : (w : Texts) (k : Key) (t n : ℕ) (o : Option Answered) → key_cmp (record { kind = 7; tenant = t; a = n; b = 0 }) k ≡ Less → AreBefore k (sealed_row w t n o)
+pub sealed_before : (w : Texts) (k : Key) (t n : ℕ) (o : Option Answered) → key_cmp (record { kind = 7; tenant = t; a = n; b = 0 }) k ≡ Less → AreBefore k (sealed_row w t n o)
 sealed_before w k t n None h = tt
 sealed_before w k t n (Some a) h = (h, tt)
 
-sealed_after : (w : Texts) (k : Key) (t n : ℕ) (o : Option Answered) → key_cmp (record { kind = 7; tenant = t; a = n; b = 0 }) k ≡ Greater → AreAfter k (sealed_row w t n o)
+pub sealed_after : (w : Texts) (k : Key) (t n : ℕ) (o : Option Answered) → key_cmp (record { kind = 7; tenant = t; a = n; b = 0 }) k ≡ Greater → AreAfter k (sealed_row w t n o)
 sealed_after w k t n None h = tt
 sealed_after w k t n (Some a) h = (h, tt)
 
-at_most : (last : ℕ) (cs : List Case) (c : Case) → AtMost last cs → Held c cs → c.number ≤ last
+pub at_most : (last : ℕ) (cs : List Case) (c : Case) → AtMost last cs → Held c cs → c.number ≤ last
 at_most last [] c h held = absurd held
 at_most last (d ∷ cs) c h (inl e) = let same : c.number ≡ d.number = ap (λ (x : Case). x.number) e in omega (arith, same, h.0)
 at_most last (d ∷ cs) c h (inr held) = at_most last cs c h.1 held
 
-under_other : (n k : ℕ) (given : Option Answered) (sealed : Sealed) → (n == k) ≡ false → sealed_under k given sealed n ≡ sealed n
+pub under_other : (n k : ℕ) (given : Option Answered) (sealed : Sealed) → (n == k) ≡ false → sealed_under k given sealed n ≡ sealed n
 under_other n k None sealed ne = refl
 under_other n k (Some a) sealed ne = rw ne refl
 
-under_here : (k : ℕ) (given : Option Answered) (sealed : Sealed) → sealed k ≡ None → sealed_under k given sealed k ≡ given
+pub under_here : (k : ℕ) (given : Option Answered) (sealed : Sealed) → sealed k ≡ None → sealed_under k given sealed k ≡ given
 under_here k None sealed none = none
 under_here k (Some a) sealed none = let self : (k == k) ≡ true = grind (arith, nat_tests) in rw self refl
 
-shift : (a b c : List Row) (x : Row) → (a ++ (b ++ (x ∷ []))) ++ c ≡ (a ++ b) ++ (x ∷ c)
+pub shift : (a b c : List Row) (x : Row) → (a ++ (b ++ (x ∷ []))) ++ c ≡ (a ++ b) ++ (x ∷ c)
 shift a b c x = append_assoc a (b ++ (x ∷ [])) c ∙ (ap (λ l. a ++ l) (append_assoc b (x ∷ []) c) ∙ sym (append_assoc a b (x ∷ c)))
 
-each_same : {X : Type 0} (f g : X → List Row) (xs : List X) → ((x : X) → Held x xs → f x ≡ g x) → each f xs ≡ each g xs
+pub each_same : {X : Type 0} (f g : X → List Row) (xs : List X) → ((x : X) → Held x xs → f x ≡ g x) → each f xs ≡ each g xs
 each_same f g [] h = refl
 each_same f g (x ∷ xs) h = ap (λ l. l ++ each f xs) (h x (inl refl)) ∙ ap (λ l. g x ++ l) (each_same f g xs (λ y held. h y (inr held)))
 
-each_swap : {X : Type 0} (f : X → List Row) (xs ys : List X) (x y : X) → f x ≡ f y → each f (xs ++ (x ∷ ys)) ≡ each f (xs ++ (y ∷ ys))
+pub each_swap : {X : Type 0} (f : X → List Row) (xs ys : List X) (x y : X) → f x ≡ f y → each f (xs ++ (x ∷ ys)) ≡ each f (xs ++ (y ∷ ys))
 each_swap f xs ys x y e = each_append f xs (x ∷ ys) ∙ (ap (λ l. each f xs ++ (l ++ each f ys)) e ∙ sym (each_append f xs (y ∷ ys)))
 
-append_nil : (a : List Row) → a ++ [] ≡ a
+pub append_nil : (a : List Row) → a ++ [] ≡ a
 append_nil [] = refl
 append_nil (r ∷ a) = ap (λ l. r ∷ l) (append_nil a)
 

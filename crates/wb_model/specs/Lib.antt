@@ -1,5 +1,4 @@
 pub mod BodyBytes
-pub mod Built
 pub mod Trails
 pub mod Access
 pub mod Acts

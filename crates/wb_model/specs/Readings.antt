@@ -1,4 +1,4 @@
--- What the bytes of a request are read as: what it asks, or the first of eleven faults.
+-- What the bytes of a request are read as: what it asks, or the first of its faults.
 use Rattle.std.specs.Prelude.{ℕ, ◌≡◌, ◌==◌, ◌||◌, ◌⊎◌, Bool, true, false, if◌then◌else◌, List, length, Option, Some, None, Result, Ok, Err, option_and_then, unwrap_or, ok_or}
 use Rattle.httparse.specs.Grammar.{RequestHead}
 use Rattle.serde_json.specs.Data.{Data}
@@ -8,7 +8,6 @@ use Rattle.wb_model.specs.declared.command.Command.{Command}
 use Rattle.wb_model.specs.declared.route.Route.{Route}
 use Rattle.wb_model.specs.declared.wire.WireFault.{WireFault}
 use Rattle.wb_model.specs.declared.wire.WireFault.TheVariants as faults
-use Rattle.wb_model.specs.Built.{is_built}
 use Rattle.wb_model.specs.Heads.{Fields, fields_of, path, declared_length, session, closes_by, closes, BeginsWithHead, HasNoHead}
 use Rattle.wb_model.specs.Routes.{Method, Path, number_of_path, path_at, segments, are_numbers, number_under, route}
 use Rattle.wb_model.specs.Bodies.{json, Numbers, bare, shaped}
@@ -68,16 +67,12 @@ command_by route at rest said None = and_then (λ d. ok_or (shaped route at d) f
 abbrev pub command : Numbers → List ℕ → Option ℕ → Route → Result Command WireFault
 command at rest said route = command_by route at rest said (bare route at)
 
--- the route is built
-abbrev pub built : Command → Result Command WireFault
-built command = if is_built command then Ok command else Err faults.NotBuilt
-
 -- ---- the reading
 
 -- what a method on a path asks with these fields and what follows the head, or the first fault
 abbrev pub asks : List ℕ → List ℕ → Fields → List ℕ → Result Command WireFault
 asks method text fields rest =
-    and_then (λ said. and_then (λ place. and_then built (and_then (command place.at rest said) (routed method place))) (located_or_fault text)) (sized fields rest)
+    and_then (λ said. and_then (λ place. and_then (command place.at rest said) (routed method place)) (located_or_fault text)) (sized fields rest)
 
 -- the connection closes after these faults whatever the head asks for
 abbrev pub closes_always : WireFault → Bool
@@ -89,7 +84,6 @@ closes_always faults.NoRoute = false
 closes_always (faults.NoMethod path) = false
 closes_always faults.BadJson = false
 closes_always faults.BadShape = false
-closes_always faults.NotBuilt = true
 closes_always faults.Memory = false
 
 abbrev pub reading_by : Presented → Bool → Result Command WireFault → Reading

@@ -71,9 +71,6 @@ receipt_taken = refused 409 (codes "receipt_taken") Null
 unfoldable pub turns_spent : Told
 turns_spent = refused 429 (codes "turns_spent") (Whole 1_000_000_000_000_000)
 
-unfoldable pub not_built : Told
-not_built = refused 501 (codes "not_built") Bare
-
 abbrev pub answer_code : ℕ → List ℕ
 answer_code code =
     if code == UNKNOWN then codes "unknown"

@@ -4,7 +4,7 @@ use Rattle.http.specs.StatusCode.{status_text}
 use Rattle.wb_model.specs.declared.body.Told.{Told}
 use Rattle.wb_model.specs.declared.wire.WireFault.{WireFault}
 use Rattle.wb_model.specs.declared.wire.WireFault.TheVariants as faults
-use Rattle.wb_model.specs.Refusals.{refused, Bare, not_found, not_built, no_memory}
+use Rattle.wb_model.specs.Refusals.{refused, Bare, not_found, no_memory}
 use Rattle.wb_model.specs.Routes.{methods, method_names}
 
 -- ---- the reply to a request that is not read
@@ -18,7 +18,6 @@ fault_told faults.NoRoute = not_found
 fault_told (faults.NoMethod path) = refused 405 (codes "no_method") Bare
 fault_told faults.BadJson = refused 400 (codes "bad_json") Bare
 fault_told faults.BadShape = refused 400 (codes "bad_shape") Bare
-fault_told faults.NotBuilt = not_built
 fault_told faults.Memory = no_memory
 
 -- the path whose methods the reply lists
@@ -31,7 +30,6 @@ fault_allow faults.NoRoute = None
 fault_allow (faults.NoMethod path) = Some path
 fault_allow faults.BadJson = None
 fault_allow faults.BadShape = None
-fault_allow faults.NotBuilt = None
 fault_allow faults.Memory = None
 
 -- ---- a reply's bytes

@@ -23,7 +23,7 @@ use Rattle.wb_model.specs.ShortViews.{submission_view}
 use Rattle.wb_model.specs.Submissions.{Drawing, drawing, submission_entry}
 use Rattle.wb_model.specs.Tables.{Registry, Plain, Who, context, newest_form}
 use Rattle.wb_tables.specs.Places.{AreGoodForms}
-use Rattle.wb_plan.specs.Plans.{submission_verdict, drawing_refusal, PlansSubmission, IsPlan, IsBegun, IsFit, Gives, begins, change_of, IsAsking}
+use Rattle.wb_plan.specs.Plans.{submission_verdict, drawing_refusal, PlansSubmission, IsPlan, IsBegun, IsFitAtOnce, Gives, begins, change_of, IsAsking}
 use Rattle.wb_plan.specs.declared.plan.Planned.{Planned}
 use Rattle.wb_model.specs.declared.entry.Entry.{Entry}
 use Rattle.wb_tables.specs.declared.tenancy.Tenancy.{Tenancy as KeptTenancy}
@@ -32,15 +32,8 @@ use Rattle.wb_plan.specs.declared.plan.Planned.TheVariants as planned
 
 -- ---- plans of verdicts
 
-pub refused_plan : (sealed : Sealed) (v : Verdict) (s : Option Answered) (r : Told) (plan : Plan) → v ≡ Refused r → plan.told ≡ r → plan.change ≡ planned.Nothing → IsPlan sealed v s plan
-refused_plan sealed v s r plan e t o = subst (λ w. IsPlan sealed w s plan) (sym e) (record {
-  reply = sym t;
-  change = ap change_of (sym o);
-  given = subst (λ x. Gives x s) (sym o) tt;
-})
-
-pub made_plan : (sealed : Sealed) (v : Verdict) (s : Option Answered) (change : Change) (t : Told) (plan : Plan) → v ≡ Accepted change (Says t) → plan.told ≡ t → change ≡ change_of plan.change → Gives plan.change s → IsPlan sealed v s plan
-made_plan sealed v s change t plan e told same has = subst (λ w. IsPlan sealed w s plan) (sym e) (record {
+pub made_plan : (id : ℕ) (g : Registry) (sealed : Sealed) (v : Verdict) (s : Option Answered) (change : Change) (t : Told) (plan : Plan) → v ≡ Accepted change (Says t) → plan.told ≡ t → change ≡ change_of id g plan.change → Gives plan.change s → IsPlan id g sealed v s plan
+made_plan id g sealed v s change t plan e told same has = subst (λ w. IsPlan id g sealed w s plan) (sym e) (record {
   reply = sym told;
   change = same;
   given = has;
@@ -101,33 +94,45 @@ number_left quota n e = by (nat_le 4_294_967_295 n.last) refl e
     by true is f = absurd cc
     by false is f = grind (arith, nat_tests, is)
 
-begins_it : (c : Planned) (e : Entry) (given : Option Answered) → IsBegun c e given → change_of c ≡ Begins e
-begins_it (planned.Begins o) e given is = ap begins is.0
-begins_it planned.Nothing e given is = absurd is
+begins_it : (id : ℕ) (g : Registry) (c : Planned) (e : Entry) (given : Option Answered) → IsBegun c e given → change_of id g c ≡ Begins e
+begins_it id g (planned.Begins o) e given is = ap begins is.0
+begins_it id g planned.Nothing e given is = absurd is
+begins_it id g (planned.Notes n) e given is = absurd is
+begins_it id g (planned.LogsIn l) e given is = absurd is
+begins_it id g (planned.LogsOut turn who) e given is = absurd is
+begins_it id g (planned.Configures c) e given is = absurd is
 
 gives_it : (c : Planned) (e : Entry) (given secret : Option Answered) → IsBegun c e given → given ≡ secret → Gives c secret
 gives_it (planned.Begins o) e given secret is same = is.1 ∙ same
 gives_it planned.Nothing e given secret is same = absurd is
+gives_it (planned.Notes n) e given secret is same = absurd is
+gives_it (planned.LogsIn l) e given secret is same = absurd is
+gives_it (planned.LogsOut turn who) e given secret is same = absurd is
+gives_it (planned.Configures c) e given secret is same = absurd is
 
 -- a report has a number where nothing stands in the way of a draw
-pub fit_begun : (x : KeptTenancy) (c : Planned) (e : Entry) (given : Option Answered) → x.numbering.last < 4_294_967_295 → requests (e ∷ []) ≡ [] → IsBegun c e given → IsFit x c
+pub fit_begun : (x : KeptTenancy) (c : Planned) (e : Entry) (given : Option Answered) → x.numbering.last < 4_294_967_295 → requests (e ∷ []) ≡ [] → IsBegun c e given → IsFitAtOnce x c
 fit_begun x (planned.Begins o) e given lt none is = (lt, (e, is.0), ap requests is.0 ∙ none)
 fit_begun x planned.Nothing e given lt none is = absurd is
+fit_begun x (planned.Notes n) e given lt none is = absurd is
+fit_begun x (planned.LogsIn l) e given lt none is = absurd is
+fit_begun x (planned.LogsOut turn who) e given lt none is = absurd is
+fit_begun x (planned.Configures c) e given lt none is = absurd is
 
 pub asks_none : (at : At) (g : Registry) (o : Outcome) (c : ContextItem) (item : FormItem) → requests (submission_entry at g o c item ∷ []) ≡ []
 unfolding submission_entry
 asks_none at g o c item = refl
 
-pub begun : (p : Plain) (at : At) (id : ℕ) (answers : Answered) (c : ContextItem) (item : FormItem) (given sealed : Answered) (m : Bool)
+pub begun : (t : ℕ) (p : Plain) (at : At) (id : ℕ) (answers : Answered) (c : ContextItem) (item : FormItem) (given sealed : Answered) (m : Bool)
     → IsAsking p.registry id c item → submission_fault item.form answers ≡ None → drawing_refusal p.registry.settings.quota (drawing at p) ≡ None
     → given ≡ public item.form answers → sealed ≡ secret item.form answers → m ≡ mark item.form answers
     → (plan : Plan) → plan.told ≡ says p at
     → IsBegun plan.change (submission_entry at p.registry (Checked None given m) c item) (if m then Some sealed else None)
-    → PlansSubmission p at id answers plan
-begun p at id answers c item given sealed m a valid free g s k plan t o = λ who held.
-    made_plan held (verdict_at p at who id answers) (submission_secret (form_at p id) answers) _ _ plan (begun_verdict p at who id answers c item a valid free) t
+    → PlansSubmission t p at id answers plan
+begun t p at id answers c item given sealed m a valid free g s k plan tells o = λ who held.
+    made_plan t p.registry held (verdict_at p at who id answers) (submission_secret (form_at p id) answers) _ _ plan (begun_verdict p at who id answers c item a valid free) tells
     (ap (λ (a : Answered). Begins (submission_entry at p.registry (Checked None a (mark item.form answers)) c item)) (sym g)
-    ∙ (ap (λ (b : Bool). Begins (submission_entry at p.registry (Checked None given b) c item)) (sym k) ∙ sym (begins_it plan.change _ _ o)))
+    ∙ (ap (λ (b : Bool). Begins (submission_entry at p.registry (Checked None given b) c item)) (sym k) ∙ sym (begins_it t p.registry plan.change _ _ o)))
     (gives_it plan.change _ _ _ o
     (ap (λ (b : Bool). if b then Some sealed else None) k
     ∙ (ap (λ (z : Answered). if mark item.form answers then Some z else None) s

@@ -1,3 +1,5 @@
 pub mod Needs
 pub mod Plans
+pub mod Steps
+pub mod Suited
 pub mod Targeted

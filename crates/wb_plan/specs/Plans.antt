@@ -1,5 +1,5 @@
 -- What the code plans stands for.
-use Rattle.std.specs.Prelude.{◌≡◌, ℕ, ◌<◌, nat_le, true, List, [], ◌∷◌, Option, Some, None}
+use Rattle.std.specs.Prelude.{◌≡◌, ℕ, ◌<◌, nat_le, true, List, [], ◌∷◌, Option, Some, None, map}
 use Rattle.std.specs.Option.{option_or}
 use Rattle.wb_base.specs.AnswerList.{Answered}
 use Rattle.wb_base.specs.AnswerFaults.{answers_fault, public_of, sealed_of, is_marked}
@@ -11,7 +11,7 @@ use Rattle.wb_model.specs.declared.entry.Entry.{Entry}
 use Rattle.wb_model.specs.declared.registry.ContextItem.{ContextItem}
 use Rattle.wb_model.specs.declared.registry.FormItem.{FormItem}
 use Rattle.wb_model.specs.Access.{requests}
-use Rattle.wb_model.specs.Changes.{At, Change, Nothing, Begins, Verdict, judged}
+use Rattle.wb_model.specs.Changes.{At, Change, Nothing, Begins, Notes, LogsIn, LogsOut, Configures, Verdict, judged}
 use Rattle.wb_model.specs.Effects.{Submits, in_open}
 use Rattle.wb_model.specs.Host.{Sealed, Tables, ruling, reply_by, change_of as verdict_change}
 use Rattle.wb_model.specs.Refusals.{numbers_spent, quota_spent, receipt_taken}
@@ -19,9 +19,13 @@ use Rattle.wb_model.specs.Refusing.{refuses_where}
 use Rattle.wb_model.specs.Requests.{Outcome, asking_form, submission_outcome, submission_secret, request, sealed_part}
 use Rattle.wb_model.specs.Rules.{refusal_alone, change_alone, answer_alone, verdict_on}
 use Rattle.wb_model.specs.Submissions.{Drawing, drawing}
-use Rattle.wb_model.specs.Tables.{Registry, Plain, Who, context as context_by, newest_form}
-use Rattle.wb_model.specs.Targets.{Target}
+use Rattle.wb_model.specs.Tables.{Registry, Plain, Session, Who, context as context_by, newest_form, is_there}
+use Rattle.wb_model.specs.Targets.{Target, trail_at}
 use Rattle.wb_tables.specs.declared.tenancy.Tenancy.{Tenancy as KeptTenancy}
+use Rattle.wb_tables.specs.Configured.{IsReady as IsReadyToSet, row_of, setting_of}
+use Rattle.wb_tables.specs.Kept.{plain_of, live_plain}
+use Rattle.wb_tables.specs.Logins.{AreEarlier, login_of, session_of, who_seen}
+use Rattle.wb_tables.specs.Noted.{IsReady}
 use Rattle.wb_plan.specs.declared.plan.At.{At as KeptAt}
 use Rattle.wb_plan.specs.declared.plan.Plan.{Plan}
 use Rattle.wb_plan.specs.declared.plan.Planned.{Planned}
@@ -35,55 +39,106 @@ abbrev pub begins : List Entry → Change
 begins [] = Nothing
 begins (e ∷ es) = Begins e
 
-abbrev pub change_of : Planned → Change
-change_of planned.Nothing = Nothing
-change_of (planned.Begins o) = begins o.case.items
+-- what is planned of a tenant that is set up so
+abbrev pub change_of : ℕ → Registry → Planned → Change
+change_of t g planned.Nothing = Nothing
+change_of t g (planned.Begins o) = begins o.case.items
+change_of t g (planned.Notes n) = Notes n.number n.entry
+change_of t g (planned.LogsIn login) = LogsIn (login_of login)
+change_of t g (planned.LogsOut turn who) = LogsOut turn (who_seen who)
+change_of t g (planned.Configures c) = Configures (setting_of t g c.proposal)
 
 -- the identity answers that come with it
 abbrev pub given_of : Planned → Option Answered
-given_of planned.Nothing = None
 given_of (planned.Begins o) = o.secret
+given_of (planned.Notes n) = n.secret
+given_of planned.Nothing = None
+given_of (planned.LogsIn login) = None
+given_of (planned.LogsOut turn who) = None
+given_of (planned.Configures c) = None
 
 -- a change that takes identity answers has these
 abbrev pub Gives : Planned → Option Answered → Type 0
-Gives planned.Nothing given = Unit {0}
 Gives (planned.Begins o) given = o.secret ≡ given
+Gives (planned.Notes n) given = n.secret ≡ given
+Gives planned.Nothing given = Unit {0}
+Gives (planned.LogsIn login) given = Unit {0}
+Gives (planned.LogsOut turn who) given = Unit {0}
+Gives (planned.Configures c) given = Unit {0}
 
 -- a report begins with this entry, and these identity answers
 abbrev pub IsBegun : Planned → Entry → Option Answered → Type 0
-IsBegun planned.Nothing entry secret = ⊥
 IsBegun (planned.Begins o) entry secret = (o.case.items ≡ entry ∷ []) × (o.secret ≡ secret)
+IsBegun planned.Nothing entry secret = ⊥
+IsBegun (planned.Notes n) entry secret = ⊥
+IsBegun (planned.LogsIn login) entry secret = ⊥
+IsBegun (planned.LogsOut turn who) entry secret = ⊥
+IsBegun (planned.Configures c) entry secret = ⊥
+
+-- this session begins
+abbrev pub IsLogin : Planned → Session → Type 0
+IsLogin (planned.LogsIn login) session = login_of login ≡ session
+IsLogin planned.Nothing session = ⊥
+IsLogin (planned.Begins o) session = ⊥
+IsLogin (planned.Notes n) session = ⊥
+IsLogin (planned.LogsOut turn who) session = ⊥
+IsLogin (planned.Configures c) session = ⊥
 
 -- ---- room
 
--- a report that begins has a number and one entry, which asks for no identity
-abbrev pub IsFit : KeptTenancy → Planned → Type 0
-IsFit x planned.Nothing = Unit {0}
-IsFit x (planned.Begins o) = (x.numbering.last < 4_294_967_295) × ((e : Entry) × (o.case.items ≡ e ∷ [])) × (requests o.case.items ≡ [])
+-- what a change that is planned at once asks of a tenant's tables but for room: a report that begins has a number and one entry,
+-- which asks for no identity; and a login is made at a later turn than all others
+abbrev pub IsFitAtOnce : KeptTenancy → Planned → Type 0
+IsFitAtOnce x planned.Nothing = Unit {0}
+IsFitAtOnce x (planned.Begins o) = (x.numbering.last < 4_294_967_295) × ((e : Entry) × (o.case.items ≡ e ∷ [])) × (requests o.case.items ≡ [])
+IsFitAtOnce x (planned.LogsIn login) = AreEarlier login.turn (map session_of x.sessions.items)
+IsFitAtOnce x (planned.LogsOut turn who) = Unit {0}
+IsFitAtOnce x (planned.Notes n) = ⊥
+IsFitAtOnce x (planned.Configures c) = ⊥
 
--- so much room for reports and for identity answers is enough for a change
-abbrev pub HasRoom : ℕ → ℕ → Planned → Type 0
-HasRoom cases sealed planned.Nothing = Unit {0}
-HasRoom cases sealed (planned.Begins o) = (0 < cases) × (0 < sealed)
+-- and so of each: an entry comes to a live report, and a setting comes with its row
+abbrev pub IsFit : ℕ → KeptTenancy → Planned → Type 0
+IsFit time x (planned.Notes n) = is_there n.number (live_plain time (plain_of x)).cases ≡ true
+IsFit time x (planned.Configures c) = c.row ≡ row_of x.configuration.tenant x.configuration.registry c.proposal
+IsFit time x planned.Nothing = Unit {0}
+IsFit time x (planned.Begins o) = IsFitAtOnce x (planned.Begins o)
+IsFit time x (planned.LogsIn login) = IsFitAtOnce x (planned.LogsIn login)
+IsFit time x (planned.LogsOut turn who) = Unit {0}
+
+-- so much room for identity answers, and what there is in a tenant's tables, is enough for a change
+abbrev pub HasRoom : KeptTenancy → ℕ → Planned → Type 0
+HasRoom x sealed planned.Nothing = Unit {0}
+HasRoom x sealed (planned.Begins o) = (0 < x.cases.spare) × (0 < sealed)
+HasRoom x sealed (planned.Notes n) = IsReady n.number n.entry x.cases.items × (0 < x.cases.spare) × (0 < sealed)
+HasRoom x sealed (planned.LogsIn login) = 0 < x.sessions.spare
+HasRoom x sealed (planned.LogsOut turn who) = Unit {0}
+HasRoom x sealed (planned.Configures c) = IsReadyToSet x.configuration c.proposal
 
 -- a tenant's tables, and the identity answers, have all that a change takes
-pub record IsRoomy (x : KeptTenancy) (sealed : ℕ) (change : Planned) : Type 0 where
-  pub fit : IsFit x change
-  pub room : HasRoom x.cases.spare sealed change
+pub record IsRoomy (time : ℕ) (x : KeptTenancy) (sealed : ℕ) (change : Planned) : Type 0 where
+  pub fit : IsFit time x change
+  pub room : HasRoom x sealed change
 
--- the plan is the verdict's reply over these identity answers, and its change, with those that the request gives
-pub record IsPlan (sealed : Sealed) (v : Verdict) (secret : Option Answered) (plan : Plan) : Type 0 where
+-- ---- plans
+
+-- the plan is the verdict's reply over these identity answers, and its change, with those that the request gives, of a tenant
+-- that is set up so
+pub record IsPlan (id : ℕ) (g : Registry) (sealed : Sealed) (v : Verdict) (secret : Option Answered) (plan : Plan) : Type 0 where
   pub reply : reply_by v sealed ≡ plan.told
-  pub change : verdict_change v ≡ change_of plan.change
+  pub change : verdict_change v ≡ change_of id g plan.change
   pub given : Gives plan.change secret
 
--- the plan of a request that a trail and a target are found for
-abbrev pub PlansOn : Plain → At → Asked → List Entry → Target → Plan → Type 0
-PlansOn p at a trail target plan = (sealed : Sealed) → IsPlan sealed (verdict_on p at (request p.registry trail a) target) (sealed_part p a) plan
+-- the plan of a request on this target
+abbrev pub PlansOn : ℕ → Tables → At → Asked → Target → Plan → Type 0
+PlansOn id t at a to plan = IsPlan id t.plain.registry t.sealed (verdict_on t.plain at (request t.plain.registry (trail_at to) a) to) (sealed_part t.plain a) plan
 
--- the plan of a request over purged tables
-abbrev pub Plans : Tables → At → Asked → Plan → Type 0
-Plans t at a plan = IsPlan t.sealed (ruling t at a) (sealed_part t.plain a) plan
+-- the plan of a request over a tenant's purged tables
+abbrev pub Plans : ℕ → Tables → At → Asked → Plan → Type 0
+Plans id t at a plan = IsPlan id t.plain.registry t.sealed (ruling t at a) (sealed_part t.plain a) plan
+
+-- a tenant's tables at a time, with these identity answers
+abbrev pub tables_at : ℕ → KeptTenancy → Sealed → Tables
+tables_at time x sealed = record { plain = live_plain time (plain_of x); sealed = sealed }
 
 -- ---- submissions
 
@@ -113,6 +168,6 @@ pub record IsSplit (form : Form) (answers : Answered) (split : Split) : Type 0 w
   pub mark : split.mark ≡ is_marked form answers
 
 -- the plan of a submission to a context
-abbrev pub PlansSubmission : Plain → At → ℕ → Answered → Plan → Type 0
-PlansSubmission p at id answers plan = let form = asking_form (context_by id p.registry.contexts) p.registry.forms in
-    (who : Option Who) (sealed : Sealed) → IsPlan sealed (submission_verdict p at who id (submission_outcome form answers)) (submission_secret form answers) plan
+abbrev pub PlansSubmission : ℕ → Plain → At → ℕ → Answered → Plan → Type 0
+PlansSubmission t p at id answers plan = let form = asking_form (context_by id p.registry.contexts) p.registry.forms in
+    (who : Option Who) (sealed : Sealed) → IsPlan t p.registry sealed (submission_verdict p at who id (submission_outcome form answers)) (submission_secret form answers) plan

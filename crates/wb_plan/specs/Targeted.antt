@@ -2,6 +2,7 @@
 use Rattle.std.specs.Prelude.{◌≡◌, option_map}
 use Rattle.wb_model.specs.declared.body.Told.{Told}
 use Rattle.wb_model.specs.Access.{requests}
+use Rattle.wb_model.specs.Faults.{case_told, custody_told, admin_told}
 use Rattle.wb_model.specs.Refusals.{not_found, no_session, wrong_role, wrong_right, bad_login, numbers_spent, quota_spent, receipt_taken}
 use Rattle.wb_model.specs.Targets.{Target, Nobody, Alone, On}
 use Rattle.wb_tables.specs.Kept.{case_of}
@@ -20,6 +21,9 @@ told_of refusals.BadLogin = bad_login
 told_of refusals.NumbersSpent = numbers_spent
 told_of (refusals.QuotaSpent quota) = quota_spent quota
 told_of refusals.ReceiptTaken = receipt_taken
+told_of (refusals.OfAct fault) = case_told fault
+told_of (refusals.OfMove fault) = custody_told fault
+told_of (refusals.OfSetting most fault) = admin_told most fault
 
 abbrev pub target_of : KeptTarget → Target
 target_of (targets.Nobody refusal) = Nobody (told_of refusal)

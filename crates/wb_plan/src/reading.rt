@@ -1,32 +1,32 @@
-//! A user's read of a report.
-ghost use Rattle.std.specs.Prelude.{◌≡◌, IfOk};
-ghost use Rattle.wb_model.specs.Access.{requests};
+//! What is shown of a report: to a user who finds it, to its reporter, and its identity answers under a grant.
+ghost use Rattle.std.specs.Prelude.{◌≡◌, [], if◌then◌else◌, unwrap_or, IfOk};
+ghost use Rattle.wb_custody.specs.SealedAnswers.{answers_of};
+ghost use Rattle.wb_model.specs.Access.{requests, in_force};
 ghost use Rattle.wb_model.specs.Json.{told};
-ghost use Rattle.wb_model.specs.OnReports.{read_by as read_reply};
-ghost use Rattle.wb_model.specs.Views.{recipient_view as recipient_data};
-ghost use Rattle.wb_plan.specs.Plans.{at_of};
+ghost use Rattle.wb_model.specs.Refusals.{not_found};
+ghost use Rattle.wb_model.specs.Tables.{disablings as disablings_of};
+ghost use Rattle.wb_model.specs.Views.{recipient_view as recipient_data, reporter_view as reporter_data, identity_view as identity_data};
 ghost use Rattle.wb_tables.specs.Kept.{case_of};
-ghost use Rattle.wb_tables.specs.Logins.{who_seen};
 
-use crate::plan::{At, Plan, Planned, answering, refusing};
-use crate::refused::Refusal;
+use crate::plan::At;
+use crate::refused::{Refusal, refuse};
 use std::alloc::Global;
-use wb_base::{Memory, UserId};
+use wb_base::{Answers, Memory, Tenant, UserId};
+use wb_custody::SealedTable;
 use wb_model::{Body, Told};
-use wb_tables::{Report, Tenancy, Who};
-use wb_views::recipient_view;
+use wb_tables::{Report, Tenancy};
+use wb_views::{identity_view, recipient_view, reporter_view};
 
-// The plan of a user's read of a report.
-fn read(
+/// The reply to a user's read of a report.
+pub fn read(
     alloc: Global,
     tenancy: &Tenancy,
     at: &At,
     user: UserId,
     report: &Report,
-) -> Result<Plan, Memory>
+) -> Result<Told, Memory>
     requires custodied { report.now.desk.items ≡ requests report.now.case.items }
-    ensures told { IfOk result (λ plan. plan.told ≡ told 200 (recipient_data tenancy.now.configuration.registry.users user at.now.time (case_of report.now))) }
-    ensures change { IfOk result (λ plan. plan.change ≡ Planned.Nothing) }
+    ensures { IfOk result (λ t. t ≡ told 200 (recipient_data tenancy.now.configuration.registry.users user at.now.time (case_of report.now))) }
 {
     let configuration = &tenancy.configuration;
     let body = recipient_view(
@@ -39,26 +39,67 @@ fn read(
         configuration.registry(),
         at.time,
     )?;
-    Ok(answering(Told {
+    Ok(Told {
         status: 200,
         body: Body::of(body),
-    }))
+    })
 }
 
-/// The plan of a read of a report by its caller.
-pub fn read_by(
+/// The reply to a reporter's read of the own report.
+pub fn read_own(
+    alloc: Global,
+    sealed: &SealedTable,
+    tenant: Tenant,
+    report: &Report,
+) -> Result<Told, Memory>
+    ensures { IfOk result (λ t. t ≡ told 200 (reporter_data (case_of report.now) (answers_of sealed.now.items tenant report.now.number))) }
+{
+    let answers = sealed.get(tenant, report.number);
+    Ok(Told {
+        status: 200,
+        body: Body::of(reporter_view(alloc, &report.case, answers, report.number)?),
+    })
+}
+
+// The reply that shows the identity answers of a report.
+fn show_identity(
+    alloc: Global,
+    sealed: &SealedTable,
+    tenant: Tenant,
+    report: &Report,
+) -> Result<Told, Memory>
+    ensures { IfOk result (λ t. t ≡ told 200 (identity_data report.now.number (unwrap_or (answers_of sealed.now.items tenant report.now.number) []))) }
+{
+    let none = Answers::new(alloc);
+    let answers = match sealed.get(tenant, report.number) {
+        Some(answers) => answers,
+        None => &none,
+    };
+    Ok(Told {
+        status: 200,
+        body: Body::of(identity_view(alloc, report.number, answers)?),
+    })
+}
+
+/// The reply to a user's request for the identity answers of a report: a grant of the user's must be in force.
+pub fn read_identity(
     alloc: Global,
     tenancy: &Tenancy,
+    sealed: &SealedTable,
     at: &At,
-    who: Who,
+    user: UserId,
     report: &Report,
-) -> Result<Plan, Memory>
+) -> Result<Told, Memory>
     requires custodied { report.now.desk.items ≡ requests report.now.case.items }
-    ensures told { IfOk result (λ plan. plan.told ≡ read_reply (at_of at.now) tenancy.now.configuration.registry (case_of report.now) (who_seen who)) }
-    ensures change { IfOk result (λ plan. plan.change ≡ Planned.Nothing) }
+    ensures { IfOk result (λ t. t ≡ (if in_force user (disablings_of user tenancy.now.configuration.registry.users) at.now.time report.now.case.items then told 200 (identity_data report.now.number (unwrap_or (answers_of sealed.now.items tenancy.now.configuration.tenant report.now.number) [])) else not_found)) }
 {
-    match who {
-        Who::User(user) => read(alloc, tenancy, at, user, report),
-        Who::Reporter(_) => refusing(alloc, Refusal::NotFound),
+    let configuration = &tenancy.configuration;
+    if report
+        .desk
+        .in_force(user, configuration.disablings(user), at.time)
+    {
+        show_identity(alloc, sealed, configuration.tenant(), report)
+    } else {
+        refuse(alloc, Refusal::NotFound)
     }
 }

@@ -9,16 +9,17 @@ ghost use Rattle.wb_model.specs.Requests.{Checked, open_form};
 ghost use Rattle.wb_model.specs.ShortViews.{submission_view as submission_data};
 ghost use Rattle.wb_model.specs.Submissions.{drawing, submission_entry};
 ghost use Rattle.wb_model.specs.Tables.{context as context_by, drawn_on};
-ghost use Rattle.wb_plan.specs.Plans.{at_of, drawing_refusal, IsAsking, IsBegun, IsFit, IsSplit, PlansSubmission};
+ghost use Rattle.wb_plan.specs.Plans.{at_of, drawing_refusal, IsAsking, IsBegun, IsFitAtOnce, IsSplit, PlansSubmission};
 ghost use Rattle.wb_plan.specs.Targeted.{told_of};
 ghost use Rattle.wb_tables.specs.Kept.{plain_of, live_plain};
 ghost use Rattle.wb_tables.specs.Places.{IsLookedUp};
 
-use crate::plan::{At, Opening, Plan, Planned, answering, refusing};
-use crate::refused::{Refusal, refuse_answers};
+use crate::identity::faulty;
+use crate::plan::{At, Opening, Plan, Planned, answering, refused};
+use crate::refused::Refusal;
 use std::alloc::Global;
 use wb_access::{digest, draw};
-use wb_base::{AnswerFault, Answers, Memory, Moment, Words};
+use wb_base::{Answers, Memory, Moment, Words};
 use wb_case::Case;
 use wb_list::TryClone;
 use wb_model::{Actor, Body, ContextItem, Deed, Entry, FormItem, Numbering, TenantItem, Told};
@@ -200,25 +201,12 @@ fn draw_number(
 ) -> Result<Plan, Memory>
     requires place { IsLookedUp (plain_of tenancy.now) }
     requires asking { (id : ℕ) × IsAsking (tenancy.now.configuration.registry) id asking.now.context.now asking.now.item.now }
-    ensures plan { IfOk result (λ plan. (id : ℕ) (answers : Answered) → IsAsking (tenancy.now.configuration.registry) id asking.now.context.now asking.now.item.now → IsSplit asking.now.item.now.form answers split → PlansSubmission (live_plain at.now.time (plain_of tenancy.now)) (at_of at.now) id answers plan) }
-    ensures fit { IfOk result (λ plan. IsFit tenancy.now plan.change) }
+    ensures plan { IfOk result (λ plan. (id : ℕ) (answers : Answered) → IsAsking (tenancy.now.configuration.registry) id asking.now.context.now asking.now.item.now → IsSplit asking.now.item.now.form answers split → PlansSubmission tenancy.now.configuration.tenant (live_plain at.now.time (plain_of tenancy.now)) (at_of at.now) id answers plan) }
+    ensures fit { IfOk result (λ plan. IsFitAtOnce tenancy.now plan.change) }
 {
     match hindrance(tenancy, at) {
-        Some(why) => refusing(alloc, why),
+        Some(why) => refused(alloc, why),
         None => begin(alloc, tenancy, at, asking, split),
-    }
-}
-
-// The plan that refuses answers for a fault, which may be want of memory.
-fn faulty(alloc: Global, fault: AnswerFault) -> Result<Plan, Memory>
-    ensures code { OnOk result (fault.code ≢ AnswerFault.MEMORY) }
-    ensures told { IfOk result (λ plan. plan.told ≡ faulty_told fault) }
-    ensures change { IfOk result (λ plan. plan.change ≡ Planned.Nothing) }
-{
-    if fault.code == AnswerFault::MEMORY {
-        Err(Memory)
-    } else {
-        Ok(answering(refuse_answers(alloc, fault)?))
     }
 }
 
@@ -231,14 +219,14 @@ pub fn submit(
     answers: &Answers,
 ) -> Result<Plan, Memory>
     requires place { IsLookedUp (plain_of tenancy.now) }
-    ensures plan { IfOk result (PlansSubmission (live_plain at.now.time (plain_of tenancy.now)) (at_of at.now) id answers.now) }
-    ensures fit { IfOk result (λ plan. IsFit tenancy.now plan.change) }
+    ensures plan { IfOk result (PlansSubmission tenancy.now.configuration.tenant (live_plain at.now.time (plain_of tenancy.now)) (at_of at.now) id answers.now) }
+    ensures fit { IfOk result (λ plan. IsFitAtOnce tenancy.now plan.change) }
 {
     let Some(asking) = find_asking(tenancy, id) else {
-        return refusing(alloc, Refusal::NotFound);
+        return refused(alloc, Refusal::NotFound);
     };
     match check(alloc, &asking.item.form, answers) {
         Ok(split) => draw_number(alloc, tenancy, at, &asking, split),
-        Err(fault) => faulty(alloc, fault),
+        Err(fault) => Ok(answering(faulty(alloc, fault)?)),
     }
 }

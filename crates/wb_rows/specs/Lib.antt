@@ -1,2 +1,13 @@
 pub mod Held
 pub mod HeldRows
+pub mod Puts
+pub mod ReadItems
+pub mod KeptItems
+pub mod Places
+pub mod Blame
+pub mod ListRules
+pub mod Marks
+pub mod NameTies
+pub mod Legality
+pub mod TrailRule
+pub mod OpenReports

@@ -1,11 +1,21 @@
-//! Kept rows as a set: the tables that are kept of all tenants, and their rows.
+//! Kept rows as a set: the tables that are kept of all tenants, their rows, and what changes make of rows.
 #![tactic(auto)]
 
 mod cases;
+mod done;
+mod faults;
+mod items;
+mod laws;
+mod legal;
+mod list_rules;
+mod open;
+mod repeated;
 mod tables;
 mod writing;
 
 pub use cases::CaseItem;
+pub use faults::RowFault;
+pub use laws::{a_setting_puts_its_row, an_entry_puts_its_rows};
 pub use tables::Tables;
 pub use wb_kinds::{NumberingItem, entry_row, numbering_row, sealed_row};
 pub use writing::write;

@@ -111,9 +111,6 @@ pub record IsBatched (now : ℕ) (all left : List Place) (batch : List RowChange
   pub only : AreDrops batch
   pub hit : (t n : ℕ) → (is_dropped t n batch || is_dropped t n (drops now (bare left))) ≡ is_dropped t n (drops now (bare all))
 
-pub batched_start : (now : ℕ) (all : List Place) → IsBatched now all all []
-batched_start now all = record { only = tt; hit = λ t n. refl }
-
 pub batched_next : (now : ℕ) (all left : List Place) (x : Place) (old new : List RowChange) → IsBatched now all (x ∷ left) old → AreDropped now x old new → IsBatched now all left new
 batched_next now all left x old new h d = record {
   only = subst AreDrops (sym d.pushed) (drops_append old (map (λ n. DropReport x.id n) d.numbers) h.only (are_drops x.id d.numbers));

@@ -1,4 +1,5 @@
 pub mod CaseLists
+pub mod Configurations
 pub mod Counting
 pub mod DeadNumbers
 pub mod Indexes

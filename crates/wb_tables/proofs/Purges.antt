@@ -6,7 +6,7 @@ use Rattle.std.specs.List.{list_any}
 use Rattle.std.proofs.lemmas.Bool.Decides.{nat_tests}
 use Rattle.wb_base.specs.AnswerList.{Answered}
 use Rattle.wb_model.specs.Tables.{Case, Session, has_number, has_receipt, is_live, is_there, lasts}
-use Rattle.wb_model.specs.Opened.{AtMost, AreWithin, IsWithin, Apart, has_turn}
+use Rattle.wb_model.specs.Opened.{Ascend, AtMost, AreWithin, IsWithin, Apart, has_turn}
 use Rattle.wb_model.specs.Host.{Tables, live_cases, purged}
 use Rattle.wb_model.specs.Tenants.{Tenancy}
 use Rattle.wb_model.proofs.Leaving.{apart_filter}
@@ -14,7 +14,7 @@ use Rattle.wb_list.specs.Room.{Room}
 use Rattle.wb_custody.specs.declared.sealed.SealedItem.{SealedItem}
 use Rattle.wb_custody.specs.SealedAnswers.{answers_of}
 use Rattle.wb_tables.specs.Indexed.{IsTakenOut, AreFewRequests}
-use Rattle.wb_tables.specs.Kept.{Place, case_of, place_of, tables_of, tenancy_of, sealed_of, live_place, purged_tenancy, live_plain, lives_on}
+use Rattle.wb_tables.specs.Kept.{Place, case_of, place_of, tables_of, tenancy_of, sealed_of, live_place, purged_tenancy, lives_on}
 use Rattle.wb_tables.specs.Places.{IsPlace, ArePlaces, is_tenant, is_dead, gone_under}
 use Rattle.wb_tables.specs.declared.tenancy.Report.{Report as KeptCase}
 use Rattle.wb_tables.specs.declared.tenancy.Tenancy.{Tenancy as KeptTenancy}
@@ -29,6 +29,19 @@ dropped {X} {Y} f q (x ∷ xs) = by (dropped f q xs) (q (f x)) refl
     by : map f (filter (λ x. not (not (q (f x)))) xs) ≡ filter q (map f xs) → (b : Bool) → q (f x) ≡ b → map f (cond (not (not b)) (x ∷ filter (λ x. not (not (q (f x)))) xs) (filter (λ x. not (not (q (f x)))) xs)) ≡ cond b (f x ∷ filter q (map f xs)) (filter q (map f xs))
     by rest true e = ap (λ ys. f x ∷ ys) rest
     by rest false e = rest
+
+-- numbers that ascend from above one ascend from above any that is no greater
+ascend_lower : (j k : ℕ) (cs : List Case) → j ≤ k → Ascend k cs → Ascend j cs
+ascend_lower j k [] le up = tt
+ascend_lower j k (c ∷ cs) le up = (omega (arith, le, up.0), up.1)
+
+ascend_filter : (k : ℕ) (p : Case → Bool) (cs : List Case) → Ascend k cs → Ascend k (filter p cs)
+ascend_filter k p [] up = tt
+ascend_filter k p (c ∷ cs) up = by (p c) (ascend_filter c.number p cs up.1)
+  where
+    by : (b : Bool) → Ascend c.number (filter p cs) → Ascend k (cond b (c ∷ filter p cs) (filter p cs))
+    by true rest = (up.0, rest)
+    by false rest = ascend_lower k c.number (filter p cs) (omega (arith, up.0)) rest
 
 most_cond : (last : ℕ) (b : Bool) (c : Case) (cs : List Case) → c.number ≤ last → AtMost last cs → AtMost last (cond b (c ∷ cs) cs)
 most_cond last true c cs h all = (h, all)
@@ -80,9 +93,6 @@ pub record IsPurging (t : ℕ) (today : ℤ) (all now : List Case) (old new : Ro
   pub here : (n : ℕ) → gone_under n today now (answers_of new.items t n) ≡ gone_under n today all (answers_of old.items t n)
   pub others : (u n : ℕ) → u ≢ t → answers_of new.items u n ≡ answers_of old.items u n
   pub room : old.spare ≤ new.spare
-
-pub purging_start : (t : ℕ) (today : ℤ) (all : List Case) (old : Room SealedItem) → IsPurging t today all all old old
-purging_start t today all old = record { live = refl; here = λ n. refl; others = λ u n ne. refl; room = omega arith }
 
 none_both : (b : Bool) → cond {A = Option Answered} b None None ≡ None
 none_both true = refl
@@ -175,9 +185,6 @@ same_tables t u p s = λ i. record { plain = p i; sealed = fun_ext s i }
 
 -- ---- one tenant
 
-pub live_tenancy : (time : ℕ) (x y : KeptTenancy) → y.configuration ≡ x.configuration → (plain_same : (place_of y).plain ≡ live_plain time (place_of x).plain) → place_of y ≡ live_place time (place_of x)
-live_tenancy time x y s p = λ i. record { id = (s i).tenant; plain = p i }
-
 within_cond : (turns last : ℕ) (b : Bool) (x : Session) (ss : List Session) → (x.turn ≤ turns) × IsWithin last x.who → AreWithin turns last ss → AreWithin turns last (cond b (x ∷ ss) ss)
 within_cond turns last true x ss h all = (h, all)
 within_cond turns last false x ss h all = all
@@ -205,6 +212,7 @@ purged_is_place turns time items new x h here = record {
     logins = apart_filter has_turn (lasts time (live_cases x.plain time)) x.plain.sessions h.plain.logins;
   };
   drawn = h.drawn;
+  ascend = ascend_filter 0 (is_live x.plain.registry.settings time) x.plain.cases h.ascend;
   most = most_filter x.plain.numbering.last (is_live x.plain.registry.settings time) x.plain.cases h.most;
   sessions = within_filter turns x.plain.numbering.last (lasts time (live_cases x.plain time)) x.plain.sessions h.sessions;
   requests = few_filter (is_live x.plain.registry.settings time) x.plain.cases h.requests;
@@ -220,7 +228,7 @@ same_tenancy : (x y : Tenancy) → x.id ≡ y.id → x.tables ≡ y.tables → x
 same_tenancy x y i t = λ k. record { id = i k; tables = t k }
 
 pub same_place : (turns : ℕ) (items new : List SealedItem) (x : Place) → IsPlace turns items x → ((n : ℕ) → answers_of new x.id n ≡ answers_of items x.id n) → IsPlace turns new x
-same_place turns items new x h same = record { id = h.id; plain = h.plain; drawn = h.drawn; most = h.most; sessions = h.sessions; requests = h.requests; unsealed = λ n e. same n ∙ h.unsealed n e }
+same_place turns items new x h same = record { id = h.id; plain = h.plain; drawn = h.drawn; ascend = h.ascend; most = h.most; sessions = h.sessions; requests = h.requests; unsealed = λ n e. same n ∙ h.unsealed n e }
 
 pub places_above : (turns k t : ℕ) (items new : List SealedItem) (xs : List Place) → t ≤ k → ArePlaces turns k items xs → AreOthers items new t → ArePlaces turns k new xs
 places_above turns k t items new [] le all others = tt

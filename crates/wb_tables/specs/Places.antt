@@ -7,7 +7,7 @@ use Rattle.wb_custody.specs.declared.sealed.SealedItem.{SealedItem}
 use Rattle.wb_custody.specs.SealedAnswers.{answers_of}
 use Rattle.wb_model.specs.declared.registry.FormItem.{FormItem}
 use Rattle.wb_model.specs.Legal.{IsSound}
-use Rattle.wb_model.specs.Opened.{AtMost, AreWithin, Apart, has_turn}
+use Rattle.wb_model.specs.Opened.{Ascend, AtMost, AreWithin, AreOrdered, AreVersions, Apart, has_turn}
 use Rattle.wb_model.specs.Tables.{Registry, Plain, Case, has_number, has_receipt, is_there}
 pub use Rattle.wb_tables.specs.Lives.{is_dead}
 use Rattle.wb_tables.specs.Indexed.{AreFewRequests}
@@ -19,11 +19,14 @@ abbrev pub AreGoodForms : List FormItem → Type 0
 AreGoodForms [] = Unit {0}
 AreGoodForms (x ∷ xs) = (is_good x.form ≡ true) × AreGoodForms xs
 
--- what a tenant may be set up with: its offset is in range, its days of notice and contexts are, and its forms are good
+-- what a tenant may be set up with: its offset, its days of notice, its contexts and the versions of its forms are in their
+-- ranges, its forms are good, and each of its lists is in order
 pub record IsRegistry (g : Registry) : Type 0 where
   pub offset : IsOffset g.settings.offset
   pub sound : IsSound g
   pub forms : AreGoodForms g.forms
+  pub versions : AreVersions g.forms
+  pub ordered : AreOrdered g
 
 -- tables that can be looked up in: no two reports have the same number or the same receipt, and no two sessions are of one turn
 pub record IsLookedUp (p : Plain) : Type 0 where
@@ -37,6 +40,8 @@ pub record IsPlace (turns : ℕ) (items : List SealedItem) (x : Place) : Type 0 
   pub id : x.id ≤ 64
   pub plain : IsLookedUp x.plain
   pub drawn : x.plain.numbering.drawn ≤ x.plain.numbering.last
+  -- the reports' numbers ascend
+  pub ascend : Ascend 0 x.plain.cases
   -- each number was drawn
   pub most : AtMost x.plain.numbering.last x.plain.cases
   -- each session was made by a turn, and for a report whose number was drawn

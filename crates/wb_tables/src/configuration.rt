@@ -1,14 +1,20 @@
 //! What a tenant is set up with.
-ghost use Rattle.std.specs.Prelude.{◌≡◌};
+ghost use Rattle.std.specs.Prelude.{◌≡◌, ◌≢◌, Some, IfOk, IfErr, OnOk};
 ghost use Rattle.std.specs.Option.{option_copied};
 ghost use Rattle.wb_model.specs.Openings.{registry_of};
 ghost use Rattle.wb_model.specs.Tables.{user as user_by, user_named as user_called, context as context_by, newest_form as newest_form_by, disablings as disablings_of};
+ghost use Rattle.wb_model.specs.Settings.{configured};
+ghost use Rattle.wb_tables.specs.Configured.{IsReady, IsSound, fault_of, row_of, setting_of};
 ghost use Rattle.wb_tenants.specs.Sets.{HasTenant, version_of};
 
+use crate::proposal::Proposal;
 use std::marker::Model;
-use wb_base::{Tenant, Text, UserId};
-use wb_model::{ContextItem, FormItem, TenantItem, UserItem};
-use wb_tenants::Registry;
+use wb_base::{Row, Tenant, Text, UserId};
+use wb_model::{AdminFault, ContextItem, FormItem, TenantItem, UserItem};
+use wb_tenants::{
+    Registry, a_context_is_set_in_its_tenant_alone, a_form_is_set_in_its_tenant_alone,
+    a_user_is_set_in_its_tenant_alone, settings_are_set_in_their_tenant_alone,
+};
 
 /// The registry of one tenant, seen as what the tenant is set up with.
 #[derive(Drop)]
@@ -24,7 +30,7 @@ impl Model for Configuration {
 
     ghost Value = { Configured };
 
-    ghost view = { λ c. record { tenant = c.tenant; lists = c.registry.lists; registry = registry_of c.registry.lists c.tenant } };
+    ghost view = { λ c. record { tenant = c.tenant; lists = c.registry.lists; registry = registry_of c.registry.lists c.tenant; users = c.registry.users; forms = c.registry.forms; contexts = c.registry.contexts } };
 
     ghost invariant = { λ c. HasTenant c.registry.lists c.tenant };
 }
@@ -108,5 +114,51 @@ impl Configuration {
         ensures { option_copied result ≡ newest_form_by id self.now.registry.forms }
     {
         self.registry.newest_form(self.tenant, id)
+    }
+
+    /// The row that what is asked to be set will have, with the room for it, or the first rule that refuses it. What the
+    /// tenant is set up with stays as it is.
+    pub fn plan(&mut self, next: &Proposal) -> Result<Row, AdminFault>
+        requires sound { IsSound next.now }
+        ensures tenant { self.new.tenant ≡ self.old.tenant }
+        ensures registry { self.new.registry ≡ self.old.registry }
+        ensures fault { IfErr result (λ fault. fault ≢ AdminFault.Memory → fault_of self.old.registry next.now ≡ Some fault) }
+        ensures row { IfOk result (λ kept. kept ≡ row_of self.old.tenant self.old.registry next.now) }
+        ensures ready { OnOk result (IsReady self.new next.now) }
+    {
+        match next {
+            Proposal::ToTenant(next) => self.registry.plan_settings(self.tenant, next),
+            Proposal::ToUser(id, next) => self.registry.plan_user(self.tenant, *id, next),
+            Proposal::ToContext(id, next) => self.registry.plan_context(self.tenant, *id, next),
+            Proposal::ToForm(id, form) => self.registry.plan_form(self.tenant, *id, form),
+        }
+    }
+
+    /// Sets what was asked and planned. It takes no memory and cannot fail.
+    pub fn set(&mut self, next: Proposal)
+        requires ready { IsReady self.old next }
+        ensures tenant { self.new.tenant ≡ self.old.tenant }
+        ensures registry { self.new.registry ≡ configured (setting_of self.old.tenant self.old.registry next) self.old.registry }
+    {
+        let _in_order = self.registry.lists();
+        let tenant = self.tenant;
+        match next {
+            Proposal::ToTenant(next) => {
+                settings_are_set_in_their_tenant_alone();
+                self.registry.set_settings(tenant, next).unwrap();
+            }
+            Proposal::ToUser(id, next) => {
+                a_user_is_set_in_its_tenant_alone();
+                self.registry.set_user(tenant, id, next).unwrap();
+            }
+            Proposal::ToContext(id, next) => {
+                a_context_is_set_in_its_tenant_alone();
+                self.registry.set_context(tenant, id, next).unwrap();
+            }
+            Proposal::ToForm(id, form) => {
+                a_form_is_set_in_its_tenant_alone();
+                self.registry.set_form(tenant, id, form).unwrap();
+            }
+        }
     }
 }

@@ -21,3 +21,4 @@ pub mod GivenForms
 pub mod Joining
 pub mod OtherLists
 pub mod GivenLists
+pub mod OwnParts

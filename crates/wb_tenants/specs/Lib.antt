@@ -7,3 +7,4 @@ pub mod Setups
 pub mod GivesLists
 pub mod Sets
 pub mod Joined
+pub mod Owned

@@ -14,7 +14,7 @@ use wb_list::{Items, TryClone};
 use wb_model::{ContextItem, FormItem, Lists, TenantItem, UserItem};
 
 /// What a setup adds: an item of a tenant, which can be copied.
-trait Added: Placed {
+pub trait Added: Placed {
     /// Its tenant.
     ghost owner: { Self → ℕ };
 

@@ -19,9 +19,12 @@ mod rules;
 mod settings;
 mod setup;
 mod spare;
+mod tenant_part;
 mod toml_values;
 mod users;
 
+pub use copies::{copy_context, copy_settings, copy_user};
+pub use form_copies::copy_form;
 pub use laws::{
     a_context_is_set_in_its_tenant_alone, a_form_is_set_in_its_tenant_alone,
     a_kept_tenant_stays_whole, a_setup_gives_an_opening, a_user_is_set_in_its_tenant_alone,

@@ -1,20 +1,19 @@
 //! The kept rows of what tenants are set up with, each with its key and its compact JSON text (RFC 8259).
-ghost use Rattle.std.specs.Prelude.{◌≡◌, ◌++◌, ◌∷◌, [], if◌then◌else◌, IfOk, OnOk};
+ghost use Rattle.std.specs.Prelude.{◌≡◌, IfOk, OnOk};
 ghost use Rattle.hex.specs.Hex.{encode_lower};
 ghost use Rattle.serde_json.specs.Data.{put, string};
 ghost use Rattle.serde_json.specs.View.{view, members_view};
 ghost use Rattle.wb_base.specs.FormJson.{form_data};
-ghost use Rattle.wb_model.specs.Json.{list_of};
-ghost use Rattle.wb_model.specs.Names.{role_name as role_name_of, right_names};
 ghost use Rattle.wb_model.specs.Rows.{row, settings_data, user_data, context_data};
 
 use serde_json::{Map, Value};
 use std::alloc::Global;
-use wb_base::{Form, Key, Memory, Role, Row, Tenant, Text};
+use wb_base::{Form, Key, Memory, Row, Tenant};
 use wb_form::FormText;
-use wb_json::{list_value, put_flag, put_text, put_value, put_whole, text_of};
-use wb_list::Items;
-use wb_model::{ContextItem, Rights, TenantItem, UserItem};
+use wb_json::{
+    list_value, put_flag, put_text, put_value, put_whole, rights_value, role_name, text_of,
+};
+use wb_model::{ContextItem, TenantItem, UserItem};
 
 // Puts bytes in lower-case hexadecimal digits.
 fn put_hex(
@@ -58,38 +57,6 @@ pub fn settings_row(alloc: Global, item: &TenantItem) -> Result<Row, Memory>
         },
         text: text_of(alloc, &value)?,
     })
-}
-
-fn role_name(role: Role) -> &'static str
-    ensures { result.now ≡ role_name_of role }
-{
-    match role {
-        Role::Reporter => "reporter",
-        Role::Recipient => "recipient",
-        Role::Custodian => "custodian",
-        Role::Admin => "admin",
-    }
-}
-
-// One name more, where there is that right.
-fn push_right(names: &mut Items<Text>, alloc: Global, has: bool, name: &str) -> Result<(), Memory>
-    ensures { OnOk result (names.new ≡ names.old ++ (if has then name.now ∷ [] else [])) }
-{
-    if has {
-        names.push(Text::from_str(alloc, name)?)?;
-    }
-    Ok(())
-}
-
-// The names of rights, in byte order.
-fn rights_value(alloc: Global, may: Rights) -> Result<Value, Memory>
-    ensures { IfOk result (λ value. view value ≡ list_of string (right_names may)) }
-{
-    let mut names = Items::new(alloc);
-    push_right(&mut names, alloc, may.postpone, "postpone")?;
-    push_right(&mut names, alloc, may.share, "share")?;
-    push_right(&mut names, alloc, may.transfer, "transfer")?;
-    list_value(alloc, names.as_slice())
 }
 
 // The JSON value of a user.

@@ -126,7 +126,6 @@ fn replies_have_their_heads_and_lines(rt: HostRuntime) -> Result<(), Fail> {
             400,
             b"{\"code\":\"bad_head\"}".as_slice(),
         ),
-        (WireFault::NotBuilt, 501, b"{\"code\":\"not_built\"}"),
         (WireFault::Memory, 507, b"{\"code\":\"no_memory\"}"),
         (WireFault::NoRoute, 404, b"{\"code\":\"not_found\"}"),
     ];

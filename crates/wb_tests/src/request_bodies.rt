@@ -211,7 +211,7 @@ fn request(alloc: Global, head: &str, body: &str) -> Result<String, Fail> {
     Ok(format!(in alloc; "{head} HTTP/1.1\r\nContent-Length: {size}\r\n\r\n{body}")?)
 }
 
-// The fault of a request, but that its route is not built.
+// The fault of a request.
 fn fault(
     alloc: Global,
     routes: &Routes,
@@ -219,11 +219,7 @@ fn fault(
     body: &str,
 ) -> Result<Option<WireFault>, Fail> {
     let read = read_request(alloc, routes, request(alloc, head, body)?.as_bytes());
-    Ok(
-        read.err()
-            .map(|no| no.fault)
-            .filter(|fault| *fault != WireFault::NotBuilt),
-    )
+    Ok(read.err().map(|no| no.fault))
 }
 
 // A text of so many bytes.

@@ -223,7 +223,7 @@ const HEADS: &[(&str, &str, bool)] = &[
         "bad_json",
         false,
     ),
-    ("GET /t/1/due HTTP/1.1\r\n\r\n", "not_built", true),
+    ("GET /t/1/due HTTP/1.1\r\n\r\n", "", false),
     (
         "GET /health HTTP/1.1\r\nConnection: \t cLoSe\t\r\n\r\n",
         "",

@@ -1,24 +1,22 @@
 //! The body that shows a tenant's admins what it is set up with.
-ghost use Rattle.std.specs.Prelude.{◌≡◌, ◌++◌, ◌∷◌, ◌==◌, [], if◌then◌else◌, filter, map as map_over, IfOk, OnOk};
+ghost use Rattle.std.specs.Prelude.{◌≡◌, ◌++◌, ◌∷◌, ◌==◌, [], filter, map as map_over, IfOk, OnOk};
 ghost use Rattle.std.specs.List.{list_any};
-ghost use Rattle.serde_json.specs.Data.{string};
 ghost use Rattle.serde_json.specs.View.{view};
 ghost use Rattle.serde_json.specs.Written.{compact_text};
 ghost use Rattle.wb_model.specs.Json.{list_of};
-ghost use Rattle.wb_model.specs.Names.{right_names};
 ghost use Rattle.wb_model.specs.Openings.{registry_of};
 ghost use Rattle.wb_model.specs.TenantViews as views;
 ghost use Rattle.wb_tenants.specs.Sets.{HasTenant};
 ghost use Rattle.wb_views.specs.Shown.{forms_shown};
 
-use crate::names::role_name;
 use crate::tenant::settings;
 use serde_json::{Map, Value};
 use std::alloc::Global;
 use wb_base::{Memory, Tenant, Text};
-use wb_json::{list_value, put_flag, put_text, put_value, put_whole, text_of};
-use wb_list::Items;
-use wb_model::{ContextItem, FormItem, Rights, TenantItem, UserItem};
+use wb_json::{
+    list_value, put_flag, put_text, put_value, put_whole, rights_value, role_name, text_of,
+};
+use wb_model::{ContextItem, FormItem, TenantItem, UserItem};
 use wb_tenants::Registry;
 
 // The object of a context.
@@ -104,27 +102,6 @@ fn forms_value(alloc: Global, forms: &[FormItem], tenant: Tenant) -> Result<Valu
         push_newest(&mut values, alloc, tenant, form, &forms[at + 1..])?;
     }
     Ok(Value::Array(values))
-}
-
-// One name more, where there is that right.
-fn push_right(names: &mut Items<Text>, alloc: Global, has: bool, name: &str) -> Result<(), Memory>
-    ensures { OnOk result (names.new ≡ names.old ++ (if has then name.now ∷ [] else [])) }
-{
-    if has {
-        names.push(Text::from_str(alloc, name)?)?;
-    }
-    Ok(())
-}
-
-// The names of rights, in byte order.
-fn rights_value(alloc: Global, may: Rights) -> Result<Value, Memory>
-    ensures { IfOk result (λ value. view value ≡ list_of string (right_names may)) }
-{
-    let mut names = Items::new(alloc);
-    push_right(&mut names, alloc, may.postpone, "postpone")?;
-    push_right(&mut names, alloc, may.share, "share")?;
-    push_right(&mut names, alloc, may.transfer, "transfer")?;
-    list_value(alloc, names.as_slice())
 }
 
 // The object of a user.

@@ -6,11 +6,13 @@ ghost use Rattle.serde_json.specs.Written.{compact_text};
 ghost use Rattle.wb_model.specs.Json.{list_of};
 ghost use Rattle.wb_model.specs.ListViews as views;
 
-use crate::names::{kind_name, state_name, status_name};
 use serde_json::{Map, Value};
 use std::alloc::Global;
 use wb_base::{Day, Memory, Text};
-use wb_json::{put_date, put_flag, put_text, put_value, put_whole, put_whole_or_null, text_of};
+use wb_json::{
+    kind_name, put_date, put_flag, put_text, put_value, put_whole, put_whole_or_null, state_name,
+    status_name, text_of,
+};
 use wb_model::{Custodied, Due, Listed};
 
 // What a list shows as it is.

@@ -11,7 +11,6 @@ ghost use Rattle.wb_model.specs.Views as views;
 ghost use Rattle.wb_views.specs.Seen.{request_shown};
 
 use crate::asked::{disablings, state_of};
-use crate::names::{state_name, status_name};
 use crate::remarks::dialogue;
 use crate::submitted::{answers, form, version};
 use serde_json::{Map, Value};
@@ -21,7 +20,7 @@ use wb_case::Case;
 use wb_custody::AccessDesk;
 use wb_json::{
     answers_value, list_value, put_date, put_date_or_null, put_flag, put_text, put_value,
-    put_whole, put_whole_or_null, text_of,
+    put_whole, put_whole_or_null, state_name, status_name, text_of,
 };
 use wb_tenants::Registry;
 

@@ -10,7 +10,6 @@ ghost use Rattle.wb_model.specs.Trails.{Remark as RemarkData};
 ghost use Rattle.wb_model.specs.Views as views;
 ghost use Rattle.wb_views.specs.Seen.{remark_seen};
 
-use crate::names::status_name;
 use crate::remarks::{Remark, dialogue};
 use crate::submitted::{answers, form, version};
 use serde_json::{Map, Value};
@@ -18,7 +17,8 @@ use std::alloc::Global;
 use wb_base::{Answers, Memory, Number, Text};
 use wb_case::Case;
 use wb_json::{
-    answers_value, put_date, put_date_or_null, put_null, put_text, put_value, put_whole, text_of,
+    answers_value, put_date, put_date_or_null, put_null, put_text, put_value, put_whole,
+    status_name, text_of,
 };
 
 // The object of a remark as its report's reporter sees it.

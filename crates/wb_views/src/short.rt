@@ -6,12 +6,11 @@ ghost use Rattle.serde_json.specs.View.{view};
 ghost use Rattle.serde_json.specs.Written.{compact_text};
 ghost use Rattle.wb_model.specs.ShortViews as views;
 
-use crate::names::role_name;
 use serde_json::{Map, Value};
 use std::alloc::Global;
 use std::str;
 use wb_base::{Memory, Role, Text};
-use wb_json::{put_text, put_whole, text_of};
+use wb_json::{put_text, put_whole, role_name, text_of};
 use wb_model::Body;
 
 /// The body that tells that something was done. It takes no memory.

@@ -5,8 +5,8 @@ ghost use Rattle.wb_model.specs.Trails as trails;
 use wb_base::{Given, Text};
 use wb_model::{Deed, Entry};
 
-/// The form that was answered.
-pub(crate) fn form(trail: &[Entry]) -> u32
+/// The number of the form that the submission of a trail answered, 0 where there is none.
+pub fn form(trail: &[Entry]) -> u32
     ensures { result ≡ trails.form trail.now }
 {
     trail.iter().fold(0, |before, entry| match &entry.deed {
@@ -15,8 +15,8 @@ pub(crate) fn form(trail: &[Entry]) -> u32
     })
 }
 
-/// The version of that form.
-pub(crate) fn version(trail: &[Entry]) -> u32
+/// The version of that form, 0 where there is none.
+pub fn version(trail: &[Entry]) -> u32
     ensures { result ≡ trails.version trail.now }
 {
     trail.iter().fold(0, |before, entry| match &entry.deed {

@@ -14,11 +14,10 @@ use Rattle.wb_model.specs.declared.command.Command.{Command}
 use Rattle.wb_model.specs.declared.route.Route.{Route}
 use Rattle.wb_model.specs.declared.wire.WireFault.{WireFault}
 use Rattle.wb_model.specs.declared.wire.WireFault.TheVariants as faults
-use Rattle.wb_model.specs.Built.{is_built}
 use Rattle.wb_model.specs.Bodies.{Numbers, bare, shaped}
 use Rattle.wb_model.specs.Fits.{fits, fits_command, fits_session, is_path_number}
 use Rattle.wb_model.specs.Heads.{Fields, BeginsWithHead, closes, closes_by, path, fields_of, values, is_number, is_token, token, presented_by, session}
-use Rattle.wb_model.specs.Readings.{Reading, Asks, Reads, Closes, and_then, sized, Located, located_by, located, located_or_fault, routed, body_by, command_by, command, built, asks, reading_by, reading_of}
+use Rattle.wb_model.specs.Readings.{Reading, Asks, Reads, Closes, and_then, sized, Located, located_by, located, located_or_fault, routed, body_by, command_by, command, asks, reading_by, reading_of}
 use Rattle.wb_model.specs.Routes.{Path, number_of_path, path_at, segments, path_number, are_numbers, number_under, route}
 use Rattle.wb_model.specs.Commands.{is_health}
 use Rattle.wb_wire.proofs.ShapeLemmas.{GoodForms, AreNumbers, IsOfBody, shaped_of, bare_fits}
@@ -90,12 +89,6 @@ ok_or_some : {X : Type 0} (o : Option X) (fault : WireFault) (x : X) → ok_or o
 ok_or_some None fault x is = absurd cc
 ok_or_some (Some z) fault x is = cc
 
-built_same : (c d : Command) → built c ≡ Ok d → c ≡ d
-built_same c d is = elim (cases_Bool (is_built c)) [
-  | inl good ↦ (let ok : Ok c ≡ Ok d = rw good at is in cc)
-  | inr bad ↦ (let err : Err faults.NotBuilt ≡ Ok d = rw bad at is in absurd cc)
-]
-
 if_given : (P : Command → Type 0) (o : Option Command) (c : Command) → IfSome o P → o ≡ Some c → P c
 if_given P o c all is = subst (λ x. IfSome x P) is all
 
@@ -140,17 +133,16 @@ pub record Asking (method text : List ℕ) (fields : Fields) (rest : List ℕ) (
 
 pub asking : (method text : List ℕ) (fields : Fields) (rest : List ℕ) (c : Command) → asks method text fields rest ≡ Ok c → Asking method text fields rest c
 asking method text fields rest c is =
-    let said = and_then_ok (λ s. and_then (λ p. and_then built (and_then (command p.at rest s) (routed method p))) (located_or_fault text)) (sized fields rest) c is in
-    let place = and_then_ok (λ p. and_then built (and_then (command p.at rest said.0) (routed method p))) (located_or_fault text) c said.2 in
-    let made = and_then_ok built (and_then (command place.0.at rest said.0) (routed method place.0)) c place.2 in
-    let by = and_then_ok (command place.0.at rest said.0) (routed method place.0) made.0 made.1 in
+    let said = and_then_ok (λ s. and_then (λ p. and_then (command p.at rest s) (routed method p)) (located_or_fault text)) (sized fields rest) c is in
+    let place = and_then_ok (λ p. and_then (command p.at rest said.0) (routed method p)) (located_or_fault text) c said.2 in
+    let by = and_then_ok (command place.0.at rest said.0) (routed method place.0) c place.2 in
     record {
       said = said.0;
       place = place.0;
       found = ok_or_some (located text) faults.NoRoute place.0 place.1;
       asked = by.0;
       routes = ok_or_some (route method place.0.methods) (faults.NoMethod place.0.number) by.0 by.1;
-      commands = by.2 ∙ ap Ok (built_same made.0 c made.2);
+      commands = by.2;
     }
 
 asks_fit : GoodForms → (method text : List ℕ) (fields : Fields) (rest : List ℕ) (c : Command) → asks method text fields rest ≡ Ok c → fits_command c ≡ true
@@ -188,5 +180,5 @@ body_not_health good method text fields rest place r c found routes none is =
 -- ---- from the parts
 
 pub asks_on : (method text : List ℕ) (fields : Fields) (rest : List ℕ) (said : Option ℕ) (p : Located) (r : Route) → sized fields rest ≡ Ok said → located text ≡ Some p → route method p.methods ≡ Some r
-    → asks method text fields rest ≡ and_then built (command p.at rest said r)
+    → asks method text fields rest ≡ command p.at rest said r
 asks_on method text fields rest said p r e f g = rw (e, f, g) refl

@@ -4,7 +4,7 @@ ghost use Rattle.wb_model.specs.Replies.{fault_told};
 
 use wb_model::WireFault;
 
-#[tactic(auto, unfolding(wb_model::specs::Replies::fault_told, wb_model::specs::Refusals::not_found, wb_model::specs::Refusals::not_built, wb_model::specs::Refusals::no_memory))]
+#[tactic(auto, unfolding(wb_model::specs::Replies::fault_told, wb_model::specs::Refusals::not_found, wb_model::specs::Refusals::no_memory))]
 /// The status code of a fault's reply (RFC 9110, section 15). It takes no memory.
 pub fn fault_status(fault: &WireFault) -> u16
     ensures { result ≡ (fault_told fault.now).status }
@@ -18,12 +18,11 @@ pub fn fault_status(fault: &WireFault) -> u16
         WireFault::NoMethod(_) => 405,
         WireFault::BadJson => 400,
         WireFault::BadShape => 400,
-        WireFault::NotBuilt => 501,
         WireFault::Memory => 507,
     }
 }
 
-#[tactic(auto, unfolding(wb_model::specs::Replies::fault_told, wb_model::specs::Refusals::not_found, wb_model::specs::Refusals::not_built, wb_model::specs::Refusals::no_memory, wb_model::specs::Refusals::refusal, json::specs::Print::escape_byte))]
+#[tactic(auto, unfolding(wb_model::specs::Replies::fault_told, wb_model::specs::Refusals::not_found, wb_model::specs::Refusals::no_memory, wb_model::specs::Refusals::refusal, json::specs::Print::escape_byte))]
 /// The body of a fault's reply, JSON (RFC 8259). It takes no memory.
 pub fn fault_body(fault: &WireFault) -> &'static [u8]
     ensures text { result.now ≡ (fault_told fault.now).body }
@@ -38,7 +37,6 @@ pub fn fault_body(fault: &WireFault) -> &'static [u8]
         WireFault::NoMethod(_) => b"{\"code\":\"no_method\"}",
         WireFault::BadJson => b"{\"code\":\"bad_json\"}",
         WireFault::BadShape => b"{\"code\":\"bad_shape\"}",
-        WireFault::NotBuilt => b"{\"code\":\"not_built\"}",
         WireFault::Memory => b"{\"code\":\"no_memory\"}",
     }
 }

@@ -3,10 +3,9 @@ ghost use Rattle.std.specs.Prelude.{◌≡◌, ◌≢◌, ◌==◌, ◌||◌, �
 ghost use Rattle.httparse.specs.Spans.{header_bytes, IsHeaderWithin};
 ghost use Rattle.wb_model.specs.declared.command.Asked.{Asked as AskedOf};
 ghost use Rattle.wb_model.specs.declared.command.Command.{Command as CommandOf};
-ghost use Rattle.wb_model.specs.Built.{is_built as built_test};
 ghost use Rattle.wb_model.specs.Bodies.{bare as bare_of};
 ghost use Rattle.wb_model.specs.Fits.{fits};
-ghost use Rattle.wb_model.specs.Readings.{Reads, Closes, Asks, Refuses, sized as sized_of, located, body_by, command as command_of, built as built_of, closes_always as closes_always_of};
+ghost use Rattle.wb_model.specs.Readings.{Reads, Closes, Asks, Refuses, sized as sized_of, located, body_by, command as command_of, closes_always as closes_always_of};
 ghost use Rattle.wb_model.specs.Commands.{is_health};
 ghost use Rattle.wb_wire.specs.Places.{place_value, at_place};
 ghost use Rattle.wb_wire.specs.RequestParts.{fields_in, asks_of, GivesOrWants, GivesBody};
@@ -131,35 +130,10 @@ fn with_body(
     }
 }
 
-// Whether the route is built.
-fn is_built(command: &Command) -> bool
-    ensures { result ≡ built_test command.now }
-{
-    match command {
-        Command::Health => true,
-        Command::Submit { .. } => true,
-        Command::ReadReport { .. } => true,
-        _ => false,
-    }
-}
-
-// The command, where its route is built.
-fn built(command: Command) -> Result<Command, WireFault>
-    ensures built { result ≡ built_of command }
-    ensures test { IfOk result (λ given. built_test given ≡ true) }
-{
-    if is_built(&command) {
-        Ok(command)
-    } else {
-        Err(WireFault::NotBuilt)
-    }
-}
-
 // What the parts ask. Only a route with a body wants memory.
 fn read_command(alloc: Global, routes: &Routes, parts: &Parts) -> Result<Command, WireFault>
     requires { All (IsHeaderWithin (length parts.now.bytes.now)) parts.now.fields.now }
     ensures asked { GivesOrWants (asks_of parts.now) result }
-    ensures built { IfOk result (λ command. built_test command ≡ true) }
     ensures health { result ≡ Err WireFault.Memory → (command : CommandOf) → asks_of parts.now ≡ Ok command → is_health command ≡ false }
 {
     let said = sized(parts)?;
@@ -172,10 +146,10 @@ fn read_command(alloc: Global, routes: &Routes, parts: &Parts) -> Result<Command
     good_forms_are_those_that_are_read();
     let numbers = place.numbers();
     if let Some(command) = bare(route, &numbers) {
-        return built(command);
+        return Ok(command);
     }
     match with_body(alloc, &numbers, route, said, parts.rest) {
-        Ok(command) => built(command),
+        Ok(command) => Ok(command),
         Err(fault) => Err(fault),
     }
 }
@@ -193,7 +167,6 @@ fn closes_always(fault: &WireFault) -> bool
         WireFault::NoMethod(_) => false,
         WireFault::BadJson => false,
         WireFault::BadShape => false,
-        WireFault::NotBuilt => true,
         WireFault::Memory => false,
     }
 }
@@ -214,7 +187,6 @@ fn refusal(close: bool, fault: WireFault) -> WireNo
 pub fn read_request(alloc: Global, routes: &Routes, bytes: &[u8]) -> Result<Asked, WireNo>
     ensures ok { IfOk result (λ asked. Reads bytes.now (Asks asked)) }
     ensures fits { IfOk result (λ asked. fits asked ≡ true) }
-    ensures built { IfOk result (λ asked. built_test asked.command ≡ true) }
     ensures refused { IfErr result (λ no. no.fault ≢ WireFault.Memory → Reads bytes.now (Refuses no.fault no.close)) }
     ensures memory { IfErr result (λ no. no.fault ≡ WireFault.Memory → Closes bytes.now no.close) }
     // A request for the host's health takes no memory.

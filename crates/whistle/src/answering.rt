@@ -41,7 +41,6 @@ fn allow_of(fault: &WireFault) -> Option<PathNo>
         WireFault::NoMethod(path) => Some(*path),
         WireFault::BadJson => None,
         WireFault::BadShape => None,
-        WireFault::NotBuilt => None,
         WireFault::Memory => None,
     }
 }

@@ -29,8 +29,6 @@ fn with_fields<'a>(row: Row<'a>, fields: &'a str) -> Row<'a> {
 
 const BAD_LENGTH: Reply = (400, "Bad Request", "{\"code\":\"bad_length\"}", CLOSE);
 
-const NOT_BUILT: Reply = (501, "Not Implemented", "{\"code\":\"not_built\"}", CLOSE);
-
 // Requests as they come over the wire: with these texts of 4,096 and 4,097 bytes, with this body of 30,000 bytes, and
 // with it cut short.
 fn wire_rows<'a>(
@@ -98,14 +96,14 @@ fn wire_rows<'a>(
         with_fields(get("/t/1/reports/1", no_session), other_session),
         with_fields(get("/t/1/reports/1", no_session), "Accept: */*\r\n"),
         get("/t/2/reports/1", NOT_FOUND),
-        get("/t/1/reports", NOT_BUILT),
+        with_fields(get("/t/1/reports", no_session), "Accept: */*\r\n"),
         with_fields(
             get("/health", (200, "OK", "{\"status\":\"ok\"}", CLOSE)),
             "Connection: Keep-Alive, Close\r\n",
         ),
         Row {
             method: "POST",
-            ..get("/t/1/reports/1/acknowledgement", NOT_BUILT)
+            ..get("/t/1/reports/1/acknowledgement", no_session)
         },
     ]
 }

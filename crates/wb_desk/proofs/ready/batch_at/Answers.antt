@@ -15,8 +15,8 @@ put_change-requires-clause-place c = (
 )
 
 pub put_change-requires-clause-fit : goal.put_change-requires-clause-fit
-put_change-requires-clause-fit c = subst (λ (x : KeptTenancy). IsFit x c.args.change.now) (sym c.index-tenancies-place.is) (c.requires.room.1 c.index-tenancies-place.result).fit
+put_change-requires-clause-fit c = subst (λ (x : KeptTenancy). IsFit c.args.time x c.args.change.now) (sym c.index-tenancies-place.is) (c.requires.room.1 c.index-tenancies-place.result).fit
 
 pub returns : goal.returns
-returns c = λ d. batch_made c.args.time c.args.place c.args.tenancies.now c.index-tenancies-place.result d c.args.change.now c.in_ok-batch.batch.items c.put_change.new.batch.items c.requires.within c.index-tenancies-place.is
+returns c = λ d. batch_made c.args.time c.args.place c.args.tenancies.now c.index-tenancies-place.result d c.args.change.now c.in_ok-batch.batch.items c.put_change.new.batch.items c.requires.within c.index-tenancies-place.is (c.requires.room.1 d).fit
     (λ items. c.in_ok-batch.ensures.rows items) c.in_ok-batch.ensures.good c.in_ok-batch.ensures.none c.in_ok-put_change.ensures

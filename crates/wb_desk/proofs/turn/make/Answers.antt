@@ -1,48 +1,82 @@
-use Rattle.std.proofs.Common.{◌≡◌, length, sym, ap, ◌∙◌, subst, arith}
-use Rattle.wb_model.specs.Access.{requests}
+use Rattle.std.proofs.Common.{◌≡◌, refl, sym, ap, ◌∙◌, subst}
+use Rattle.wb_model.specs.Changes.{Begins, Notes, LogsIn, LogsOut, Configures}
 use Rattle.wb_model.specs.Host.{changed}
-use Rattle.wb_model.specs.Tables.{Plain}
-use Rattle.wb_plan.specs.Plans.{IsFit, HasRoom, begins, change_of, given_of}
+use Rattle.wb_plan.specs.Plans.{IsFit, HasRoom, begins, given_of}
+use Rattle.wb_tables.specs.Configured.{setting_of}
 use Rattle.wb_tables.specs.Kept.{place_of, plain_of, tables_of}
-use Rattle.wb_desk.specs.Ready.{IsFresh, IsOwn}
-use Rattle.wb_desk.proofs.Begun.{IsBegun, begun_place, begun_tables}
+use Rattle.wb_tables.specs.Logins.{login_of, who_seen}
+use Rattle.wb_desk.specs.Ready.{IsOwn, planned_change}
+use Rattle.wb_desk.proofs.Changes.{tables_made}
 use Rattle.wb_desk.proofs.turn.make.Goals as goal
 
+-- ---- a report begins
+
 pub open_case-requires-clause-number : goal.open_case-requires-clause-number
-open_case-requires-clause-number c = (subst (IsFit c.args.tenancy.now) c.in-Begins.is c.requires.room.fit).0
+open_case-requires-clause-number c = (subst (IsFit c.args.time c.args.tenancy.now) c.in-Begins.is c.requires.room.fit).0
 
 pub open_case-requires-clause-begun : goal.open_case-requires-clause-begun
-open_case-requires-clause-begun c = (subst (IsFit c.args.tenancy.now) c.in-Begins.is c.requires.room.fit).1
+open_case-requires-clause-begun c = (subst (IsFit c.args.time c.args.tenancy.now) c.in-Begins.is c.requires.room.fit).1
 
 pub open_case-requires-clause-none : goal.open_case-requires-clause-none
-open_case-requires-clause-none c = (subst (IsFit c.args.tenancy.now) c.in-Begins.is c.requires.room.fit).2
+open_case-requires-clause-none c = (subst (IsFit c.args.time c.args.tenancy.now) c.in-Begins.is c.requires.room.fit).2
 
 pub open_case-requires-clause-room : goal.open_case-requires-clause-room
-open_case-requires-clause-room c = (subst (HasRoom c.args.tenancy.now.cases.spare c.args.sealed.now.spare) c.in-Begins.is c.requires.room.room).0
+open_case-requires-clause-room c = (subst (HasRoom c.args.tenancy.now c.args.sealed.now.spare) c.in-Begins.is c.requires.room.room).0
 
 pub open_case-requires-clause-sealed_room : goal.open_case-requires-clause-sealed_room
-open_case-requires-clause-sealed_room c = (subst (HasRoom c.args.tenancy.now.cases.spare c.args.sealed.now.spare) c.in-Begins.is c.requires.room.room).1
+open_case-requires-clause-sealed_room c = (subst (HasRoom c.args.tenancy.now c.args.sealed.now.spare) c.in-Begins.is c.requires.room.room).1
 
 pub returns-in-Begins-clause-tables : goal.returns-in-Begins-clause-tables
 returns-in-Begins-clause-tables c =
-    let fit = subst (IsFit c.args.tenancy.now) c.in-Begins.is c.requires.room.fit in
+    let begun = (subst (IsFit c.args.time c.args.tenancy.now) c.in-Begins.is c.requires.room.fit).1 in
     let o = c.in-Begins.opening in
-    let begun : IsBegun c.args.sealed.now.items c.open_case.new.sealed.items (place_of c.args.tenancy.now) (place_of c.open_case.new.tenancy) c.args.time fit.1.0 o.secret =
-    record { id = c.open_case.ensures.id; plain = c.open_case.ensures.plain fit.1.0 fit.1.1; here = λ n. c.open_case.ensures.here n } in
-    subst (λ change. tables_of c.open_case.new.sealed.items (place_of c.open_case.new.tenancy) ≡ changed c.args.time (change_of change) (given_of change) (tables_of c.args.sealed.now.items (place_of c.args.tenancy.now))) (sym c.in-Begins.is)
-    (begun_tables c.args.sealed.now.items c.open_case.new.sealed.items (place_of c.args.tenancy.now) (place_of c.open_case.new.tenancy) c.args.time o.case.items fit.1.0 o.secret fit.1.1 begun)
+    subst (λ change. tables_of c.open_case.new.sealed.items (place_of c.open_case.new.tenancy) ≡ changed c.args.time (planned_change c.args.tenancy.now change) (given_of change) (tables_of c.args.sealed.now.items (place_of c.args.tenancy.now))) (sym c.in-Begins.is)
+    (tables_made c.args.sealed.now.items c.open_case.new.sealed.items (place_of c.args.tenancy.now) (place_of c.open_case.new.tenancy) c.args.time (Begins begun.0) o.secret c.open_case.ensures.id (c.open_case.ensures.plain begun.0 begun.1) (λ n. c.open_case.ensures.here n)
+    ∙ sym (ap (λ es. changed c.args.time (begins es) o.secret (tables_of c.args.sealed.now.items (place_of c.args.tenancy.now))) begun.1))
 
-pub returns-in-Begins-clause-place : goal.returns-in-Begins-clause-place
-returns-in-Begins-clause-place c =
-    let fit = subst (IsFit c.args.tenancy.now) c.in-Begins.is c.requires.room.fit in
-    let o = c.in-Begins.opening in
-    let begun : IsBegun c.args.sealed.now.items c.open_case.new.sealed.items (place_of c.args.tenancy.now) (place_of c.open_case.new.tenancy) c.args.time fit.1.0 o.secret =
-    record { id = c.open_case.ensures.id; plain = c.open_case.ensures.plain fit.1.0 fit.1.1; here = λ n. c.open_case.ensures.here n } in
-    let fresh : IsFresh (plain_of c.args.tenancy.now) fit.1.0 = subst (IsOwn (plain_of c.args.tenancy.now)) (ap change_of c.in-Begins.is ∙ ap begins fit.1.1) c.requires.own in
-    λ turns place. begun_place turns c.args.sealed.now.items c.open_case.new.sealed.items (place_of c.args.tenancy.now) (place_of c.open_case.new.tenancy) c.args.time fit.1.0 o.secret fresh (sym (ap requests fit.1.1) ∙ fit.2) place begun
+-- ---- a report gets an entry
 
-pub returns-in-Begins-clause-sessions : goal.returns-in-Begins-clause-sessions
-returns-in-Begins-clause-sessions c =
-    let fit = subst (IsFit c.args.tenancy.now) c.in-Begins.is c.requires.room.fit in
-    let same = ap (λ (p : Plain). length p.sessions) (c.open_case.ensures.plain fit.1.0 fit.1.1) in
-    omega (arith, same)
+pub note_entry-requires-clause-ready : goal.note_entry-requires-clause-ready
+note_entry-requires-clause-ready c = (subst (HasRoom c.args.tenancy.now c.args.sealed.now.spare) c.in-Notes.is c.requires.room.room).0
+
+pub note_entry-requires-clause-room : goal.note_entry-requires-clause-room
+note_entry-requires-clause-room c = (subst (HasRoom c.args.tenancy.now c.args.sealed.now.spare) c.in-Notes.is c.requires.room.room).1
+
+pub note_entry-requires-clause-sealed_room : goal.note_entry-requires-clause-sealed_room
+note_entry-requires-clause-sealed_room c = (subst (HasRoom c.args.tenancy.now c.args.sealed.now.spare) c.in-Notes.is c.requires.room.room).2
+
+pub returns-in-Notes-clause-tables : goal.returns-in-Notes-clause-tables
+returns-in-Notes-clause-tables c =
+    let n = c.in-Notes.noted in
+    subst (λ change. tables_of c.note_entry.new.sealed.items (place_of c.note_entry.new.tenancy) ≡ changed c.args.time (planned_change c.args.tenancy.now change) (given_of change) (tables_of c.args.sealed.now.items (place_of c.args.tenancy.now))) (sym c.in-Notes.is)
+    (tables_made c.args.sealed.now.items c.note_entry.new.sealed.items (place_of c.args.tenancy.now) (place_of c.note_entry.new.tenancy) c.args.time (Notes n.number n.entry) n.secret c.note_entry.ensures.id (c.note_entry.ensures.plain c.args.time) (λ k. c.note_entry.ensures.here k))
+
+-- ---- a session begins, or ends
+
+pub log_in-requires-clause-room : goal.log_in-requires-clause-room
+log_in-requires-clause-room c = subst (HasRoom c.args.tenancy.now c.args.sealed.now.spare) c.in-LogsIn.is c.requires.room.room
+
+pub log_in-requires-clause-later : goal.log_in-requires-clause-later
+log_in-requires-clause-later c = subst (IsFit c.args.time c.args.tenancy.now) c.in-LogsIn.is c.requires.room.fit
+
+pub returns-in-LogsIn-clause-tables : goal.returns-in-LogsIn-clause-tables
+returns-in-LogsIn-clause-tables c =
+    subst (λ change. tables_of c.args.sealed.now.items (place_of c.log_in.new.tenancy) ≡ changed c.args.time (planned_change c.args.tenancy.now change) (given_of change) (tables_of c.args.sealed.now.items (place_of c.args.tenancy.now))) (sym c.in-LogsIn.is)
+    (tables_made c.args.sealed.now.items c.args.sealed.now.items (place_of c.args.tenancy.now) (place_of c.log_in.new.tenancy) c.args.time (LogsIn (login_of c.in-LogsIn.login)) (given_of c.args.change) c.log_in.ensures.id (c.log_in.ensures.plain c.args.time) (λ k. refl))
+
+pub returns-in-LogsOut-clause-tables : goal.returns-in-LogsOut-clause-tables
+returns-in-LogsOut-clause-tables c =
+    subst (λ change. tables_of c.args.sealed.now.items (place_of c.log_out.new.tenancy) ≡ changed c.args.time (planned_change c.args.tenancy.now change) (given_of change) (tables_of c.args.sealed.now.items (place_of c.args.tenancy.now))) (sym c.in-LogsOut.is)
+    (tables_made c.args.sealed.now.items c.args.sealed.now.items (place_of c.args.tenancy.now) (place_of c.log_out.new.tenancy) c.args.time (LogsOut c.in-LogsOut.turn (who_seen c.in-LogsOut.field-1)) (given_of c.args.change) c.log_out.ensures.id
+    (c.log_out.ensures.plain c.args.time (who_seen c.in-LogsOut.field-1) (subst (IsOwn (plain_of c.args.tenancy.now).sessions) c.in-LogsOut.is c.requires.own)) (λ k. refl))
+
+-- ---- a setting is put in
+
+pub configure-requires : goal.configure-requires
+configure-requires c = record { ready = subst (HasRoom c.args.tenancy.now c.args.sealed.now.spare) c.in-Configures.is c.requires.room.room }
+
+pub returns-in-Configures-clause-tables : goal.returns-in-Configures-clause-tables
+returns-in-Configures-clause-tables c =
+    let x = c.args.tenancy.now.configuration in
+    subst (λ change. tables_of c.args.sealed.now.items (place_of c.configure.new.tenancy) ≡ changed c.args.time (planned_change c.args.tenancy.now change) (given_of change) (tables_of c.args.sealed.now.items (place_of c.args.tenancy.now))) (sym c.in-Configures.is)
+    (tables_made c.args.sealed.now.items c.args.sealed.now.items (place_of c.args.tenancy.now) (place_of c.configure.new.tenancy) c.args.time (Configures (setting_of x.tenant x.registry c.in-Configures.next.proposal)) (given_of c.args.change) c.configure.ensures.id (c.configure.ensures.plain c.args.time) (λ k. refl))

@@ -1,19 +1,22 @@
 use Rattle.std.proofs.Common.{◌≡◌, ◌≢◌, ◌<◌, [], length, map, refl, sym, ap, ◌∙◌, subst, arith}
-use Rattle.std.specs.Prelude.{All}
+use Rattle.std.specs.Prelude.{All, slice_index_or}
 use Rattle.wb_base.specs.KeptRows.{all_changed, IsGoodChange}
 use Rattle.wb_model.specs.Commands.{tenant_of}
 use Rattle.wb_model.specs.Rows.{rows_of}
-use Rattle.wb_tables.specs.Kept.{place_of, tenancy_of}
+use Rattle.wb_tables.specs.Kept.{place_of, tenancy_of, live_place}
+use Rattle.wb_desk.proofs.ChangeRows.{puttable}
 use Rattle.wb_desk.proofs.KeptTurns.{keeps_at, lost_turn, names_none, pick}
+use Rattle.wb_desk.proofs.OwnSessions.{own_at}
+use Rattle.wb_desk.proofs.Rooms.{room_made}
 use Rattle.wb_desk.proofs.Tenants.{tenant_there}
 use Rattle.wb_desk.proofs.TurnRows.{batch_same, rows_at}
-use Rattle.wb_desk.proofs.Whole.{IsPurge, purge_of, places_left, turn_over, room_left, length_same, own_at}
+use Rattle.wb_desk.proofs.Whole.{IsPurge, purge_of, turn_over, length_same}
 use Rattle.wb_desk.proofs.turn.turn_at.Goals as goal
 
 pub returns-in_default-clause-turn : goal.returns-in_default-clause-turn
 returns-in_default-clause-turn g c = (
   record { places = c.prepare_at.ensures.tenants_left; sealed = c.prepare_at.ensures.sealed_left },
-  λ health. absurd (let there : 0 < tenant_of c.args.asked.now.command = tenant_there c.args.at.now.turn (tenant_of c.args.asked.now.command) c.args.place c.args.sealed.now.items c.args.tenancies.now c.requires.places c.requires.place in
+  λ health. absurd (let there : 0 < tenant_of c.args.asked.now.command = tenant_there c.requires.places.0 (tenant_of c.args.asked.now.command) c.args.place c.args.sealed.now.items c.args.tenancies.now c.requires.places.2 c.requires.place in
       let none : tenant_of c.args.asked.now.command ≡ 0 = names_none c.args.asked.now.command health in omega (arith, there, none)),
 )
 
@@ -26,28 +29,26 @@ pub returns-in-Err-clause-turn : goal.returns-in-Err-clause-turn
 returns-in-Err-clause-turn g c =
     lost_turn (map place_of c.args.tenancies.now) c.args.sealed.now.items (map place_of c.prepare_at.new.tenancies) c.prepare_at.new.sealed.items c.args.at.now c.args.asked.now c.in-Err.lost (record { places = c.prepare_at.ensures.tenants_left; sealed = c.prepare_at.ensures.sealed_left })
     (pick c.args.tenancies.now c.args.place c.requires.place.within (λ d.
-    keeps_at (tenant_of c.args.asked.now.command) c.args.place c.args.at.now c.args.asked.now c.args.sealed.now.items c.args.tenancies.now d c.in-Ok.batched.plan c.in-Ok.batched.batch.items c.requires.places c.requires.place refl (c.in-Ok.ensures.plan d)
+    keeps_at c.requires.places.0 (tenant_of c.args.asked.now.command) c.args.place c.args.at.now c.args.asked.now c.args.sealed.now.items c.args.tenancies.now d c.in-Ok.batched.plan c.in-Ok.batched.batch.items c.requires.places.2 c.requires.place refl (c.in-Ok.ensures.plan d)
     (batch_same c.args.at.now.time c.args.place c.args.tenancies.now c.prepare_at.new.tenancies d c.in-Ok.batched.plan.change c.in-Ok.batched.batch.items c.prepare_at.ensures.tenants_left (c.in-Ok.ensures.batch d))
     (subst (λ l. l ≢ []) c.as_slice.ensures.value c.in-Err.ensures.asked)))
 
 pub make_at-requires-clause-room : goal.make_at-requires-clause-room
 make_at-requires-clause-room g c =
-    let within : c.args.place < length c.prepare_at.new.tenancies = length_same c.args.place c.args.tenancies.now c.prepare_at.new.tenancies c.prepare_at.ensures.tenants_left c.requires.place.within in
-    room_left c.args.at.now.time c.args.place c.prepare_at.new.sealed.spare c.purge_all.new.sealed.spare c.prepare_at.new.tenancies c.purge_all.new.tenancies c.in-Ok.batched.plan.change c.purge_all.ensures.kept c.purge_all.ensures.places within c.purge_all.ensures.sealed_room c.in-Ok.ensures.room
+    room_made c.requires.places.0 c.args.at.now.time c.args.place c.prepare_at.new.sealed.spare c.purge_all.new.sealed.spare c.args.sealed.now.items c.args.tenancies.now c.prepare_at.new.tenancies c.purge_all.new.tenancies c.in-Ok.batched.plan.change
+    c.requires.places.2 c.prepare_at.ensures.tenants_left c.purge_all.ensures.kept c.purge_all.ensures.places c.requires.place.within c.purge_all.ensures.sealed_room c.in-Ok.ensures.room
 
 pub make_at-requires-clause-own : goal.make_at-requires-clause-own
 make_at-requires-clause-own g c = λ d.
-    let purge : IsPurge c.args.at.now.time (map place_of c.args.tenancies.now) c.args.sealed.now.items (map place_of c.purge_all.new.tenancies) c.purge_all.new.sealed.items = (purge_of c.args.at.now.time (map place_of c.args.tenancies.now) (map place_of c.prepare_at.new.tenancies) (map place_of c.purge_all.new.tenancies) c.args.sealed.now.items c.prepare_at.new.sealed.items c.purge_all.new.sealed.items
-    (sym c.prepare_at.ensures.tenants_left) (sym c.prepare_at.ensures.sealed_left) c.purge_all.ensures.places c.purge_all.ensures.hosts) in
-    own_at c.args.place c.args.at.now c.args.asked.now c.in-Ok.batched.plan c.args.sealed.now.items c.args.tenancies.now c.purge_all.new.tenancies d purge.places c.requires.place.within (c.in-Ok.ensures.plan d)
+    own_at c.requires.places.0 c.args.place c.args.at.now c.args.asked.now c.in-Ok.batched.plan c.args.sealed.now.items c.args.tenancies.now c.purge_all.new.tenancies d c.requires.places.2
+    (c.purge_all.ensures.places ∙ ap (map (live_place c.args.at.now.time)) c.prepare_at.ensures.tenants_left) c.requires.place.within (c.in-Ok.ensures.plan d)
 
 pub returns-clause-turn : goal.returns-clause-turn
 returns-clause-turn g c =
     let purge : IsPurge c.args.at.now.time (map place_of c.args.tenancies.now) c.args.sealed.now.items (map place_of c.purge_all.new.tenancies) c.purge_all.new.sealed.items = (purge_of c.args.at.now.time (map place_of c.args.tenancies.now) (map place_of c.prepare_at.new.tenancies) (map place_of c.purge_all.new.tenancies) c.args.sealed.now.items c.prepare_at.new.sealed.items c.purge_all.new.sealed.items
     (sym c.prepare_at.ensures.tenants_left) (sym c.prepare_at.ensures.sealed_left) c.purge_all.ensures.places c.purge_all.ensures.hosts) in
-    turn_over (tenant_of c.args.asked.now.command) c.args.place c.args.at.now c.args.asked.now c.in-Ok.batched.plan c.args.sealed.now.items c.purge_all.new.sealed.items c.make_at.new.sealed.items c.args.tenancies.now c.purge_all.new.tenancies c.make_at.new.tenancies
-    c.requires.places c.requires.place refl c.in-Ok.ensures.plan purge c.make_at.ensures.made
-    (c.make_at.ensures.places c.args.at.now.turn (places_left c.args.at.now.turn c.args.at.now.time (map place_of c.args.tenancies.now) c.args.sealed.now.items (map place_of c.purge_all.new.tenancies) c.purge_all.new.sealed.items c.requires.places purge)) c.make_at.ensures.sessions
+    turn_over c.requires.places.0 (tenant_of c.args.asked.now.command) c.args.place c.args.at.now c.args.asked.now c.in-Ok.batched.plan c.args.sealed.now.items c.purge_all.new.sealed.items c.make_at.new.sealed.items c.args.tenancies.now c.purge_all.new.tenancies c.make_at.new.tenancies
+    c.requires.places.2 c.requires.place refl c.in-Ok.ensures.plan purge c.make_at.ensures.made c.make_at.ensures.set_up c.make_at.ensures.sessions
 
 pub returns-clause-kept : goal.returns-clause-kept
 returns-clause-kept g c = λ h held.
@@ -55,7 +56,11 @@ returns-clause-kept g c = λ h held.
     (sym c.prepare_at.ensures.tenants_left) (sym c.prepare_at.ensures.sealed_left) c.purge_all.ensures.places c.purge_all.ensures.hosts) in
     subst (g.K.Keeper.holds c.keep.new.keeper)
     (ap (all_changed (rows_of (map (tenancy_of c.args.sealed.now.items) (map place_of c.args.tenancies.now)))) c.as_slice.ensures.value
-    ∙ rows_at c.args.at.now.turn c.args.at.now.time c.args.place c.args.sealed.now.items c.purge_all.new.sealed.items c.make_at.new.sealed.items c.args.tenancies.now c.purge_all.new.tenancies c.make_at.new.tenancies c.in-Ok.batched.plan.change c.in-Ok.batched.batch.items c.requires.places c.requires.place.within
+    ∙ rows_at c.requires.places.0 c.args.at.now.time c.args.place c.args.sealed.now.items c.purge_all.new.sealed.items c.make_at.new.sealed.items c.args.tenancies.now c.purge_all.new.tenancies c.make_at.new.tenancies c.in-Ok.batched.plan.change c.in-Ok.batched.batch.items c.requires.places.2 c.requires.place.within
     (λ d. batch_same c.args.at.now.time c.args.place c.args.tenancies.now c.prepare_at.new.tenancies d c.in-Ok.batched.plan.change c.in-Ok.batched.batch.items c.prepare_at.ensures.tenants_left (c.in-Ok.ensures.batch d))
-    purge c.make_at.ensures.made)
+    purge
+    (λ d. puttable c.args.at.now.time c.purge_all.new.sealed.spare (slice_index_or c.purge_all.new.tenancies c.args.place d) c.in-Ok.batched.plan.change
+    (room_made c.requires.places.0 c.args.at.now.time c.args.place c.prepare_at.new.sealed.spare c.purge_all.new.sealed.spare c.args.sealed.now.items c.args.tenancies.now c.prepare_at.new.tenancies c.purge_all.new.tenancies c.in-Ok.batched.plan.change
+    c.requires.places.2 c.prepare_at.ensures.tenants_left c.purge_all.ensures.kept c.purge_all.ensures.places c.requires.place.within c.purge_all.ensures.sealed_room c.in-Ok.ensures.room d))
+    c.make_at.ensures.made)
     (c.in-Ok-keep.ensures.ok h (rows_of (map (tenancy_of c.args.sealed.now.items) (map place_of c.args.tenancies.now))) held)

@@ -16,5 +16,5 @@ returns-in-Err-clause-turn g c =
 
 pub returns-clause-turn : goal.returns-clause-turn
 returns-clause-turn g c =
-    turn_without c.args.t c.args.at.now c.args.asked.now c.in-Ok.unnamed.told c.args.sealed.now.items c.purge_all.new.sealed.items (map place_of c.args.tenancies.now) (map place_of c.purge_all.new.tenancies)
-    c.requires.places c.requires.tenant c.requires.absent c.in-Ok.ensures.told (record { places = c.purge_all.ensures.places; hosts = c.purge_all.ensures.hosts })
+    turn_without c.requires.places.0 c.args.t c.args.at.now c.args.asked.now c.in-Ok.unnamed.told c.args.sealed.now.items c.purge_all.new.sealed.items (map place_of c.args.tenancies.now) (map place_of c.purge_all.new.tenancies)
+    c.requires.places.2 c.requires.tenant c.requires.absent c.in-Ok.ensures.told (record { places = c.purge_all.ensures.places; hosts = c.purge_all.ensures.hosts })

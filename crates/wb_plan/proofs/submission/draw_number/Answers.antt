@@ -6,7 +6,8 @@ use Rattle.wb_plan.specs.Plans.{at_of}
 use Rattle.wb_plan.specs.Targeted.{told_of}
 use Rattle.wb_tables.specs.Kept.{plain_of, live_plain}
 use Rattle.wb_plan.proofs.Results.{ok_both}
-use Rattle.wb_plan.proofs.Submissions.{sound_context, hindered, refused_plan, begun, fit_begun, asks_none, number_left}
+use Rattle.wb_plan.proofs.Steps.{refused_plan}
+use Rattle.wb_plan.proofs.Submissions.{sound_context, hindered, begun, fit_begun, asks_none, number_left}
 use Rattle.wb_plan.proofs.submission.draw_number.Goals as goal
 
 pub begin-requires-clause-low : goal.begin-requires-clause-low
@@ -20,9 +21,9 @@ unfolding submission_fault
 returns-in-Some-clause-plan c =
     let p = live_plain c.args.at.now.time (plain_of c.args.tenancy.now) in
     let why = sym c.hindrance.ensures ∙ ap (option_map told_of) c.in-Some.is in
-    ok_both c.refusing.result
-    (λ plan told change id answers a s who sealed. refused_plan sealed _ _ (told_of c.in-Some.why) plan (hindered p (at_of c.args.at.now) who id answers c.args.asking.now.context.now c.args.asking.now.item.now (told_of c.in-Some.why) a s.valid why) told change)
-    c.refusing.ensures.told c.refusing.ensures.change
+    ok_both c.refused.result
+    (λ plan told change id answers a s who sealed. refused_plan c.args.tenancy.now.configuration.tenant p.registry sealed _ _ (told_of c.in-Some.why) plan (hindered p (at_of c.args.at.now) who id answers c.args.asking.now.context.now c.args.asking.now.item.now (told_of c.in-Some.why) a s.valid why) told change)
+    c.refused.ensures.told c.refused.ensures.change
 
 pub returns-in-None-clause-plan : goal.returns-in-None-clause-plan
 unfolding submission_fault public secret mark
@@ -30,7 +31,7 @@ returns-in-None-clause-plan c =
     let p = live_plain c.args.at.now.time (plain_of c.args.tenancy.now) in
     let free = sym c.hindrance.ensures ∙ ap (option_map told_of) c.in-None.is in
     ok_both c.begin.result
-    (λ plan told change id answers a s. begun p (at_of c.args.at.now) id answers c.args.asking.now.context.now c.args.asking.now.item.now c.args.split.public c.args.split.sealed c.args.split.mark a s.valid free s.public s.sealed s.mark plan told change)
+    (λ plan told change id answers a s. begun c.args.tenancy.now.configuration.tenant p (at_of c.args.at.now) id answers c.args.asking.now.context.now c.args.asking.now.item.now c.args.split.public c.args.split.sealed c.args.split.mark a s.valid free s.public s.sealed s.mark plan told change)
     c.begin.ensures.told c.begin.ensures.change
 
 pub returns-in-None-clause-fit : goal.returns-in-None-clause-fit

@@ -1,9 +1,10 @@
+use Rattle.std.proofs.Common.{◌∙◌}
 use Rattle.std.proofs.lemmas.Result.{IfOk-weaker}
 use Rattle.wb_model.specs.Requests.{submission_fault}
 use Rattle.wb_plan.specs.Plans.{at_of}
 use Rattle.wb_tables.specs.Kept.{plain_of, live_plain}
-use Rattle.wb_plan.proofs.Results.{ok_three}
-use Rattle.wb_plan.proofs.Submissions.{newest_good, faulted, refused_plan}
+use Rattle.wb_plan.proofs.Steps.{refused_plan}
+use Rattle.wb_plan.proofs.Submissions.{newest_good, faulted}
 use Rattle.wb_plan.proofs.submission.submit.Goals as goal
 
 pub check-requires : goal.check-requires
@@ -13,10 +14,9 @@ pub returns-in-Ok-clause-plan : goal.returns-in-Ok-clause-plan
 returns-in-Ok-clause-plan c =
     IfOk-weaker c.draw_number.result _ _ (λ plan h. h c.args.id c.args.answers.now c.in-Some.ensures (record { valid = c.in-Ok.ensures.valid; public = c.in-Ok.ensures.public; sealed = c.in-Ok.ensures.sealed; mark = c.in-Ok.ensures.mark })) c.draw_number.ensures.plan
 
-pub returns-in-Err-clause-plan : goal.returns-in-Err-clause-plan
+pub returns-in_ok-faulty-in-Err-clause-plan : goal.returns-in_ok-faulty-in-Err-clause-plan
 unfolding submission_fault
-returns-in-Err-clause-plan c =
+returns-in_ok-faulty-in-Err-clause-plan c =
     let p = live_plain c.args.at.now.time (plain_of c.args.tenancy.now) in
-    ok_three c.faulty.result
-    (λ plan code told change who sealed. refused_plan sealed _ _ _ plan (faulted p (at_of c.args.at.now) who c.args.id c.args.answers.now c.in-Some.asking.context.now c.in-Some.asking.item.now c.in-Err.fault c.in-Some.ensures (c.in-Err.ensures.fault code)) told change)
-    c.faulty.ensures.code c.faulty.ensures.told c.faulty.ensures.change
+    λ who sealed. refused_plan c.args.tenancy.now.configuration.tenant p.registry sealed _ _ _ c.answering.result
+    (faulted p (at_of c.args.at.now) who c.args.id c.args.answers.now c.in-Some.asking.context.now c.in-Some.asking.item.now c.in-Err.fault c.in-Some.ensures (c.in-Err.ensures.fault c.in_ok-faulty-in-Err.ensures.code)) (c.answering.ensures.told ∙ c.in_ok-faulty-in-Err.ensures.told) c.answering.ensures.change

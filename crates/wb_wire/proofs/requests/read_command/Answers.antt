@@ -4,7 +4,7 @@ use Rattle.wb_model.specs.declared.command.Command.{Command}
 use Rattle.wb_model.specs.declared.wire.WireFault.{WireFault}
 use Rattle.wb_model.specs.Bodies.{Numbers, bare}
 use Rattle.wb_model.specs.Heads.{path_of}
-use Rattle.wb_model.specs.Readings.{located, sized, and_then, built, command_by, command}
+use Rattle.wb_model.specs.Readings.{located, sized, command_by, command}
 use Rattle.wb_model.specs.Routes.{route}
 use Rattle.wb_wire.specs.Places.{place_value}
 use Rattle.wb_wire.specs.RequestParts.{fields_in, GivesOrWants}
@@ -25,7 +25,7 @@ returns-in-Some-bare-clause-asked c =
     let routes : route p.method.now place.methods ≡ Some asked = sym c.route.ensures ∙ c.in-Some-route.is in
     let is : bare asked place.at ≡ Some c.in-Some-bare.command = ap (λ (at : Numbers). bare asked at) (sym c.numbers-numbers.ensures) ∙ (sym c.bare.ensures ∙ c.in-Some-bare.is) in
     let made : command place.at p.rest.now c.in_ok-said.said asked ≡ Ok c.in-Some-bare.command = ap (command_by asked place.at p.rest.now c.in_ok-said.said) is in
-    same_given _ _ (asks_on p.method.now (path_of p.target.now) (fields_in p) p.rest.now c.in_ok-said.said place asked said found routes ∙ (ap (and_then built) made ∙ sym c.built.ensures.built))
+    same_given _ _ (asks_on p.method.now (path_of p.target.now) (fields_in p) p.rest.now c.in_ok-said.said place asked said found routes ∙ made)
 
 pub returns-in-Ok-clause-asked : goal.returns-in-Ok-clause-asked
 returns-in-Ok-clause-asked c =
@@ -36,7 +36,7 @@ returns-in-Ok-clause-asked c =
     let found : located (path_of p.target.now) ≡ Some place = ap located (sym c.path_of.ensures) ∙ (sym c.find_place.ensures ∙ ap (option_map place_value) c.in-Some.is) in
     let routes : route p.method.now place.methods ≡ Some asked = sym c.route.ensures ∙ c.in-Some-route.is in
     let made : command place.at p.rest.now c.in_ok-said.said asked ≡ Ok c.in-Ok.command = ap (λ (at : Numbers). command at p.rest.now c.in_ok-said.said asked) (sym c.numbers-numbers.ensures) ∙ c.in-Ok.ensures in
-    same_given _ _ (asks_on p.method.now (path_of p.target.now) (fields_in p) p.rest.now c.in_ok-said.said place asked said found routes ∙ (ap (and_then built) made ∙ sym c.built-in-Ok.ensures.built))
+    same_given _ _ (asks_on p.method.now (path_of p.target.now) (fields_in p) p.rest.now c.in_ok-said.said place asked said found routes ∙ made)
 
 pub returns-in-Err-clause-asked : goal.returns-in-Err-clause-asked
 returns-in-Err-clause-asked c =
@@ -48,7 +48,7 @@ returns-in-Err-clause-asked c =
     let routes : route p.method.now place.methods ≡ Some asked = sym c.route.ensures ∙ c.in-Some-route.is in
     λ other.
     let made : command place.at p.rest.now c.in_ok-said.said asked ≡ Err c.in-Err.fault = ap (λ (at : Numbers). command at p.rest.now c.in_ok-said.said asked) (sym c.numbers-numbers.ensures) ∙ c.in-Err.ensures other in
-    asks_on p.method.now (path_of p.target.now) (fields_in p) p.rest.now c.in_ok-said.said place asked said found routes ∙ ap (and_then built) made
+    asks_on p.method.now (path_of p.target.now) (fields_in p) p.rest.now c.in_ok-said.said place asked said found routes ∙ made
 
 pub returns-in-Err-clause-health : goal.returns-in-Err-clause-health
 returns-in-Err-clause-health c =

@@ -1,0 +1,72 @@
+-- Which commands are on which targets: a command's route says who may call it.
+use Rattle.std.specs.Prelude.{Bool, true, false, not, ◌&&◌, ◌||◌, Some, None, is_some}
+use Rattle.wb_model.specs.declared.command.Command.{Command}
+use Rattle.wb_model.specs.declared.command.Command.TheVariants as commands
+use Rattle.wb_model.specs.declared.route.Route.TheVariants as routes
+use Rattle.wb_model.specs.Commands.{Need, Anyone, Any_session, Own, Staff, Names, need, is_of}
+use Rattle.wb_model.specs.Past.{named}
+use Rattle.wb_model.specs.Tables.{TheUser, TheReporter}
+use Rattle.wb_model.specs.Targets.{Target, Nobody, Alone, On}
+
+-- a login by a name and a password
+abbrev pub is_entry : Command → Bool
+is_entry (commands.Login t user password) = true
+is_entry _ = false
+
+-- a login by a receipt
+abbrev pub is_return : Command → Bool
+is_return (commands.ReceiptLogin t receipt) = true
+is_return _ = false
+
+abbrev pub is_free : Need → Bool
+is_free Anyone = true
+is_free _ = false
+
+-- a user's request on no report
+abbrev pub is_staffed : Need → Bool
+is_staffed Any_session = true
+is_staffed (Staff role) = true
+is_staffed _ = false
+
+-- a reporter's request
+abbrev pub is_owned : Need → Bool
+is_owned Any_session = true
+is_owned Own = true
+is_owned _ = false
+
+-- the command may be on this target
+abbrev pub suits : Target → Command → Bool
+suits (Nobody told) command = true
+suits (Alone None) command = is_free (need command) && not (is_of routes.Login command)
+suits (Alone (Some (TheUser u))) command = is_entry command || is_staffed (need command)
+suits (Alone (Some (TheReporter n))) command = false
+suits (On (TheUser u) case) command = is_some (named (need command))
+suits (On (TheReporter n) case) command = is_return command || is_owned (need command)
+
+-- anyone is shown something
+abbrev pub is_shown_to_all : Command → Bool
+is_shown_to_all commands.Health = true
+is_shown_to_all (commands.Public t) = true
+is_shown_to_all (commands.ContextOf t c) = true
+is_shown_to_all _ = false
+
+-- a user is shown something that is no single report
+abbrev pub is_shown_to_users : Command → Bool
+is_shown_to_users (commands.List t) = true
+is_shown_to_users (commands.DueList t) = true
+is_shown_to_users (commands.Requests t) = true
+is_shown_to_users (commands.Admin t) = true
+is_shown_to_users _ = false
+
+-- an act of a reader
+abbrev pub is_act : Command → Bool
+is_act (commands.Comment t n text internal) = true
+is_act (commands.Label t n label) = true
+is_act (commands.SetStatus t n status) = true
+is_act (commands.Acknowledge t n) = true
+is_act (commands.Feedback t n text) = true
+is_act (commands.Share t n user) = true
+is_act (commands.Unshare t n u) = true
+is_act (commands.Transfer t n context) = true
+is_act (commands.Postpone t n) = true
+is_act _ = false

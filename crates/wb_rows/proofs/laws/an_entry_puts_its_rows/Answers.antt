@@ -1,0 +1,8 @@
+use Rattle.wb_rows.proofs.NotedRows.{noted_rows}
+use Rattle.wb_rows.proofs.RowPuts.{held_all}
+use Rattle.wb_rows.proofs.laws.an_entry_puts_its_rows.Goals as goal
+use Rattle.wb_model.specs.Tenants.{Tenancy}
+use Rattle.std.proofs.Common.{◌<◌}
+
+pub returns : goal.returns
+returns c = λ before after x below above. noted_rows before after x (held_all (λ (b : Tenancy). b.id < x.id) before below) (held_all (λ (a : Tenancy). x.id < a.id) after above)

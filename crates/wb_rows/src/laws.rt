@@ -1,0 +1,31 @@
+//! Laws of rows, each a function with no body: what the rows that a change puts make of the rows of a host.
+ghost use Rattle.std.specs.Prelude.{◌≡◌, ◌+◌, ◌<◌, ℕ, List, [], ◌∷◌, ◌++◌, length, All, Option, Some};
+ghost use Rattle.wb_base.specs.AnswerList.{Answered};
+ghost use Rattle.wb_base.specs.KeptRows.{all_changed};
+ghost use Rattle.wb_base.specs.declared.rows.Change.TheVariants.{Put};
+ghost use Rattle.wb_model.specs.declared.entry.Entry.{Entry};
+ghost use Rattle.wb_model.specs.Changes.{Notes, Configures};
+ghost use Rattle.wb_model.specs.Host.{changed};
+ghost use Rattle.wb_model.specs.Opened.{Ascend, AreVersions};
+ghost use Rattle.wb_model.specs.Rows.{row, rows_of, entry_data};
+ghost use Rattle.wb_model.specs.Settings.{Setting};
+ghost use Rattle.wb_model.specs.Tables.{Case, report};
+ghost use Rattle.wb_model.specs.Tenants.{Tenancy};
+ghost use Rattle.wb_rows.specs.Puts.{sealed_put, setting_row, IsVersion};
+
+/// One more entry on a report puts its row, and that of the identity answers that come with it. The rows after these are
+/// those of the changed tables.
+///
+/// Tenants stand in the order of their ids, and a tenant's reports in that of their numbers.
+pub fn an_entry_puts_its_rows()
+    ensures { (before after : List Tenancy) (x : Tenancy) → All (λ (b : Tenancy). b.id < x.id) before → All (λ (a : Tenancy). x.id < a.id) after → Ascend 0 x.tables.plain.cases → (n : ℕ) (case : Case) → report n x.tables.plain.cases ≡ Some case → (now : ℕ) (entry : Entry) (given : Option Answered) →
+        all_changed (rows_of (before ++ (x ∷ after))) (Put (row 6 x.id n (length case.trail + 1) (entry_data entry)) ∷ sealed_put x.id n given) ≡ rows_of (before ++ (record { id = x.id; tables = changed now (Notes n entry) given x.tables } ∷ after)) }
+{}
+
+/// A setting of a tenant puts one row, and the rows after it are those of the changed tables.
+///
+/// Tenants stand in the order of their ids, and no form has more than 99 versions.
+pub fn a_setting_puts_its_row()
+    ensures { (before after : List Tenancy) (x : Tenancy) → All (λ (b : Tenancy). b.id < x.id) before → All (λ (a : Tenancy). x.id < a.id) after → AreVersions x.tables.plain.registry.forms → (setting : Setting) → IsVersion setting → (now : ℕ) (secret : Option Answered) →
+        all_changed (rows_of (before ++ (x ∷ after))) (Put (setting_row x.id x.tables.plain.registry setting) ∷ []) ≡ rows_of (before ++ (record { id = x.id; tables = changed now (Configures setting) secret x.tables } ∷ after)) }
+{}
