@@ -2,13 +2,14 @@
 ghost use Rattle.std.specs.Prelude.{◌≡◌, ◌≤◌, ℕ, Some, None, IfOk};
 ghost use Rattle.serde_json.specs.Find.{as_bool};
 ghost use Rattle.serde_json.specs.View.{view, items_view};
-ghost use Rattle.wb_model.specs.Bodies.{under, if_under, text, whole, status_named as status_by, status as status_of, decision_named as decision_by, decision as decision_of, role_named as role_by, role as role_of, with_right as right_added, with_rights, no_rights, rights as rights_of};
+ghost use Rattle.wb_model.specs.Bodies.{under, if_under, text, whole, status as status_of, decision_named as decision_by, decision as decision_of, role as role_of, with_rights, no_rights, rights as rights_of};
 ghost use Rattle.wb_bodies.specs.Gives.{Gives};
 
 use crate::json_values::BodyNo;
 use serde_json::Value;
 use std::alloc::Global;
 use wb_base::{Role, Text, UserId};
+use wb_json::{role_named, status_named, with_right};
 use wb_model::{Decision, Rights, Status};
 
 // A text of so many bytes.
@@ -123,19 +124,6 @@ pub fn flag_under(value: &Value, key: &str) -> Result<bool, BodyNo>
     }
 }
 
-// The status of a name.
-fn status_named(name: &str) -> Option<Status>
-    ensures { result ≡ status_by name.now }
-{
-    if name == "opened" {
-        Some(Status::Opened)
-    } else if name == "closed" {
-        Some(Status::Closed)
-    } else {
-        None
-    }
-}
-
 /// The status under a key.
 pub fn status_under(value: &Value, key: &str) -> Result<Status, BodyNo>
     ensures { Gives (under key.now status_of (view value.now)) result }
@@ -177,21 +165,6 @@ pub fn decision_under(value: &Value, key: &str) -> Result<Decision, BodyNo>
     }
 }
 
-// The role of a name.
-fn role_named(name: &str) -> Option<Role>
-    ensures { result ≡ role_by name.now }
-{
-    if name == "recipient" {
-        Some(Role::Recipient)
-    } else if name == "custodian" {
-        Some(Role::Custodian)
-    } else if name == "admin" {
-        Some(Role::Admin)
-    } else {
-        None
-    }
-}
-
 /// The role under a key.
 pub fn role_under(value: &Value, key: &str) -> Result<Role, BodyNo>
     ensures { Gives (under key.now role_of (view value.now)) result }
@@ -202,36 +175,6 @@ pub fn role_under(value: &Value, key: &str) -> Result<Role, BodyNo>
             None => Err(BodyNo::Other),
         },
         None => Err(BodyNo::Other),
-    }
-}
-
-// These rights and the one of a name, which is none of them yet.
-fn with_right(may: Rights, name: &str) -> Option<Rights>
-    ensures { result ≡ right_added may name.now }
-{
-    if name == "postpone" {
-        if may.postpone {
-            return None;
-        }
-        Some(Rights {
-            postpone: true,
-            ..may
-        })
-    } else if name == "share" {
-        if may.share {
-            return None;
-        }
-        Some(Rights { share: true, ..may })
-    } else if name == "transfer" {
-        if may.transfer {
-            return None;
-        }
-        Some(Rights {
-            transfer: true,
-            ..may
-        })
-    } else {
-        None
     }
 }
 

@@ -1,7 +1,8 @@
-//! The names of roles, rights, statuses, states and kinds of what is due, as bodies and kept rows have them.
+//! The names of roles, rights, statuses, states and kinds of what is due, as requests, setups, bodies and kept rows have them.
 ghost use Rattle.std.specs.Prelude.{◌≡◌, ◌++◌, ◌∷◌, [], if◌then◌else◌, IfOk, OnOk};
 ghost use Rattle.serde_json.specs.Data.{string};
 ghost use Rattle.serde_json.specs.View.{view};
+ghost use Rattle.wb_model.specs.Bodies.{role_named as role_by, status_named as status_by, with_right as right_added};
 ghost use Rattle.wb_model.specs.Json.{list_of};
 ghost use Rattle.wb_model.specs.ListViews.{kind_name as kind_name_of};
 ghost use Rattle.wb_model.specs.Names.{role_name as role_name_of, right_names, status_name as status_name_of, state_name as state_name_of};
@@ -78,4 +79,62 @@ pub fn rights_value(alloc: Global, may: Rights) -> Result<Value, Memory>
     push_right(&mut names, alloc, may.share, "share")?;
     push_right(&mut names, alloc, may.transfer, "transfer")?;
     list_value(alloc, names.as_slice())
+}
+
+/// The status of a name that a request or a row may have.
+pub fn status_named(name: &str) -> Option<Status>
+    ensures { result ≡ status_by name.now }
+{
+    if name == "opened" {
+        Some(Status::Opened)
+    } else if name == "closed" {
+        Some(Status::Closed)
+    } else {
+        None
+    }
+}
+
+/// The role of a user's name for it.
+pub fn role_named(name: &str) -> Option<Role>
+    ensures { result ≡ role_by name.now }
+{
+    if name == "recipient" {
+        Some(Role::Recipient)
+    } else if name == "custodian" {
+        Some(Role::Custodian)
+    } else if name == "admin" {
+        Some(Role::Admin)
+    } else {
+        None
+    }
+}
+
+/// These rights and the one of a name, which is none of them yet.
+pub fn with_right(may: Rights, name: &str) -> Option<Rights>
+    ensures { result ≡ right_added may name.now }
+{
+    if name == "postpone" {
+        if may.postpone {
+            return None;
+        }
+        Some(Rights {
+            postpone: true,
+            ..may
+        })
+    } else if name == "share" {
+        if may.share {
+            return None;
+        }
+        Some(Rights { share: true, ..may })
+    } else if name == "transfer" {
+        if may.transfer {
+            return None;
+        }
+        Some(Rights {
+            transfer: true,
+            ..may
+        })
+    } else {
+        None
+    }
 }

@@ -1,7 +1,7 @@
 //! The entry of a trail, as a row has it.
 ghost use Rattle.std.specs.Prelude.{◌≡◌, option_map};
 ghost use Rattle.serde_json.specs.View.{view};
-ghost use Rattle.wb_model.specs.Bodies.{under, whole, status_named as status_by, status as status_of};
+ghost use Rattle.wb_model.specs.Bodies.{under, whole, status as status_of};
 ghost use Rattle.wb_kinds.specs.SaidDeeds as said;
 ghost use Rattle.wb_kinds.specs.Gives.{Gives};
 
@@ -15,6 +15,7 @@ use crate::row_no::RowNo;
 use serde_json::Value;
 use std::alloc::Global;
 use wb_base::UserId;
+use wb_json::status_named;
 use wb_model::{Actor, Deed, Entry, Status};
 
 fn submitted(alloc: Global, value: &Value) -> Result<Deed, RowNo>
@@ -59,19 +60,6 @@ fn label(alloc: Global, value: &Value) -> Result<Deed, RowNo>
 {
     let text = text_under(alloc, value, "text", 0, 64)?;
     Ok(Deed::Label { text })
-}
-
-// The status of a name.
-fn status_named(name: &str) -> Option<Status>
-    ensures { result ≡ status_by name.now }
-{
-    if name == "opened" {
-        Some(Status::Opened)
-    } else if name == "closed" {
-        Some(Status::Closed)
-    } else {
-        None
-    }
 }
 
 // The status under a key.

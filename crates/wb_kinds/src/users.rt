@@ -1,7 +1,7 @@
 //! A user of a tenant, as a row has it.
 ghost use Rattle.std.specs.Prelude.{◌≡◌, IfOk, true};
 ghost use Rattle.serde_json.specs.View.{view, items_view};
-ghost use Rattle.wb_model.specs.Bodies.{under, role_named as role_by, role as role_of, with_right as right_added, with_rights, no_rights, rights as rights_of};
+ghost use Rattle.wb_model.specs.Bodies.{under, role as role_of, with_rights, no_rights, rights as rights_of};
 ghost use Rattle.wb_model.specs.SetUps.{is_user_item};
 ghost use Rattle.wb_kinds.specs.Shapes.{user as user_of};
 ghost use Rattle.wb_kinds.specs.Gives.{Gives};
@@ -11,22 +11,8 @@ use crate::row_no::RowNo;
 use serde_json::Value;
 use std::alloc::Global;
 use wb_base::{Role, Tenant, UserId};
+use wb_json::{role_named, with_right};
 use wb_model::{Rights, UserItem};
-
-// The role of a name.
-fn role_named(name: &str) -> Option<Role>
-    ensures { result ≡ role_by name.now }
-{
-    if name == "recipient" {
-        Some(Role::Recipient)
-    } else if name == "custodian" {
-        Some(Role::Custodian)
-    } else if name == "admin" {
-        Some(Role::Admin)
-    } else {
-        None
-    }
-}
 
 // The role under a key.
 fn role_under(value: &Value, key: &str) -> Result<Role, RowNo>
@@ -38,36 +24,6 @@ fn role_under(value: &Value, key: &str) -> Result<Role, RowNo>
             None => Err(RowNo::Other),
         },
         None => Err(RowNo::Other),
-    }
-}
-
-// These rights and the one of a name, which is none of them yet.
-fn with_right(may: Rights, name: &str) -> Option<Rights>
-    ensures { result ≡ right_added may name.now }
-{
-    if name == "postpone" {
-        if may.postpone {
-            return None;
-        }
-        Some(Rights {
-            postpone: true,
-            ..may
-        })
-    } else if name == "share" {
-        if may.share {
-            return None;
-        }
-        Some(Rights { share: true, ..may })
-    } else if name == "transfer" {
-        if may.transfer {
-            return None;
-        }
-        Some(Rights {
-            transfer: true,
-            ..may
-        })
-    } else {
-        None
     }
 }
 

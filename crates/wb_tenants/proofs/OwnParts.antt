@@ -1,5 +1,5 @@
 -- A tenant's part of lists is a tenant's part of that part.
-use Rattle.std.proofs.Common.{◌≡◌, ℕ, ◌==◌, Bool, true, false, List, [], ◌∷◌, cond, filter, find, unwrap_or, Option, Some, is_some, refl, ap, ◌∙◌, subst, sym}
+use Rattle.std.proofs.Common.{◌≡◌, ℕ, ◌==◌, Bool, true, false, List, [], ◌∷◌, cond, filter, find, unwrap_or, Some, is_some, refl, ap, ◌∙◌}
 use Rattle.wb_list.proofs.KeyedLemmas.{ascending-filter}
 use Rattle.std.specs.Ordering.{nat_cmp}
 use Rattle.wb_model.specs.declared.registry.Lists.{Lists}
