@@ -1,5 +1,5 @@
 -- What refuses a deed that was done, by the act or move that it is like.
-use Rattle.std.proofs.Common.{◌≡◌, ℕ, Bool, true, false, not, List, length, Option, Some, None, refl, ap, ◌∙◌, option_map}
+use Rattle.std.proofs.Common.{◌≡◌, ℕ, false, not, List, length, Option, Some, None, refl, ap, ◌∙◌, option_map}
 use Rattle.std.specs.Prelude.{is_some}
 use Rattle.wb_model.specs.declared.access.AccessRequest.{AccessRequest}
 use Rattle.wb_model.specs.declared.act.Act.{Act}
@@ -7,7 +7,7 @@ use Rattle.wb_model.specs.declared.act.Move.{Move}
 use Rattle.wb_model.specs.declared.entry.Entry.{Entry}
 use Rattle.wb_model.specs.Access.{requests}
 use Rattle.wb_model.specs.Acts.{case_fault}
-use Rattle.wb_model.specs.Doings.{Doing, Acts, Moves, doing_fault}
+use Rattle.wb_model.specs.Doings.{Doing, Acts, Moves}
 use Rattle.wb_model.specs.Faults.{case_told, custody_told}
 use Rattle.wb_model.specs.Legal.{is_free}
 use Rattle.wb_model.specs.Moves.{custody_fault}

@@ -1,5 +1,5 @@
 -- Items whose rows ascend by their keys: those of each kind ascend by their own.
-use Rattle.std.proofs.Common.{◌≡◌, ℕ, ◌*◌, ◌+◌, ◌≤◌, Bool, true, false, List, [], ◌∷◌, map, Option, Some, None, Result, Ok, Err, refl, sym, ap, ◌∙◌, subst, arith}
+use Rattle.std.proofs.Common.{◌≡◌, ℕ, ◌*◌, ◌+◌, ◌≤◌, Bool, true, false, List, [], ◌∷◌, map, Option, Some, None, Result, Ok, Err, refl, sym, ap, ◌∙◌, subst}
 use Rattle.std.proofs.lemmas.Bool.{and_parts, eqb-true, leb-true, false≢true}
 use Rattle.std.specs.List.{filter_map, list_all, AllByRecursion}
 use Rattle.std.specs.List.Sorted.{IsStrictlySortedBy}
@@ -64,31 +64,31 @@ module _ {X K : Type 0} (pick : Item → Option X) (cmp : K → K → Ordering) 
 
 -- ---- which key an item of a kind has
 
-tenant_key : (i : Item) (x : TenantItem) → tenant_in i ≡ Some x → item_key i ≡ key 1 x.tenant 0 0
+pub tenant_key : (i : Item) (x : TenantItem) → tenant_in i ≡ Some x → item_key i ≡ key 1 x.tenant 0 0
 tenant_key (items.Settings y) x e = let same : y ≡ x = cc (e) in ap (λ (z : TenantItem). key 1 z.tenant 0 0) same
 tenant_key _ x e = absurd (cc (e))
 
-numbering_key : (i : Item) (x : NumberingItem) → numbering_in i ≡ Some x → item_key i ≡ key 2 x.tenant 0 0
+pub numbering_key : (i : Item) (x : NumberingItem) → numbering_in i ≡ Some x → item_key i ≡ key 2 x.tenant 0 0
 numbering_key (items.Numbering y) x e = let same : y ≡ x = cc (e) in ap (λ (z : NumberingItem). key 2 z.tenant 0 0) same
 numbering_key _ x e = absurd (cc (e))
 
-user_key : (i : Item) (x : UserItem) → user_in i ≡ Some x → item_key i ≡ key 3 x.tenant x.id 0
+pub user_key : (i : Item) (x : UserItem) → user_in i ≡ Some x → item_key i ≡ key 3 x.tenant x.id 0
 user_key (items.User y) x e = let same : y ≡ x = cc (e) in ap (λ (z : UserItem). key 3 z.tenant z.id 0) same
 user_key _ x e = absurd (cc (e))
 
-form_key : (i : Item) (x : FormItem) → form_in i ≡ Some x → item_key i ≡ key 4 x.tenant x.id x.version
+pub form_key : (i : Item) (x : FormItem) → form_in i ≡ Some x → item_key i ≡ key 4 x.tenant x.id x.version
 form_key (items.Form y) x e = let same : y ≡ x = cc (e) in ap (λ (z : FormItem). key 4 z.tenant z.id z.version) same
 form_key _ x e = absurd (cc (e))
 
-context_key : (i : Item) (x : ContextItem) → context_in i ≡ Some x → item_key i ≡ key 5 x.tenant x.id 0
+pub context_key : (i : Item) (x : ContextItem) → context_in i ≡ Some x → item_key i ≡ key 5 x.tenant x.id 0
 context_key (items.Context y) x e = let same : y ≡ x = cc (e) in ap (λ (z : ContextItem). key 5 z.tenant z.id 0) same
 context_key _ x e = absurd (cc (e))
 
-entry_item_key : (i : Item) (x : EntryItem) → entry_in i ≡ Some x → item_key i ≡ entry_key x
+pub entry_item_key : (i : Item) (x : EntryItem) → entry_in i ≡ Some x → item_key i ≡ entry_key x
 entry_item_key (items.Entry y) x e = let same : y ≡ x = cc (e) in ap entry_key same
 entry_item_key _ x e = absurd (cc (e))
 
-sealed_key : (i : Item) (x : SealedItem) → sealed_in i ≡ Some x → item_key i ≡ key 7 x.tenant x.number 0
+pub sealed_key : (i : Item) (x : SealedItem) → sealed_in i ≡ Some x → item_key i ≡ key 7 x.tenant x.number 0
 sealed_key (items.Sealed y) x e = let same : y ≡ x = cc (e) in ap (λ (z : SealedItem). key 7 z.tenant z.number 0) same
 sealed_key _ x e = absurd (cc (e))
 

@@ -11,3 +11,7 @@ pub mod NameTies
 pub mod Legality
 pub mod TrailRule
 pub mod OpenReports
+pub mod Growing
+pub mod ReportRules
+pub mod Judged
+pub mod ReceiptTies

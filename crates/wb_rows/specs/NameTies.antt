@@ -12,7 +12,7 @@ use Rattle.wb_model.specs.SetUps.{same_user_name}
 abbrev pub place_cmp : ℕ × List ℕ → ℕ × List ℕ → Ordering
 place_cmp a b = ordering_then (nat_cmp a.0 b.0) (slice_cmp nat_cmp a.1 b.1)
 
-place_total : IsTotalOrder place_cmp
+pub place_total : IsTotalOrder place_cmp
 place_total = then_total (on_total (λ (p : ℕ × List ℕ). p.0) nat_cmp_total) (on_total (λ (p : ℕ × List ℕ). p.1) nat_list_cmp_total)
 
 pub names_tie : (x y : UserItem) → same_user_name x y ≡ is_eq (place_cmp (y.tenant, y.name) (x.tenant, x.name))

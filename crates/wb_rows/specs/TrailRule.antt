@@ -3,7 +3,7 @@ use Rattle.std.specs.Prelude.{ℕ, ◌+◌, ◌==◌, ◌&&◌, if◌then◌else
 use Rattle.wb_base.specs.declared.rows.Key.{Key}
 use Rattle.wb_kinds.specs.declared.item.EntryItem.{EntryItem}
 use Rattle.wb_model.specs.declared.registry.Lists.{Lists}
-use Rattle.wb_model.specs.Legal.{is_first, is_next, last_at}
+use Rattle.wb_model.specs.Legal.{is_first, is_legal, is_next, last_at}
 use Rattle.wb_model.specs.Openings.{registry_of}
 use Rattle.wb_rows.specs.Held.{Report}
 use Rattle.wb_rows.specs.Places.{entry_key}
@@ -47,3 +47,7 @@ reports_after lists r (x ∷ xs) =
 abbrev pub reports_of : Lists → List EntryItem → Result (List Report) Key
 reports_of lists [] = Ok []
 reports_of lists (x ∷ xs) = if begins lists x then reports_after lists (begun x) xs else Err (entry_key x)
+
+-- a report's trail is legal at its tenant's offset
+abbrev pub is_legal_report : Lists → Report → Bool
+is_legal_report lists r = is_legal (offset lists r.tenant) r.trail

@@ -107,9 +107,7 @@ fn is_effective(at: Moment, effective: u64, withheld: &Option<Text>) -> bool
     match withheld {
         Some(_) => effective == time,
         None => {
-            time <= effective
-                && effective - time <= DAY * 30
-                && (effective - time) % DAY == 0
+            time <= effective && effective - time <= DAY * 30 && (effective - time) % DAY == 0
         }
     }
 }
@@ -132,7 +130,11 @@ pub fn right_values(offset: i32, case: &Case, at: Moment, deed: &Deed) -> bool
             right_days(today, *received, *ack_due, *feedback_due, *expires)
                 && are_readers(readers.as_slice())
         }
-        Deed::Acknowledged { day, feedback_due } => right_acknowledgement(today, *day, *feedback_due),
+        Deed::Acknowledged { day, feedback_due } => right_acknowledgement(
+            today,
+            *day,
+            *feedback_due,
+        ),
         Deed::Transferred { readers, .. } => are_readers(readers.as_slice()),
         Deed::Postponed { expires } => right_postponement(today, case.summary().expires, *expires),
         Deed::Granted {

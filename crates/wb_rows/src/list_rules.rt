@@ -129,7 +129,9 @@ fn is_recipient(registry: &Registry, tenant: Tenant, id: UserId) -> bool
 fn are_recipients(registry: &Registry, tenant: Tenant, users: &[UserId]) -> bool
     ensures { result ≡ list_all (is_recipient_in (registry_of registry.now.lists tenant).users) users.now }
 {
-    users.iter().all(|user| is_recipient(registry, tenant, *user))
+    users
+        .iter()
+        .all(|user| is_recipient(registry, tenant, *user))
 }
 
 // Whether a context's form is there, and its recipients are recipients.

@@ -38,11 +38,7 @@ pub trait Marked {
 }
 
 // Puts the mark of an item among those of later ones, and tells whether one of these is the same.
-fn note<T: Marked>(
-    alloc: Global,
-    marks: &mut BTreeSet<T::Mark>,
-    item: &T,
-) -> Result<bool, Memory>
+fn note<T: Marked>(alloc: Global, marks: &mut BTreeSet<T::Mark>, item: &T) -> Result<bool, Memory>
     ensures there { IfOk result (λ there. (later : List T) → AreMarks T.Mark.cmp T.mark_of marks.old later → there ≡ list_any (T.same item.now) later) }
     ensures marks { IfOk result (λ there. (later : List T) → AreMarks T.Mark.cmp T.mark_of marks.old later → AreMarks T.Mark.cmp T.mark_of marks.new (item.now ∷ later)) }
 {

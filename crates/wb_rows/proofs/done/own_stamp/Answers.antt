@@ -1,4 +1,4 @@
-use Rattle.std.proofs.Common.{◌≡◌, ℕ, ◌<◌, ◌≤◌, ◌⊎◌, inl, inr, List, length, sym, ap, ◌∙◌, arith}
+use Rattle.std.proofs.Common.{◌≡◌, ℕ, ◌<◌, ◌≤◌, ◌⊎◌, inl, inr, List, length, sym, ap, arith}
 use Rattle.std.specs.Option.{option_map_or}
 use Rattle.wb_model.specs.declared.access.AccessRequest.{AccessRequest}
 use Rattle.wb_model.specs.Access.{request_at}

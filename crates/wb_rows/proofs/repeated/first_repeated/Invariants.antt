@@ -7,7 +7,7 @@ abbrev pub invariant-loop-at : goal.invariant-loop-at
 invariant-loop-at g l = record {
   within : l.at ≤ length l.items;
   marks : AreMarks g.T.Mark.Ord.cmp g.T.Marked.mark_of l.marks (drop l.at l.items);
-  found : l.found ≡ first_repeated g.T.Marked.same g.T.Marked.key_of (drop l.at l.items)
+  found : l.found ≡ first_repeated g.T.Marked.same g.T.Marked.key_of (drop l.at l.items);
 }
 
 abbrev pub decreases-loop-at : goal.decreases-loop-at

@@ -1,4 +1,4 @@
-use Rattle.std.proofs.Common.{◌≡◌, Bool, true, Ok, Some, sym, ◌∙◌, subst, rules}
+use Rattle.std.proofs.Common.{◌≡◌, Bool, true, sym, ◌∙◌, subst, rules}
 use Rattle.std.specs.Prelude.{◌&&◌}
 use Rattle.wb_model.specs.Access.{user_by}
 use Rattle.wb_model.specs.Legal.{done, is_free}

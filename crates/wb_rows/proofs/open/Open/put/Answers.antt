@@ -11,7 +11,7 @@ returns-clause-open c =
     let trail : c.take-2.new.self.items ≡ before ++ c.args.entry ∷ [] = c.take-2.ensures.items ∙ ap (λ es. es ++ c.args.entry ∷ []) same in
     record {
       legal = c.take-2.ensures.legal c.args.offset (ap (is_legal c.args.offset) same ∙ c.requires.open.legal)
-        ((λ i. is_next c.args.offset (last_at 0 (same i)) (same i) c.args.entry) ∙ (ap (λ time. is_next c.args.offset time before c.args.entry) (sym c.requires.open.last) ∙ c.requires.next));
+          ((λ i. is_next c.args.offset (last_at 0 (same i)) (same i) c.args.entry) ∙ (ap (λ time. is_next c.args.offset time before c.args.entry) (sym c.requires.open.last) ∙ c.requires.next));
       requests = c.take.ensures.trail before c.requires.open.requests ∙ ap requests (sym trail);
       last = sym (ap (last_at 0) trail ∙ last_of 0 before c.args.entry);
     }

@@ -1,0 +1,77 @@
+use Rattle.std.proofs.Common.{◌≡◌, true, Ok, map, sym, ap, ◌∙◌, subst, List}
+use Rattle.std.specs.List.{list_all}
+use Rattle.std.specs.List.Sorted.{IsStrictlySortedBy}
+use Rattle.wb_base.specs.KeptRows.{key_cmp}
+use Rattle.wb_list.specs.Keyed.{IsAscending}
+use Rattle.wb_model.specs.SetUps.{is_tenant_item, is_form_item}
+use Rattle.wb_rows.specs.declared.items.Kept.{Kept}
+use Rattle.wb_rows.specs.Places.{entry_key, pair_cmp, sealed_place}
+use Rattle.wb_rows.specs.ReadItems.{items_in}
+use Rattle.wb_kinds.specs.declared.item.Item.{Item}
+use Rattle.wb_kinds.specs.Items.{is_in_range}
+use Rattle.wb_base.specs.declared.rows.Row.{Row}
+use Rattle.wb_rows.specs.Held.{Held, held_by}
+use Rattle.wb_rows.specs.KeptItems.{kept_of}
+use Rattle.wb_rows.proofs.KeptSetUp.{read-set-up}
+use Rattle.wb_rows.proofs.LegalReports.{read-legal}
+use Rattle.wb_rows.specs.Judged.{judged, judged_items, judged_kept}
+use Rattle.wb_rows.proofs.Judging.{ok-then}
+use Rattle.wb_rows.proofs.RowsBack.{rows-back}
+use Rattle.wb_rows.proofs.FitItems.{tenants-fit, forms-fit}
+use Rattle.wb_rows.proofs.ItemOrder.{items_ascend, lists-order, entries-order, sealed-order}
+use Rattle.wb_tenants.specs.Keys.{AreInOrder}
+use Rattle.wb_rows.proofs.reading.read.Goals as goal
+
+pub judge-requires-clause-tenants : goal.judge-requires-clause-tenants
+judge-requires-clause-tenants c = subst (λ (k : Kept). list_all is_tenant_item k.lists.tenants ≡ true) (sym c.in_ok-kept.ensures) (tenants-fit c.in_ok-items.items.items c.in_ok-items.ensures.fits)
+
+pub judge-requires-clause-forms : goal.judge-requires-clause-forms
+judge-requires-clause-forms c = subst (λ (k : Kept). list_all is_form_item k.lists.forms ≡ true) (sym c.in_ok-kept.ensures) (forms-fit c.in_ok-items.items.items c.in_ok-items.ensures.fits)
+
+pub judge-requires-clause-lists : goal.judge-requires-clause-lists
+judge-requires-clause-lists c =
+    let read : items_in c.args.rows.items ≡ Ok c.in_ok-items.items.items = sym (ap items_in c.as_slice.ensures.value) ∙ c.in_ok-items.ensures.ok in
+    subst (λ (k : Kept). AreInOrder k.lists) (sym c.in_ok-kept.ensures) (lists-order c.in_ok-items.items.items c.in_ok-items.ensures.fits (items_ascend c.args.rows.items c.in_ok-items.items.items read c.requires))
+
+pub judge-requires-clause-entries : goal.judge-requires-clause-entries
+judge-requires-clause-entries c =
+    let read : items_in c.args.rows.items ≡ Ok c.in_ok-items.items.items = sym (ap items_in c.as_slice.ensures.value) ∙ c.in_ok-items.ensures.ok in
+    subst (λ (k : Kept). IsStrictlySortedBy key_cmp (map entry_key k.entries)) (sym c.in_ok-kept.ensures) (entries-order c.in_ok-items.items.items c.in_ok-items.ensures.fits (items_ascend c.args.rows.items c.in_ok-items.items.items read c.requires))
+
+pub judge-requires-clause-sealed : goal.judge-requires-clause-sealed
+judge-requires-clause-sealed c =
+    let read : items_in c.args.rows.items ≡ Ok c.in_ok-items.items.items = sym (ap items_in c.as_slice.ensures.value) ∙ c.in_ok-items.ensures.ok in
+    subst (λ (k : Kept). IsAscending pair_cmp sealed_place k.sealed) (sym c.in_ok-kept.ensures) (sealed-order c.in_ok-items.items.items c.in_ok-items.ensures.fits (items_ascend c.args.rows.items c.in_ok-items.items.items read c.requires))
+
+-- the items that are read are in their ranges
+module _ (rows : List Row) (own : List Item) (read : items_in rows ≡ Ok own) (fit : list_all is_in_range own ≡ true) where
+  fits : (all : List Item) → items_in rows ≡ Ok all → list_all is_in_range all ≡ true
+  fits all e = let same : own ≡ all = cc (read, e) in subst (λ l. list_all is_in_range l ≡ true) same fit
+
+  -- and the tables that are judged of them are those of the rows
+  of_rows : (seen : List Row) (kept : Kept) (h : Held) → seen ≡ rows → kept ≡ kept_of own → judged_kept seen kept ≡ Ok h → judged rows ≡ Ok h
+  of_rows seen kept h same sorted is = ap (judged_items rows) read ∙ ((λ i. judged_kept (sym same i) (sym sorted i)) ∙ is)
+
+pub returns-clause-rows : goal.returns-clause-rows
+returns-clause-rows c =
+    let rows = c.args.rows.items in
+    let own = c.in_ok-items.items.items in
+    let read : items_in rows ≡ Ok own = sym (ap items_in c.as_slice.ensures.value) ∙ c.in_ok-items.ensures.ok in
+    let fit = c.in_ok-items.ensures.fits in
+    ok-then c.judge.result c.judge.ensures.ok (λ tables is. rows-back rows (held_by tables) c.requires (fits rows own read fit) (of_rows rows own read fit _ _ (held_by tables) c.as_slice-2.ensures.value c.in_ok-kept.ensures is))
+
+pub returns-clause-set_up : goal.returns-clause-set_up
+returns-clause-set_up c =
+    let rows = c.args.rows.items in
+    let own = c.in_ok-items.items.items in
+    let read : items_in rows ≡ Ok own = sym (ap items_in c.as_slice.ensures.value) ∙ c.in_ok-items.ensures.ok in
+    let fit = c.in_ok-items.ensures.fits in
+    ok-then c.judge.result c.judge.ensures.ok (λ tables is. read-set-up rows (held_by tables) c.requires (fits rows own read fit) (of_rows rows own read fit _ _ (held_by tables) c.as_slice-2.ensures.value c.in_ok-kept.ensures is))
+
+pub returns-clause-legal : goal.returns-clause-legal
+returns-clause-legal c =
+    let rows = c.args.rows.items in
+    let own = c.in_ok-items.items.items in
+    let read : items_in rows ≡ Ok own = sym (ap items_in c.as_slice.ensures.value) ∙ c.in_ok-items.ensures.ok in
+    let fit = c.in_ok-items.ensures.fits in
+    ok-then c.judge.result c.judge.ensures.ok (λ tables is. read-legal rows (held_by tables) (of_rows rows own read fit _ _ (held_by tables) c.as_slice-2.ensures.value c.in_ok-kept.ensures is))

@@ -1,0 +1,68 @@
+-- What a set of rows is read as: the tables, or the first fault.
+use Rattle.std.specs.Prelude.{◌≡◌, List, Option, Some, None, Result, Ok, Err}
+use Rattle.std.specs.Option.{option_or}
+use Rattle.wb_base.specs.declared.rows.Key.{Key}
+use Rattle.wb_base.specs.declared.rows.Row.{Row}
+use Rattle.wb_custody.specs.SealedAnswers.{answers_of}
+use Rattle.wb_kinds.specs.declared.item.Item.{Item}
+use Rattle.wb_rows.specs.declared.faults.RowFault.{RowFault}
+use Rattle.wb_rows.specs.declared.faults.RowFault.TheVariants.{BadSet}
+use Rattle.wb_rows.specs.declared.items.Kept.{Kept}
+use Rattle.wb_rows.specs.declared.report_rules.Blames.{Blames}
+use Rattle.wb_rows.specs.Blame.{first_breaking, first_repeated, blamed}
+use Rattle.wb_rows.specs.Held.{Report, Held}
+use Rattle.wb_rows.specs.KeptItems.{kept_of}
+use Rattle.wb_rows.specs.ListRules.{list_fault}
+use Rattle.wb_rows.specs.Places.{entry_key, numbering_key, sealed_key}
+use Rattle.wb_rows.specs.ReadItems.{items_in}
+use Rattle.wb_rows.specs.ReportRules.{is_right_entry, is_drawn, has_its_seal, is_right_seal, same_receipt, is_right_numbering}
+use Rattle.wb_rows.specs.TrailRule.{reports_of}
+
+-- the first row of rule 7: an entry, or identity answers, of a number that was not drawn
+abbrev pub first_undrawn : Kept → Option Key
+first_undrawn k = option_or (first_breaking (λ x. is_drawn k.numberings x.tenant x.number) entry_key k.entries) (first_breaking (λ x. is_drawn k.numberings x.tenant x.number) sealed_key k.sealed)
+
+-- the first row of rule 8: an entry without its identity answers, or identity answers without an entry, or that are not valid
+abbrev pub first_unsealed : Kept → List Report → Option Key
+first_unsealed k rs = option_or (first_breaking (has_its_seal k.sealed) entry_key k.entries) (first_breaking (is_right_seal k.lists rs) sealed_key k.sealed)
+
+-- the first rows that break the rules that look at entries one by one
+pub record AreBlames (k : Kept) (b : Blames) : Type 0 where
+  pub wrong : b.wrong ≡ first_breaking (is_right_entry k.lists) entry_key k.entries
+  pub undrawn : b.undrawn ≡ first_undrawn k
+  pub unsealed : b.unsealed ≡ first_breaking (has_its_seal k.sealed) entry_key k.entries
+  pub receipt : b.receipt ≡ first_repeated same_receipt entry_key k.entries
+  pub numbering : b.numbering ≡ first_breaking (is_right_numbering k.entries) numbering_key k.numberings
+
+-- the first of rules 6 to 10 that is broken, and the first row that breaks it
+abbrev pub report_fault : Kept → List Report → Option RowFault
+report_fault k rs =
+    blamed 6 (first_breaking (is_right_entry k.lists) entry_key k.entries) (
+    blamed 7 (first_undrawn k) (
+    blamed 8 (first_unsealed k rs) (
+    blamed 9 (first_repeated same_receipt entry_key k.entries) (
+    blamed 10 (first_breaking (is_right_numbering k.entries) numbering_key k.numberings) None))))
+
+-- what is held where no rule is broken
+abbrev pub held : Kept → List Report → Held
+held k rs = record { lists = k.lists; numberings = k.numberings; reports = rs; sealed = answers_of k.sealed }
+
+-- a fault, or what comes after it
+abbrev pub unless : Option RowFault → Result Held RowFault → Result Held RowFault
+unless (Some fault) rest = Err fault
+unless None rest = rest
+
+abbrev pub judged_reports : Kept → Result (List Report) Key → Result Held RowFault
+judged_reports k (Ok rs) = unless (report_fault k rs) (Ok (held k rs))
+judged_reports k (Err key) = Err (BadSet 5 key)
+
+abbrev pub judged_kept : List Row → Kept → Result Held RowFault
+judged_kept rows k = unless (list_fault rows k.lists k.numberings) (judged_reports k (reports_of k.lists k.entries))
+
+abbrev pub judged_items : List Row → Result (List Item) RowFault → Result Held RowFault
+judged_items rows (Ok items) = judged_kept rows (kept_of items)
+judged_items rows (Err fault) = Err fault
+
+-- the tables of rows, where each row is good and the rules hold; or the first row that is not good, else the first rule that is broken and the first row that breaks it
+abbrev pub judged : List Row → Result Held RowFault
+judged rows = judged_items rows (items_in rows)

@@ -1,0 +1,169 @@
+//! A set of rows read as tables.
+ghost use Rattle.std.specs.Prelude.{◌≡◌, ◌≢◌, ℕ, map, true, Ok, Err, IfOk, IfErr};
+ghost use Rattle.std.specs.List.{list_all};
+ghost use Rattle.std.specs.List.Sorted.{IsStrictlySortedBy};
+ghost use Rattle.wb_base.specs.KeptRows.{key_cmp, key_of};
+ghost use Rattle.wb_custody.specs.SealedAnswers.{answers_of};
+ghost use Rattle.wb_list.specs.Keyed.{IsAscending};
+ghost use Rattle.wb_model.specs.SetUps.{AreSetUp, is_tenant_item, is_form_item};
+ghost use Rattle.wb_rows.specs.declared.faults.RowFault.TheVariants as faults;
+ghost use Rattle.wb_rows.specs.declared.items.Kept.{Kept as KeptData};
+ghost use Rattle.wb_rows.specs.Growing.{IsTrailFault};
+ghost use Rattle.wb_rows.specs.Held.{case_report, held_by};
+ghost use Rattle.wb_rows.specs.HeldRows.{rows_of};
+ghost use Rattle.wb_rows.specs.Judged.{AreBlames, judged, judged_kept, judged_reports};
+ghost use Rattle.wb_rows.specs.Places.{entry_key, pair_cmp, sealed_place};
+ghost use Rattle.wb_rows.specs.TrailRule.{is_legal_report, reports_of};
+ghost use Rattle.wb_tenants.specs.Keys.{AreInOrder};
+
+use crate::RowFault;
+use crate::cases::CaseItem;
+use crate::items::{Kept, read_items, sort_items};
+use crate::list_rules::list_fault;
+use crate::report_rules::{Blames, find_blames, first_wrong_seal, report_fault};
+use crate::tables::Tables;
+use crate::trails::reports;
+use std::alloc::Global;
+use wb_base::{Memory, Row};
+use wb_custody::{SealedItem, SealedTable};
+use wb_kinds::{EntryItem, NumberingItem};
+use wb_list::{Items, Sorted};
+use wb_tenants::Registry;
+
+// The table of identity answers.
+fn sealed_table(alloc: Global, sealed: Vec<SealedItem>) -> Result<SealedTable, Memory>
+    ensures { IfOk result (λ table. (t n : ℕ) → answers_of table.items t n ≡ answers_of sealed.items t n) }
+{
+    let mut rest = sealed;
+    let mut table = SealedTable::new(alloc);
+    while let Some(item) = rest.pop() {
+        table.reserve()?;
+        table.put(item.tenant, item.number, item.answers);
+    }
+    Ok(table)
+}
+
+// The tables of what is kept.
+fn tables(
+    alloc: Global,
+    registry: Registry,
+    numberings: Items<NumberingItem>,
+    cases: Sorted<CaseItem>,
+    sealed: Sorted<SealedItem>,
+) -> Result<Tables, Memory>
+    ensures { IfOk result (λ tables. held_by tables ≡ record { lists = registry.lists; numberings = numberings; reports = map case_report cases.items; sealed = answers_of sealed.items }) }
+{
+    let sealed = sealed_table(alloc, sealed.into_vec())?;
+    Ok(Tables {
+        registry,
+        numberings,
+        cases: Items::of(cases.into_vec()),
+        sealed,
+    })
+}
+
+// The reports of entries, in order.
+fn sorted_reports(
+    alloc: Global,
+    registry: &Registry,
+    entries: Items<EntryItem>,
+) -> Result<Sorted<CaseItem>, RowFault>
+    requires tenants { list_all is_tenant_item registry.now.lists.tenants ≡ true }
+    requires entries { IsStrictlySortedBy key_cmp (map entry_key entries) }
+    ensures ok { IfOk result (λ cases. reports_of registry.now.lists entries ≡ Ok (map case_report cases.items)) }
+    ensures err { IfErr result (IsTrailFault (reports_of registry.now.lists entries)) }
+{
+    let cases = reports(alloc, registry, entries.into_vec())?;
+    Ok(Sorted::of(cases))
+}
+
+// The first of the rules of reports and numberings that is broken, or the tables.
+fn judge_blames(
+    alloc: Global,
+    registry: Registry,
+    numberings: Items<NumberingItem>,
+    cases: Sorted<CaseItem>,
+    sealed: Sorted<SealedItem>,
+    blames: Blames,
+) -> Result<Tables, RowFault>
+    requires { list_all is_form_item registry.lists.forms ≡ true }
+    ensures ok { IfOk result (λ tables. (k : KeptData) → k.lists ≡ registry.lists → k.numberings ≡ numberings → k.sealed ≡ sealed.items → AreBlames k blames → judged_reports k (Ok (map case_report cases.items)) ≡ Ok (held_by tables)) }
+    ensures err { IfErr result (λ fault. fault ≢ faults.Memory → (k : KeptData) → k.lists ≡ registry.lists → k.numberings ≡ numberings → k.sealed ≡ sealed.items → AreBlames k blames → judged_reports k (Ok (map case_report cases.items)) ≡ Err fault) }
+{
+    let seal = first_wrong_seal(alloc, &registry, &cases, sealed.as_slice())?;
+    match report_fault(blames, seal) {
+        Some(fault) => Err(fault),
+        None => Ok(tables(alloc, registry, numberings, cases, sealed)?),
+    }
+}
+
+// The tables of what is kept, where the rules of reports and numberings hold.
+fn judge_reports(
+    alloc: Global,
+    registry: Registry,
+    numberings: Items<NumberingItem>,
+    entries: Items<EntryItem>,
+    sealed: Items<SealedItem>,
+) -> Result<Tables, RowFault>
+    requires tenants { list_all is_tenant_item registry.lists.tenants ≡ true }
+    requires forms { list_all is_form_item registry.lists.forms ≡ true }
+    requires entries { IsStrictlySortedBy key_cmp (map entry_key entries) }
+    requires sealed { IsAscending pair_cmp sealed_place sealed }
+    ensures ok { IfOk result (λ tables. judged_reports (record { lists = registry.lists; numberings = numberings; entries = entries; sealed = sealed }) (reports_of registry.lists entries) ≡ Ok (held_by tables)) }
+    ensures err { IfErr result (λ fault. fault ≢ faults.Memory → judged_reports (record { lists = registry.lists; numberings = numberings; entries = entries; sealed = sealed }) (reports_of registry.lists entries) ≡ Err fault) }
+{
+    let sealed = Sorted::of(sealed.into_vec());
+    let blames = find_blames(
+        alloc,
+        &registry,
+        numberings.as_slice(),
+        entries.as_slice(),
+        &sealed,
+    )?;
+    match sorted_reports(alloc, &registry, entries) {
+        Ok(cases) => judge_blames(alloc, registry, numberings, cases, sealed, blames),
+        Err(fault) => Err(fault),
+    }
+}
+
+// The tables of what is kept, where the rules hold. All rows are handed in for the first.
+fn judge(alloc: Global, rows: &[Row], kept: Kept) -> Result<Tables, RowFault>
+    requires tenants { list_all is_tenant_item kept.lists.tenants ≡ true }
+    requires forms { list_all is_form_item kept.lists.forms ≡ true }
+    requires lists { AreInOrder kept.lists }
+    requires entries { IsStrictlySortedBy key_cmp (map entry_key kept.entries) }
+    requires sealed { IsAscending pair_cmp sealed_place kept.sealed }
+    ensures ok { IfOk result (λ tables. judged_kept rows.now kept ≡ Ok (held_by tables)) }
+    ensures err { IfErr result (λ fault. fault ≢ faults.Memory → judged_kept rows.now kept ≡ Err fault) }
+{
+    let Kept {
+        lists,
+        numberings,
+        entries,
+        sealed,
+    } = kept;
+    let registry = Registry::over(lists);
+    if let Some(fault) = list_fault(alloc, rows, &registry, numberings.as_slice())? {
+        return Err(fault);
+    }
+    judge_reports(alloc, registry, numberings, entries, sealed)
+}
+
+/// The tables of rows, which stand in the order of their keys, each key once, as a keeper loads them.
+///
+/// A fault but want of memory is exact: the least key whose row is not good, else the least rule that is broken and the
+/// least key that breaks it. A look-up halves a list, or goes over what a tenant or a host has at most: 64 tenants.
+pub fn read(alloc: Global, rows: Vec<Row>) -> Result<Tables, RowFault>
+    requires { IsStrictlySortedBy key_cmp (map key_of rows.items) }
+    ensures ok { IfOk result (λ tables. judged rows.items ≡ Ok (held_by tables)) }
+    ensures err { IfErr result (λ fault. fault ≢ faults.Memory → judged rows.items ≡ Err fault) }
+    // What is read is all that the rows say.
+    ensures rows { IfOk result (λ tables. rows_of (held_by tables) ≡ rows.items) }
+    // What tenants are set up with is such as an opening asks for.
+    ensures set_up { IfOk result (λ tables. AreSetUp tables.registry.lists) }
+    ensures legal { IfOk result (λ tables. list_all (is_legal_report tables.registry.lists) (map case_report tables.cases) ≡ true) }
+{
+    let items = read_items(alloc, rows.as_slice())?;
+    let kept = sort_items(alloc, items)?;
+    judge(alloc, rows.as_slice(), kept)
+}
