@@ -3,13 +3,15 @@ pub mod ChangeRows
 pub mod Changes
 pub mod KeptChanges
 pub mod KeptTurns
+pub mod OpenedParts
+pub mod OpenedPlaces
+pub mod OpenedRows
 pub mod OwnSessions
 pub mod PastTurns
 pub mod Rooms
 pub mod SessionCounts
 pub mod SetUps
 pub mod StandingPlaces
-pub mod StarterPlace
 pub mod Tenants
 pub mod TurnRows
 pub mod Whole

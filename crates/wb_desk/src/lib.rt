@@ -3,10 +3,11 @@
 
 mod batch;
 mod desk;
+mod open;
 mod ready;
 mod setting;
-mod starter;
 mod take;
 mod turn;
 
 pub use desk::Desk;
+pub use open::OpenFault;

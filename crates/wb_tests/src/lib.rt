@@ -9,22 +9,14 @@ mod forms;
 #[cfg(test)]
 mod frames_and_heads;
 #[cfg(test)]
-mod office_turns;
-#[cfg(test)]
 mod outside;
 #[cfg(test)]
 mod questionnaires;
 #[cfg(test)]
 mod reply_bodies;
 #[cfg(test)]
-mod report_turns;
-#[cfg(test)]
 mod request_bodies;
 #[cfg(test)]
 mod requests;
-#[cfg(test)]
-mod starter_host;
-#[cfg(test)]
-mod turns;
 #[cfg(test)]
 mod written;

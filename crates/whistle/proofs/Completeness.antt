@@ -1,13 +1,18 @@
 -- A whole script without faults is played to its end, or there is no memory.
-use Rattle.std.proofs.Common.{◌≡◌, ◌≢◌, ◌⊎◌, inl, inr, ℕ, ◌<◌, ◌^◌, List, [], ◌∷◌, ◌++◌, length, length-append, append_assoc, Option, Some, refl, sym, ap, ◌∙◌, arith}
+use Rattle.std.proofs.Common.{◌≡◌, ◌≢◌, ◌⊎◌, inl, inr, ℕ, ◌<◌, ◌^◌, List, [], ◌∷◌, ◌++◌, length, length-append, append_assoc, Option, Some, Ok, Err, refl, sym, ap, ◌∙◌, arith}
 use Rattle.std.specs.List.{AllByRecursion}
 use Rattle.wb_base.specs.declared.rows.Row.{Row}
 use Rattle.wb_base.specs.Outside.{Rose}
 use Rattle.wb_model.specs.declared.wire.ScriptFrame.{ScriptFrame}
 use Rattle.wb_model.specs.FrameTexts.{texts, frame_text, IsFrame, IsBroken}
 use Rattle.whistle.specs.declared.status.Status.{Status}
-use Rattle.whistle.specs.declared.status.Status.TheVariants.{Done, Usage, ReadFault, WriteFault, NoMemory, BadFrame, TooLong}
-use Rattle.whistle.specs.Runs.{Ran}
+use Rattle.whistle.specs.declared.status.Status.TheVariants.{Done, Usage, ReadFault, WriteFault, NoMemory, BadFrame, Setup, OpenFault, KeptRows, TooLong}
+use Rattle.wb_model.specs.declared.registry.Lists.{Lists}
+use Rattle.wb_tenants.specs.declared.setup.SetupFault.{SetupFault}
+use Rattle.wb_tenants.specs.Setups.{setup as lists_in}
+use Rattle.wb_wire.specs.SetupReading.{TookSetup}
+use Rattle.wb_wire.specs.SetupText.{setup_text, IsSetup}
+use Rattle.whistle.specs.Runs.{script_text, RanOn, RanNot, Ran}
 use Rattle.whistle.proofs.PlayLemmas.{begins_with, some_bytes}
 
 -- a text parts into frames in one way
@@ -20,15 +25,66 @@ module _ (one_way : (f g : ScriptFrame) (x y : List ℕ) → IsFrame f → IsFra
   parted (f ∷ frames) (g ∷ fs) rest all more e broken =
       parted frames fs rest all.1 more.1 (one_way f g (texts frames) (texts fs ++ rest) all.0 more.0 (e ∙ append_assoc (frame_text g) (texts fs) rest)).1 broken
 
-  -- the statuses that are left
-  pub completed : (left' held held' : Option (List ℕ)) (source source' sink sink' keeper keeper' : ℕ) (honest : Type 0) (holds holds' : List Row → Type 0) (frames : List ScriptFrame) (status : Status) → AllByRecursion IsFrame frames → length (texts frames) < 2 ^ 40
-      → status ≢ Usage → (Rose source source' → ⊥) → (Rose sink sink' → ⊥) → Ran (Some (texts frames)) left' held held' source source' sink sink' keeper keeper' honest holds holds' status → (status ≡ Done) ⊎ (status ≡ NoMemory)
-  completed left' held held' source source' sink sink' keeper keeper' honest holds holds' frames Done all short ne read wrote ran = inl refl
-  completed left' held held' source source' sink sink' keeper keeper' honest holds holds' frames Usage all short ne read wrote ran = absurd (ne refl)
-  completed left' held held' source source' sink sink' keeper keeper' honest holds holds' frames ReadFault all short ne read wrote ran = absurd (read ran.3)
-  completed left' held held' source source' sink sink' keeper keeper' honest holds holds' frames WriteFault all short ne read wrote ran = absurd (wrote ran.3)
-  completed left' held held' source source' sink sink' keeper keeper' honest holds holds' frames NoMemory all short ne read wrote ran = inr refl
-  completed left' held held' source source' sink sink' keeper keeper' honest holds holds' frames (BadFrame n) all short ne read wrote ran = absurd (parted frames ran.0 ran.5.0 all ran.2.played.good ran.5.1 ran.5.2)
-  completed left' held held' source source' sink sink' keeper keeper' honest holds holds' frames TooLong all short ne read wrote ran =
-      let text = begins_with (Some (texts frames)) left' (texts ran.0 ++ ran.3.0 ++ ran.3.1 ∷ []) ran.3.2 in
-      absurd (omega (arith, short, ap length text.1, length-append (texts ran.0 ++ ran.3.0 ++ ran.3.1 ∷ []) text.0, length-append (texts ran.0 ++ ran.3.0) (ran.3.1 ∷ []), ran.3.4))
+  module _ (one_setup : (a b x y : List ℕ) → IsSetup a → IsSetup b → setup_text a ++ x ≡ setup_text b ++ y → (a ≡ b) × (x ≡ y)) where
+    -- what follows the setup
+    after_setup : (setup other : List ℕ) (frames fs : List ScriptFrame) (rest : List ℕ) → IsSetup setup → IsSetup other → script_text setup frames ≡ script_text other fs ++ rest → texts frames ≡ texts fs ++ rest
+    after_setup setup other frames fs rest whole same e = (one_setup setup other (texts frames) (texts fs ++ rest) whole same (e ∙ append_assoc (setup_text other) (texts fs) rest)).1
+
+    -- the setup that was taken is the script's
+    same_setup : (left' : Option (List ℕ)) (setup other : List ℕ) (frames : List ScriptFrame) → IsSetup setup → TookSetup (Some (script_text setup frames)) left' other → setup ≡ other
+    same_setup left' setup other frames whole took =
+        let text = begins_with (Some (script_text setup frames)) left' (setup_text other) took.1 in
+        (one_setup setup other (texts frames) text.0 whole took.0 text.1).0
+
+    -- so its lists are not refused
+    not_refused : (setup other : List ℕ) (lists : Lists) (fault : SetupFault) → setup ≡ other → lists_in setup ≡ Ok lists → lists_in other ≡ Err fault → ⊥
+    not_refused setup other lists fault same reads refused = grind (arith, same, reads, refused)
+
+    module _ (left' held held' : Option (List ℕ)) (source source' sink sink' keeper keeper' : ℕ) (honest : Type 0) (holds holds' : List Row → Type 0) (setup : List ℕ) (lists : Lists) (frames : List ScriptFrame) (whole : IsSetup setup) (reads : lists_in setup ≡ Ok lists)
+        (all : AllByRecursion IsFrame frames) (short : length (script_text setup frames) < 2 ^ 40) (h : honest) (empty : holds []) (read : Rose source source' → ⊥) (wrote : Rose sink sink' → ⊥) (kept : Rose keeper keeper' → ⊥)
+      where
+        abbrev pub Comes : Status → Type 0
+        Comes status = (status ≡ Done) ⊎ (status ≡ NoMemory)
+
+        abbrev pub Starts : Status → Type 0
+        Starts status = RanNot (Some (script_text setup frames)) left' held held' source source' sink sink' keeper keeper' honest holds holds' status
+
+        abbrev pub GoesOn : Status → Type 0
+        GoesOn status = RanOn (Some (script_text setup frames)) left' held held' source source' sink sink' keeper keeper' honest holds holds' status
+
+        not_begun : (status : Status) → status ≢ Usage → Starts status → Comes status
+        not_begun Done ne ran = inl refl
+        not_begun Usage ne ran = absurd (ne refl)
+        not_begun ReadFault ne ran = absurd (read ran.none.cause.0)
+        not_begun WriteFault ne ran = absurd ran.none.cause
+        not_begun NoMemory ne ran = inr refl
+        not_begun (BadFrame n) ne ran = absurd (ran.none.cause.1 setup (texts frames) whole refl)
+        not_begun (Setup fault) ne ran = let refused = ran.none.cause in absurd (not_refused setup refused.0 lists fault (same_setup left' setup refused.0 frames whole refused.1) reads refused.2.1)
+        not_begun OpenFault ne ran = absurd (kept ran.none.cause.2.0)
+        not_begun KeptRows ne ran = absurd (ran.none.cause.2.0 h [] empty refl)
+        not_begun TooLong ne ran =
+            let part = ran.none.cause.0 in
+            let text = begins_with (Some (script_text setup frames)) left' (part.0 ++ part.1 ∷ []) part.2 in
+            absurd (omega (arith, short, ap length text.1, length-append (part.0 ++ part.1 ∷ []) text.0, length-append part.0 (part.1 ∷ []), part.4))
+
+        gone_on : (status : Status) → GoesOn status → Comes status
+        gone_on Done ran = inl refl
+        gone_on Usage ran = absurd ran.plays
+        gone_on ReadFault ran = absurd (read ran.plays.3)
+        gone_on WriteFault ran = absurd (wrote ran.plays.3)
+        gone_on NoMemory ran = inr refl
+        gone_on (BadFrame n) ran =
+            let plays = ran.plays in
+            absurd (parted frames plays.0 plays.5.0 all plays.2.played.good (after_setup setup ran.setup frames plays.0 plays.5.0 whole ran.whole plays.5.1) plays.5.2)
+        gone_on (Setup fault) ran = absurd ran.plays
+        gone_on OpenFault ran = absurd ran.plays
+        gone_on KeptRows ran = absurd ran.plays
+        gone_on TooLong ran =
+            let plays = ran.plays in
+            let text = begins_with (Some (script_text setup frames)) left' (script_text ran.setup plays.0 ++ plays.3.0 ++ plays.3.1 ∷ []) plays.3.2 in
+            absurd (omega (arith, short, ap length text.1, length-append (script_text ran.setup plays.0 ++ plays.3.0 ++ plays.3.1 ∷ []) text.0, length-append (script_text ran.setup plays.0 ++ plays.3.0) (plays.3.1 ∷ []), plays.3.4))
+
+        -- the statuses that are left
+        pub completed : (status : Status) → status ≢ Usage → Ran (Some (script_text setup frames)) left' held held' source source' sink sink' keeper keeper' honest holds holds' status → Comes status
+        completed status ne (inl ran) = not_begun status ne ran
+        completed status ne (inr ran) = gone_on status ran

@@ -1,12 +1,12 @@
 -- Turn after turn.
 use Rattle.std.proofs.Common.{◌≡◌, ◌<◌, ◌+◌, ℕ, List, [], ◌∷◌, ◌++◌, length, refl, sym, ap, ◌∙◌, append_assoc, append-nil, subst, arith, Option, Some, None, IfSome, length-append}
 use Rattle.std.specs.List.{AllByRecursion}
-use Rattle.std.specs.Io.KnownBytes.{Appends, Consumes}
-use Rattle.std.proofs.KnownBytes.{Appends-trans, Consumes-trans, Appends-nil, Consumes-nil}
+use Rattle.std.specs.Io.KnownBytes.{Appends, Consumes, IsAtEnd}
+use Rattle.std.proofs.KnownBytes.{Appends-trans, Consumes-trans, Appends-nil}
 use Rattle.wb_base.specs.declared.rows.Row.{Row}
 use Rattle.wb_base.specs.Outside.{AppendsFront}
 use Rattle.wb_model.specs.declared.wire.ScriptFrame.{ScriptFrame}
-use Rattle.wb_model.specs.FrameTexts.{texts, frame_text, line_of, IsFrame}
+use Rattle.wb_model.specs.FrameTexts.{texts, frame_text, line_of, IsFrame, IsBroken}
 use Rattle.wb_model.specs.Past.{Past}
 use Rattle.wb_model.specs.Pasts.{AllOpened}
 use Rattle.wb_model.specs.Playing.{IsPlaceOf, ArePlacesOf, written, output, one_by_keeper, keeper_losses, RoseBy, AreLossesTold}
@@ -19,7 +19,10 @@ use Rattle.whistle.specs.declared.answering.Answer.{Answer}
 use Rattle.whistle.specs.Answered.{reply_of, IsAnswer}
 use Rattle.whistle.specs.Submissions.{AreWellAnswered}
 use Rattle.whistle.specs.Headline.{KeepsIdentities, ForgetsReports}
-use Rattle.whistle.specs.Runs.{start, output_of, Played, Wrote, BrokeOff}
+use Rattle.wb_wire.specs.SetupText.{setup_line, setup_text, IsSetup, NoSetup}
+use Rattle.wb_wire.specs.SetupReading.{after_setup}
+use Rattle.whistle.specs.Starts.{IsOpenedBy, Opens, unread}
+use Rattle.whistle.specs.Runs.{script_text, Played, Wrote, BrokeOff}
 use Rattle.whistle.proofs.SubmissionLemmas.{all_well}
 
 -- one more at the end
@@ -71,108 +74,142 @@ begins_with (Some x) (Some y) bytes h = (y, h)
 pub regrouped : (a b : Option (List ℕ)) (xs ys zs : List ℕ) → Consumes a b (xs ++ (ys ++ zs)) → Consumes a b (xs ++ ys ++ zs)
 regrouped a b xs ys zs h = subst (Consumes a b) (sym (append_assoc xs ys zs)) h
 
+-- all was consumed, and nothing is left
+pub at_end : (a b c : Option (List ℕ)) (bytes : List ℕ) → Consumes a b bytes → Consumes b c [] → IsAtEnd c → IfSome a (λ text. text ≡ bytes)
+at_end None b c bytes p q e = tt
+at_end (Some x) None c bytes p q e = absurd p
+at_end (Some x) (Some y) None bytes p q e = absurd q
+at_end (Some x) (Some y) (Some z) bytes p q e = p ∙ (ap (λ l. bytes ++ l) (q ∙ e) ∙ append-nil bytes)
+
+-- what is left goes on, and not by a frame
+pub then_broken : (a b : Option (List ℕ)) (bytes : List ℕ) → Consumes a b bytes → IfSome b IsBroken → IfSome a (λ text. (rest : List ℕ) × (text ≡ bytes ++ rest) × IsBroken rest)
+then_broken None b bytes p q = tt
+then_broken (Some x) None bytes p q = absurd p
+then_broken (Some x) (Some y) bytes p q = (y, p, q)
+
+-- no setup begins an empty text
+pub nothing_begins : NoSetup []
+unfolding setup_text
+nothing_begins bytes more whole e = omega (arith, ap length e, length-append (setup_line (length bytes) ++ 10 ∷ (bytes ++ 10 ∷ [])) more, length-append (setup_line (length bytes)) (10 ∷ (bytes ++ 10 ∷ [])))
+
 -- a frame has bytes
 pub some_bytes : (f : ScriptFrame) → 0 < length (frame_text f)
 unfolding frame_text
 some_bytes f = omega (arith, length-append (line_of f) (10 ∷ (f.bytes ++ 10 ∷ [])))
 
--- the laws of scripts, said of what was played from the start
-pub record Laws : Type 0 where
-  pub losses : (frames : List ScriptFrame) (places : List Place) → ArePlacesOf frames places → ArePossible start places → AreLossesTold start places
-  pub identities : (frames : List ScriptFrame) (places : List Place) → ArePlacesOf frames places → KeepsIdentities start frames places
-  pub absence : (frames : List ScriptFrame) (places : List Place) → ArePlacesOf frames places → ForgetsReports start frames places
+pub script_more : (setup : List ℕ) (fs : List ScriptFrame) (f : ScriptFrame) → script_text setup (more fs f) ≡ script_text setup fs ++ frame_text f
+script_more setup fs f = ap (λ l. setup_text setup ++ l) (texts_more fs f) ∙ sym (append_assoc (setup_text setup) (texts fs) (frame_text f))
 
--- How it stands between two turns: what was at the start, what is now, and the frames and places so far.
-module _ (left held : Option (List ℕ)) (keeper : ℕ) (holds : List Row → Type 0) where
-  module _ (left' held' : Option (List ℕ)) (keeper' : ℕ) (honest : Type 0) (holds' : List Row → Type 0) (hosts : Hosts) (reader : Progress) where
-    pub record Standing (frames : List ScriptFrame) (places : List Place) : Type 0 where
-      pub good : AllByRecursion IsFrame frames
-      pub placed : ArePlacesOf frames places
-      pub possible : ArePossible start places
-      pub taken : Consumes left left' (texts frames)
-      pub told : Appends held held' (output_of places)
-      pub counted : RoseBy (keeper_losses places) keeper keeper'
-      pub kept : honest → holds (rows start) → holds' (rows (past_after start places))
-      pub stands : StandsFor hosts (past_after start places)
-      pub number : reader.given ≡ length frames
-      pub size : reader.taken ≡ length (texts frames)
-      pub goes_on : reader.stopped ≡ None
-      pub losses : AreLossesTold start places
-      pub submissions : AreWellAnswered start places
-      pub identities : KeepsIdentities start frames places
-      pub absence : ForgetsReports start frames places
+-- of one setup, and the past that it opens
+module _ (setup : List ℕ) (start : Past AllOpened) where
+  -- the laws of scripts, said of what is played from there
+  pub record Laws : Type 0 where
+    pub losses : (frames : List ScriptFrame) (places : List Place) → ArePlacesOf frames places → ArePossible start places → AreLossesTold start places
+    pub identities : (frames : List ScriptFrame) (places : List Place) → ArePlacesOf frames places → KeepsIdentities start frames places
+    pub absence : (frames : List ScriptFrame) (places : List Place) → ArePlacesOf frames places → ForgetsReports start frames places
 
-  -- before the first turn
-  pub at_start : Laws → (honest : Type 0) (hosts : Hosts) (reader : Progress) → StandsFor hosts start → reader ≡ record { given = 0; taken = 0; stopped = None } → Standing left held keeper honest holds hosts reader [] []
-  at_start laws honest hosts reader stands is = record {
-    good = tt;
-    placed = tt;
-    possible = tt;
-    taken = Consumes-nil left;
-    told = Appends-nil held;
-    counted = omega arith;
-    kept = λ h held. held;
-    stands = stands;
-    number = ap (λ (p : Progress). p.given) is;
-    size = ap (λ (p : Progress). p.taken) is;
-    goes_on = ap (λ (p : Progress). p.stopped) is;
-    losses = tt;
-    submissions = tt;
-    identities = laws.identities [] [] tt;
-    absence = laws.absence [] [] tt;
-  }
+  -- How it stands between two turns: what was before the run, what is now, and the frames and places so far.
+  module _ (left held : Option (List ℕ)) (keeper : ℕ) (holds : List Row → Type 0) where
+    module _ (left' held' : Option (List ℕ)) (keeper' : ℕ) (honest : Type 0) (holds' : List Row → Type 0) (hosts : Hosts) (reader : Progress) where
+      pub record Standing (frames : List ScriptFrame) (places : List Place) : Type 0 where
+        pub good : AllByRecursion IsFrame frames
+        pub placed : ArePlacesOf frames places
+        pub possible : ArePossible start places
+        pub taken : Consumes left left' (script_text setup frames)
+        pub told : Appends held held' (output (script_replies start places))
+        pub counted : RoseBy (keeper_losses places) keeper keeper'
+        pub kept : honest → (before : List Row) → holds before → (before ≡ []) × holds' (rows (past_after start places))
+        pub stands : StandsFor hosts (past_after start places)
+        pub number : reader.given ≡ length frames
+        pub size : reader.taken ≡ length (script_text setup frames)
+        pub goes_on : reader.stopped ≡ None
+        pub losses : AreLossesTold start places
+        pub submissions : AreWellAnswered start places
+        pub identities : KeepsIdentities start frames places
+        pub absence : ForgetsReports start frames places
 
-  -- a turn whose reply was written
-  pub advance : Laws → (left' held' : Option (List ℕ)) (keeper' : ℕ) (honest : Type 0) (holds' : List Row → Type 0) (hosts : Hosts) (reader : Progress) (frames : List ScriptFrame) (places : List Place) → Standing left' held' keeper' honest holds' hosts reader frames places
-      → (left'' held'' : Option (List ℕ)) (keeper'' : ℕ) (honest' : Type 0) (holds'' : List Row → Type 0) → (honest' → honest) → (after : Hosts) (frame : ScriptFrame) (answer : Answer) (place : Place) → IsFrame frame → Consumes left' left'' (frame_text frame)
-      → IsAnswer honest' holds' holds'' (past_after start places) frame answer after keeper' keeper'' place → Appends held' held'' (written (reply_of answer))
-      → (reader' : Progress) → reader' ≡ after_next reader (Some frame) → Standing left'' held'' keeper'' honest' holds'' after reader' (more frames frame) (more places place)
-  advance laws left' held' keeper' honest holds' hosts reader frames places so_far left'' held'' keeper'' honest' holds'' back after frame answer place is_frame taken is told reader' goes =
-      record {
-        good = good_more frames frame so_far.good is_frame;
-        placed = placed_more frames places frame place so_far.placed is.of_frame;
-        possible = possible_more start places place so_far.possible is.possible;
-        taken = subst (Consumes left left'') (sym (texts_more frames frame)) (Consumes-trans left left' left'' _ _ so_far.taken taken);
-        told = subst (Appends held held'') (sym (output_more start places place)) (Appends-trans held held' held'' _ _ so_far.told (subst (λ r. Appends held' held'' (written r)) is.reply told));
-        counted = omega (arith, so_far.counted, losses_more places place, is.counted);
-        kept = λ h held. subst (λ past. holds'' (rows past)) (sym (past_more start places place)) (is.kept h (so_far.kept (back h) held));
-        stands = is.stands ∙ ap Rattle.wb_model.specs.Pasts.standing_hosts (sym (past_more start places place));
-        number = omega (arith, so_far.number, length_more frames frame, ap (λ (r : Progress). r.given) goes);
-        size = omega (arith, so_far.size, ap length (texts_more frames frame), length-append (texts frames) (frame_text frame), ap (λ (r : Progress). r.taken) goes);
-        goes_on = ap (λ (r : Progress). r.stopped) goes ∙ so_far.goes_on;
-        losses = laws.losses (more frames frame) (more places place) (placed_more frames places frame place so_far.placed is.of_frame) (possible_more start places place so_far.possible is.possible);
-        submissions = all_well start (more places place);
-        identities = laws.identities (more frames frame) (more places place) (placed_more frames places frame place so_far.placed is.of_frame);
-        absence = laws.absence (more frames frame) (more places place) (placed_more frames places frame place so_far.placed is.of_frame);
-      }
+    -- before the first turn
+    pub at_start : Laws → (left' : Option (List ℕ)) (keeper' : ℕ) (honest : Type 0) (holds' : List Row → Type 0) (hosts : Hosts) (reader : Progress) → Consumes left left' (setup_text setup) → Opens keeper keeper' honest holds holds' setup start hosts
+        → reader ≡ after_setup unread setup → Standing left' held keeper' honest holds' hosts reader [] []
+    at_start laws left' keeper' honest holds' hosts reader taken opens is = record {
+      good = tt;
+      placed = tt;
+      possible = tt;
+      taken = subst (Consumes left left') (sym (append-nil (setup_text setup))) taken;
+      told = Appends-nil held;
+      counted = omega (arith, opens.later);
+      kept = opens.kept;
+      stands = opens.stands;
+      number = ap (λ (p : Progress). p.given) is;
+      size = omega (arith, ap (λ (p : Progress). p.taken) is, ap length (append-nil (setup_text setup)));
+      goes_on = ap (λ (p : Progress). p.stopped) is;
+      losses = tt;
+      submissions = tt;
+      identities = laws.identities [] [] tt;
+      absence = laws.absence [] [] tt;
+    }
 
-  -- a turn whose reply was not wholly written
-  pub stuck : Laws → (left' held' : Option (List ℕ)) (keeper' : ℕ) (honest : Type 0) (holds' : List Row → Type 0) (hosts : Hosts) (reader : Progress) (frames : List ScriptFrame) (places : List Place) → Standing left' held' keeper' honest holds' hosts reader frames places
-      → (left'' held'' : Option (List ℕ)) (keeper'' : ℕ) (honest' : Type 0) (holds'' : List Row → Type 0) → (honest' → honest) → (after : Hosts) (frame : ScriptFrame) (answer : Answer) (place : Place) → IsFrame frame → Consumes left' left'' (frame_text frame)
-      → IsAnswer honest' holds' holds'' (past_after start places) frame answer after keeper' keeper'' place → AppendsFront held' held'' (written (reply_of answer)) → (source source' sink sink' : ℕ)
-      → Played left left'' held held'' source source' sink sink' keeper keeper'' honest' holds holds'' (more frames frame) (more places place) × Consumes left left'' (texts (more frames frame)) × BrokeOff left left'' held held'' source source' sink sink' keeper keeper'' honest' holds holds'' (more places place)
-  stuck laws left' held' keeper' honest holds' hosts reader frames places so_far left'' held'' keeper'' honest' holds'' back after frame answer place is_frame taken is told source source' sink sink' =
-      let consumed : Consumes left left'' (texts (more frames frame)) = subst (Consumes left left'') (sym (texts_more frames frame)) (Consumes-trans left left' left'' _ _ so_far.taken taken) in (
+    -- a turn whose reply was written
+    pub advance : Laws → (left' held' : Option (List ℕ)) (keeper' : ℕ) (honest : Type 0) (holds' : List Row → Type 0) (hosts : Hosts) (reader : Progress) (frames : List ScriptFrame) (places : List Place) → Standing left' held' keeper' honest holds' hosts reader frames places
+        → (left'' held'' : Option (List ℕ)) (keeper'' : ℕ) (honest' : Type 0) (holds'' : List Row → Type 0) → (honest' → honest) → (after : Hosts) (frame : ScriptFrame) (answer : Answer) (place : Place) → IsFrame frame → Consumes left' left'' (frame_text frame)
+        → IsAnswer honest' holds' holds'' (past_after start places) frame answer after keeper' keeper'' place → Appends held' held'' (written (reply_of answer))
+        → (reader' : Progress) → reader' ≡ after_next reader (Some frame) → Standing left'' held'' keeper'' honest' holds'' after reader' (more frames frame) (more places place)
+    advance laws left' held' keeper' honest holds' hosts reader frames places so_far left'' held'' keeper'' honest' holds'' back after frame answer place is_frame taken is told reader' goes =
         record {
           good = good_more frames frame so_far.good is_frame;
           placed = placed_more frames places frame place so_far.placed is.of_frame;
           possible = possible_more start places place so_far.possible is.possible;
-          begins = begins_with left left'' _ consumed;
+          taken = subst (Consumes left left'') (sym (script_more setup frames frame)) (Consumes-trans left left' left'' _ _ so_far.taken taken);
+          told = subst (Appends held held'') (sym (output_more start places place)) (Appends-trans held held' held'' _ _ so_far.told (subst (λ r. Appends held' held'' (written r)) is.reply told));
           counted = omega (arith, so_far.counted, losses_more places place, is.counted);
-          kept = λ h held. subst (λ past. holds'' (rows past)) (sym (past_more start places place)) (is.kept h (so_far.kept (back h) held));
+          kept = λ h before held. let was = so_far.kept (back h) before held in (was.0, subst (λ past. holds'' (rows past)) (sym (past_more start places place)) (is.kept h was.1));
+          stands = is.stands ∙ ap Rattle.wb_model.specs.Pasts.standing_hosts (sym (past_more start places place));
+          number = omega (arith, so_far.number, length_more frames frame, ap (λ (r : Progress). r.given) goes);
+          size = omega (arith, so_far.size, ap length (script_more setup frames frame), length-append (script_text setup frames) (frame_text frame), ap (λ (r : Progress). r.taken) goes);
+          goes_on = ap (λ (r : Progress). r.stopped) goes ∙ so_far.goes_on;
           losses = laws.losses (more frames frame) (more places place) (placed_more frames places frame place so_far.placed is.of_frame) (possible_more start places place so_far.possible is.possible);
           submissions = all_well start (more places place);
           identities = laws.identities (more frames frame) (more places place) (placed_more frames places frame place so_far.placed is.of_frame);
           absence = laws.absence (more frames frame) (more places place) (placed_more frames places frame place so_far.placed is.of_frame);
-        },
-        consumed,
-        record { before = places; last = place; order = refl; front = told.0; rest = told.1; cut = ap written (sym is.reply) ∙ told.2; told = Appends-trans held held' held'' _ _ so_far.told told.3 },
-      )
+        }
 
-  -- what is so far was played and written
-  pub wrote : (left' held' : Option (List ℕ)) (keeper' : ℕ) (honest : Type 0) (holds' : List Row → Type 0) (hosts : Hosts) (reader : Progress) (frames : List ScriptFrame) (places : List Place) → Standing left' held' keeper' honest holds' hosts reader frames places
-      → (left'' : Option (List ℕ)) (part : List ℕ) → Consumes left' left'' part → (source source' sink sink' : ℕ) → Wrote left left'' held held' source source' sink sink' keeper keeper' honest holds holds' frames places
-  wrote left' held' keeper' honest holds' hosts reader frames places so_far left'' part taken source source' sink sink' = record {
-    played = record { good = so_far.good; placed = so_far.placed; possible = so_far.possible; begins = begins_with left left' _ so_far.taken; counted = so_far.counted; kept = so_far.kept; losses = so_far.losses; submissions = so_far.submissions; identities = so_far.identities; absence = so_far.absence };
-    written = so_far.told;
-  }
+    -- a turn whose reply was not wholly written
+    pub stuck : Laws → (left' held' : Option (List ℕ)) (keeper' : ℕ) (honest : Type 0) (holds' : List Row → Type 0) (hosts : Hosts) (reader : Progress) (frames : List ScriptFrame) (places : List Place) → Standing left' held' keeper' honest holds' hosts reader frames places
+        → (left'' held'' : Option (List ℕ)) (keeper'' : ℕ) (honest' : Type 0) (holds'' : List Row → Type 0) → (honest' → honest) → (after : Hosts) (frame : ScriptFrame) (answer : Answer) (place : Place) → IsFrame frame → Consumes left' left'' (frame_text frame)
+        → IsAnswer honest' holds' holds'' (past_after start places) frame answer after keeper' keeper'' place → AppendsFront held' held'' (written (reply_of answer)) → (source source' sink sink' : ℕ)
+        → Played left left'' held held'' source source' sink sink' keeper keeper'' honest' holds holds'' setup start (more frames frame) (more places place) × Consumes left left'' (script_text setup (more frames frame)) × BrokeOff left left'' held held'' source source' sink sink' keeper keeper'' honest' holds holds'' setup start (more places place)
+    stuck laws left' held' keeper' honest holds' hosts reader frames places so_far left'' held'' keeper'' honest' holds'' back after frame answer place is_frame taken is told source source' sink sink' =
+        let consumed : Consumes left left'' (script_text setup (more frames frame)) = subst (Consumes left left'') (sym (script_more setup frames frame)) (Consumes-trans left left' left'' _ _ so_far.taken taken) in (
+          record {
+            good = good_more frames frame so_far.good is_frame;
+            placed = placed_more frames places frame place so_far.placed is.of_frame;
+            possible = possible_more start places place so_far.possible is.possible;
+            begins = begins_with left left'' _ consumed;
+            counted = omega (arith, so_far.counted, losses_more places place, is.counted);
+            kept = λ h before held. let was = so_far.kept (back h) before held in (was.0, subst (λ past. holds'' (rows past)) (sym (past_more start places place)) (is.kept h was.1));
+            losses = laws.losses (more frames frame) (more places place) (placed_more frames places frame place so_far.placed is.of_frame) (possible_more start places place so_far.possible is.possible);
+            submissions = all_well start (more places place);
+            identities = laws.identities (more frames frame) (more places place) (placed_more frames places frame place so_far.placed is.of_frame);
+            absence = laws.absence (more frames frame) (more places place) (placed_more frames places frame place so_far.placed is.of_frame);
+          },
+          consumed,
+          record { before = places; last = place; order = refl; front = told.0; rest = told.1; cut = ap written (sym is.reply) ∙ told.2; told = Appends-trans held held' held'' _ _ so_far.told told.3 },
+        )
+
+    -- what is so far was played and written
+    pub wrote : (left' held' : Option (List ℕ)) (keeper' : ℕ) (honest : Type 0) (holds' : List Row → Type 0) (hosts : Hosts) (reader : Progress) (frames : List ScriptFrame) (places : List Place) → Standing left' held' keeper' honest holds' hosts reader frames places
+        → (left'' : Option (List ℕ)) (part : List ℕ) → Consumes left' left'' part → (source source' sink sink' : ℕ) → Wrote left left'' held held' source source' sink sink' keeper keeper' honest holds holds' setup start frames places
+    wrote left' held' keeper' honest holds' hosts reader frames places so_far left'' part taken source source' sink sink' = record {
+      played = record { good = so_far.good; placed = so_far.placed; possible = so_far.possible; begins = begins_with left left' _ so_far.taken; counted = so_far.counted; kept = so_far.kept; losses = so_far.losses; submissions = so_far.submissions; identities = so_far.identities; absence = so_far.absence };
+      written = so_far.told;
+    }
+
+-- how it stands in a run: the setup, the past that it opened, and the frames and places so far
+pub record InRun (left held : Option (List ℕ)) (keeper : ℕ) (holds : List Row → Type 0) (left' held' : Option (List ℕ)) (keeper' : ℕ) (honest : Type 0) (holds' : List Row → Type 0) (hosts : Hosts) (reader : Progress) : Type 0 where
+  pub setup : List ℕ
+  pub start : Past AllOpened
+  pub whole : IsSetup setup
+  pub opened : IsOpenedBy setup start
+  pub frames : List ScriptFrame
+  pub places : List Place
+  pub so_far : Standing setup start left held keeper holds left' held' keeper' honest holds' hosts reader frames places

@@ -6,86 +6,106 @@ use Rattle.wb_base.specs.declared.rows.Row.{Row}
 use Rattle.wb_base.specs.Outside.{Rose}
 use Rattle.wb_model.specs.declared.wire.ScriptFrame.{ScriptFrame}
 use Rattle.wb_model.specs.FrameTexts.{texts, IsFrame, IsBroken, NoFrame}
-use Rattle.wb_model.specs.Past.{Past, Opening}
+use Rattle.wb_model.specs.Past.{Past}
 use Rattle.wb_model.specs.Pasts.{AllOpened}
 use Rattle.wb_model.specs.Playing.{ArePlacesOf, written, output, keeper_losses, RoseBy, AreLossesTold}
 use Rattle.wb_model.specs.Scripts.{Place, ArePossible, play, script_replies, past_after}
 use Rattle.wb_model.specs.Rows.{rows}
-use Rattle.wb_model.specs.Starter.{starter_opening}
+use Rattle.wb_tenants.specs.declared.setup.SetupFault.{SetupFault}
+use Rattle.wb_tenants.specs.declared.setup.SetupFault.TheVariants.{Text, Rule, Memory as SetupMemory}
+use Rattle.wb_wire.specs.SetupText.{setup_text, IsSetup}
+use Rattle.whistle.specs.Starts.{IsOpenedBy, OpensNone}
 use Rattle.whistle.specs.Submissions.{AreWellAnswered}
 use Rattle.whistle.specs.Headline.{KeepsIdentities, ForgetsReports}
 use Rattle.whistle.specs.declared.status.Status.{Status}
-use Rattle.whistle.specs.declared.status.Status.TheVariants.{Done, Usage, ReadFault, WriteFault, NoMemory, BadFrame, TooLong}
+use Rattle.whistle.specs.declared.status.Status.TheVariants.{Done, Usage, ReadFault, WriteFault, NoMemory, BadFrame, Setup, OpenFault, KeptRows, TooLong}
 
--- the host before its first turn
-abbrev pub start : Past AllOpened
-start = Opening starter_opening
-
--- what is written for these places
-abbrev pub output_of : List Place → List ℕ
-output_of places = output (script_replies start places)
+-- the text of a script: the setup's frame, and frame after frame
+abbrev pub script_text : List ℕ → List ScriptFrame → List ℕ
+script_text setup frames = setup_text setup ++ texts frames
 
 -- what the source had left and has left now, what the sink held before and holds now, the counts of both and of the keeper before and now, and
 -- the rows that the keeper holds before and now, where it is honest
 module _ (left left' held held' : Option (List ℕ)) (source source' sink sink' keeper keeper' : ℕ) (honest : Type 0) (holds holds' : List Row → Type 0) where
-  -- the input begins with these frames, and the host played them as these places
-  pub record Played (frames : List ScriptFrame) (places : List Place) : Type 0 where
-    pub good : AllByRecursion IsFrame frames
-    pub placed : ArePlacesOf frames places
-    pub possible : ArePossible start places
-    pub begins : IfSome left (λ text. (rest : List ℕ) × (text ≡ texts frames ++ rest))
-    pub counted : RoseBy (keeper_losses places) keeper keeper'
-    -- a keeper that held the rows of the start holds those of the past after them
-    pub kept : honest → holds (rows start) → holds' (rows (past_after start places))
-    -- a turn was lost or a request unread exactly where the reply is 503 or 507
-    pub losses : AreLossesTold start places
-    -- and each good submission among them was answered as its sender expects
-    pub submissions : AreWellAnswered start places
-    -- the replies keep identities, and forget reports that are purged
-    pub identities : KeepsIdentities start frames places
-    pub absence : ForgetsReports start frames places
+  -- of a host that was opened with this setup, and stands for this past before its first turn
+  module _ (setup : List ℕ) (start : Past AllOpened) where
+    -- the input begins with the setup and these frames, and the host played them as these places
+    pub record Played (frames : List ScriptFrame) (places : List Place) : Type 0 where
+      pub good : AllByRecursion IsFrame frames
+      pub placed : ArePlacesOf frames places
+      pub possible : ArePossible start places
+      pub begins : IfSome left (λ text. (rest : List ℕ) × (text ≡ script_text setup frames ++ rest))
+      pub counted : RoseBy (keeper_losses places) keeper keeper'
+      -- the keeper held nothing, and holds the rows of the past after them
+      pub kept : honest → (before : List Row) → holds before → (before ≡ []) × holds' (rows (past_after start places))
+      -- a turn was lost or a request unread exactly where the reply is 503 or 507
+      pub losses : AreLossesTold start places
+      -- and each good submission among them was answered as its sender expects
+      pub submissions : AreWellAnswered start places
+      -- the replies keep identities, and forget reports that are purged
+      pub identities : KeepsIdentities start frames places
+      pub absence : ForgetsReports start frames places
 
-  -- and wrote each reply
-  pub record Wrote (frames : List ScriptFrame) (places : List Place) : Type 0 where
-    pub played : Played frames places
-    pub written : Appends held held' (output_of places)
+    -- and wrote each reply
+    pub record Wrote (frames : List ScriptFrame) (places : List Place) : Type 0 where
+      pub played : Played frames places
+      pub written : Appends held held' (output (script_replies start places))
 
-  -- and wrote each reply but the last whole, and of the last a part that begins at its front
-  pub record BrokeOff (places : List Place) : Type 0 where
-    pub before : List Place
-    pub last : Place
-    pub order : places ≡ before ++ last ∷ []
-    pub front : List ℕ
-    pub rest : List ℕ
-    pub cut : written (play (past_after start before) last).reply ≡ front ++ rest
-    pub told : Appends held held' (output_of before ++ front)
+    -- and wrote each reply but the last whole, and of the last a part that begins at its front
+    pub record BrokeOff (places : List Place) : Type 0 where
+      pub before : List Place
+      pub last : Place
+      pub order : places ≡ before ++ last ∷ []
+      pub front : List ℕ
+      pub rest : List ℕ
+      pub cut : written (play (past_after start before) last).reply ≡ front ++ rest
+      pub told : Appends held held' (output (script_replies start before) ++ front)
 
-  -- these frames were taken, and then bytes that no whole frame begins
-  abbrev pub TookThen : List ScriptFrame → Type 0
-  TookThen frames = (part : List ℕ) × Consumes left left' (texts frames ++ part) × NoFrame part
+    -- the setup and these frames were taken, and then bytes that no whole frame begins
+    abbrev pub TookThen : List ScriptFrame → Type 0
+    TookThen frames = (part : List ℕ) × Consumes left left' (script_text setup frames ++ part) × NoFrame part
 
-  -- so were 2^40 bytes in all, and one more
-  abbrev pub TookAll : List ScriptFrame → Type 0
-  TookAll frames = (part : List ℕ) × (next : ℕ) × Consumes left left' (texts frames ++ part ++ next ∷ []) × NoFrame part × (length (texts frames ++ part) ≡ 2 ^ 40)
+    -- so were 2^40 bytes in all, and one more
+    abbrev pub TookAll : List ScriptFrame → Type 0
+    TookAll frames = (part : List ℕ) × (next : ℕ) × Consumes left left' (script_text setup frames ++ part ++ next ∷ []) × NoFrame part × (length (script_text setup frames ++ part) ≡ 2 ^ 40)
 
-  -- nothing was taken and nothing was written
-  pub record IsUntouched : Type 0 where
-    pub left_as_it_was : Keeps left left'
+    -- what the run did with the frames, by its status
+    abbrev pub Plays : Status → Type 0
+    Plays Done = (frames : List ScriptFrame) × (places : List Place) × Wrote frames places × IfSome left (λ text. text ≡ script_text setup frames)
+    Plays Usage = ⊥
+    Plays ReadFault = (frames : List ScriptFrame) × (places : List Place) × Wrote frames places × Rose source source' × TookThen frames
+    Plays WriteFault = (frames : List ScriptFrame) × (places : List Place) × Played frames places × Rose sink sink' × Consumes left left' (script_text setup frames) × BrokeOff places
+    Plays NoMemory = (frames : List ScriptFrame) × (places : List Place) × Wrote frames places × TookThen frames
+    Plays (BadFrame n) = (frames : List ScriptFrame) × (places : List Place) × Wrote frames places × TookThen frames × (n ≡ length frames + 1)
+        × IfSome left (λ text. (rest : List ℕ) × (text ≡ script_text setup frames ++ rest) × IsBroken rest)
+    Plays (Setup fault) = ⊥
+    Plays OpenFault = ⊥
+    Plays KeptRows = ⊥
+    Plays TooLong = (frames : List ScriptFrame) × (places : List Place) × Wrote frames places × TookAll frames
+
+  -- a run that opened no host: nothing is written, and what is kept is as it was
+  pub record RanNot (status : Status) : Type 0 where
+    pub none : OpensNone keeper keeper' honest holds holds' left left' source source' status
     pub held_as_it_was : Keeps held held'
-    pub kept_as_it_was : (honest → (kept : List Row) → holds kept → holds' kept) × (keeper' ≡ keeper)
+
+  -- a run that opened one with a setup, and played frames
+  pub record RanOn (status : Status) : Type 0 where
+    pub setup : List ℕ
+    pub start : Past AllOpened
+    pub whole : IsSetup setup
+    pub opened : IsOpenedBy setup start
+    pub plays : Plays setup start status
 
   -- what a run with this status did
   abbrev pub Ran : Status → Type 0
-  Ran Done = (frames : List ScriptFrame) × (places : List Place) × Wrote frames places × IfSome left (λ text. text ≡ texts frames)
-  Ran Usage = IsUntouched
-  Ran ReadFault = (frames : List ScriptFrame) × (places : List Place) × Wrote frames places × Rose source source' × TookThen frames
-  Ran WriteFault = (frames : List ScriptFrame) × (places : List Place) × Played frames places × Rose sink sink' × Consumes left left' (texts frames) × BrokeOff places
-  Ran NoMemory = IsUntouched ⊎ ((frames : List ScriptFrame) × (places : List Place) × Wrote frames places × TookThen frames)
-  Ran (BadFrame n) = (frames : List ScriptFrame) × (places : List Place) × Wrote frames places × TookThen frames × (n ≡ length frames + 1)
-      × IfSome left (λ text. (rest : List ℕ) × (text ≡ texts frames ++ rest) × IsBroken rest)
-  Ran TooLong = (frames : List ScriptFrame) × (places : List Place) × Wrote frames places × TookAll frames
+  Ran status = RanNot status ⊎ RanOn status
 
 -- ---- the line of a status
+
+abbrev pub refusal_text : SetupFault → List ℕ
+refusal_text Text = codes "setup refused: text\n"
+refusal_text (Rule rule) = codes "setup refused: rule " ++ decimal rule ++ codes "\n"
+refusal_text SetupMemory = codes "no memory\n"
 
 abbrev pub status_text : Status → List ℕ
 status_text Done = []
@@ -94,6 +114,9 @@ status_text ReadFault = codes "read fault\n"
 status_text WriteFault = codes "write fault\n"
 status_text NoMemory = codes "no memory\n"
 status_text (BadFrame n) = codes "bad frame " ++ decimal n ++ codes "\n"
+status_text (Setup fault) = refusal_text fault
+status_text OpenFault = codes "open fault\n"
+status_text KeptRows = codes "kept rows refused\n"
 status_text TooLong = codes "input too long\n"
 
 -- the number that the program ends with
@@ -104,4 +127,7 @@ status_number ReadFault = 3
 status_number WriteFault = 4
 status_number NoMemory = 5
 status_number (BadFrame n) = 6
+status_number (Setup fault) = 7
+status_number OpenFault = 8
+status_number KeptRows = 9
 status_number TooLong = 10

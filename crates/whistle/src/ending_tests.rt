@@ -1,10 +1,13 @@
+use crate::setup_text::harbour;
 use crate::tests::{
-    BRIBE, Ends, ROOM, play, post, push, push_reply, request, rows, script_of, source,
+    BRIBE, Ends, ROOM, begun, begun_with, keeper_failing_at, play, play_over, post, push,
+    push_reply, request, rows, script_of, source,
 };
 use crate::{Status, exit_line, rows_in_memory, run, run_to_end};
 use std::alloc::Global;
 use std::test::Fail;
-use wb_base::{MemSink, MemSource, Text};
+use wb_base::{Keeper, MemKeeper, MemSink, MemSource, Text};
+use wb_tenants::SetupFault;
 
 // The script of one submission, with so many more or fewer bytes said than there are.
 fn misread(alloc: Global, said: &str) -> Result<Vec<u8>, Fail> {
@@ -12,7 +15,7 @@ fn misread(alloc: Global, said: &str) -> Result<Vec<u8>, Fail> {
     let line = format!(in alloc;
         "@1735689600 0000000000000000 000000000000002a 0000000000000000 0000000000000000 {said}\n"
     )?;
-    let mut script = Vec::new(alloc);
+    let mut script = begun(alloc)?;
     push(&mut script, line.as_bytes())?;
     push(&mut script, request.as_bytes())?;
     push(&mut script, b"\n")?;
@@ -38,18 +41,59 @@ fn a_frame_that_is_not_of_the_form_ends_the_run(rt: HostRuntime) -> Result<(), F
     ] {
         assert!(rt; play(alloc, &misread(alloc, said)?, &ends)?.0 == Status::BadFrame(1));
     }
-    for script in [
+    for bytes in [
         b"@1735689600 0 0 0 0 5\n".as_slice(),
         b"\0\xff\x80@\n",
         b"@",
         b"\n",
     ] {
-        assert!(rt; play(alloc, script, &ends)?.0 == Status::BadFrame(1));
+        let mut script = begun(alloc)?;
+        push(&mut script, bytes)?;
+        assert!(rt; play(alloc, &script, &ends)?.0 == Status::BadFrame(1));
+        assert!(rt; play(alloc, bytes, &ends)?.0 == Status::BadFrame(0));
     }
     let line = vec![in alloc; b'@'; 10_000_000]?;
-    assert!(rt; play(alloc, &line, &ends)?.0 == Status::BadFrame(1));
-    assert!(rt; play(alloc, b"", &ends)?.0 == Status::Done);
+    assert!(rt; play(alloc, &line, &ends)?.0 == Status::BadFrame(0));
+    assert!(rt; play(alloc, &begun(alloc)?, &ends)?.0 == Status::Done);
     assert!(rt; play(alloc, &misread(alloc, "112")?, &ends)?.0 == Status::Done);
+    Ok(())
+}
+
+// The status of a script that is a setup alone, over a keeper.
+fn opened(alloc: Global, setup: &[u8], keeper: &mut MemKeeper) -> Result<Status, Fail> {
+    let ends = Ends {
+        size: 1_000,
+        reads: &[],
+        writes: &[],
+    };
+    let (status, held) = play_over(alloc, &begun_with(alloc, setup)?, &ends, keeper)?;
+    if !held.is_empty() {
+        return Err("no output".into());
+    }
+    Ok(status)
+}
+
+#[test]
+fn a_setup_that_opens_no_host_ends_the_run(rt: HostRuntime) -> Result<(), Fail> {
+    let alloc = rt.alloc();
+    let setup = harbour(alloc)?;
+    let twice = setup.replace(alloc, "\"ben\"", "\"ada\"")?;
+    let mut keeper = rows_in_memory(alloc);
+    assert!(rt; opened(alloc, b"host=", &mut keeper)? == Status::Setup(SetupFault::Text));
+    assert!(rt;
+        opened(alloc, twice.as_bytes(), &mut keeper)? == Status::Setup(SetupFault::Rule(4))
+    );
+    assert!(rt; keeper.rows().is_empty());
+    assert!(rt; opened(alloc, setup.as_bytes(), &mut keeper)? == Status::Done);
+    assert!(rt; keeper.rows().len() == 9);
+    // What is kept already is left as it is.
+    assert!(rt; opened(alloc, setup.as_bytes(), &mut keeper)? == Status::KeptRows);
+    assert!(rt; keeper.rows().len() == 9 && keeper.faults() == 0);
+    for call in [1, 2] {
+        let mut failing = keeper_failing_at(alloc, [call].to_vec(alloc)?);
+        assert!(rt; opened(alloc, setup.as_bytes(), &mut failing)? == Status::OpenFault);
+        assert!(rt; failing.rows().is_empty() && failing.faults() == 1);
+    }
     Ok(())
 }
 
@@ -62,7 +106,7 @@ fn the_replies_before_a_fault_stand(rt: HostRuntime) -> Result<(), Fail> {
     push_reply(alloc, &mut first, all[0].reply)?;
     let read = Ends {
         size: 1_000,
-        reads: &[100],
+        reads: &[150],
         writes: &[],
     };
     let (status, held) = play(alloc, &script, &read)?;
@@ -119,6 +163,14 @@ fn each_status_has_its_line(rt: HostRuntime) -> Result<(), Fail> {
             6,
             "bad frame 18446744073709551615\n",
         ),
+        (Status::Setup(SetupFault::Text), 7, "setup refused: text\n"),
+        (
+            Status::Setup(SetupFault::Rule(9)),
+            7,
+            "setup refused: rule 9\n",
+        ),
+        (Status::OpenFault, 8, "open fault\n"),
+        (Status::KeptRows, 9, "kept rows refused\n"),
         (Status::TooLong, 10, "input too long\n"),
     ];
     for (status, number, line) in lines {
@@ -137,8 +189,13 @@ fn the_program_ends_with_the_number_and_the_line_of_its_status(
 ) -> Result<(), Fail> {
     let alloc = rt.alloc();
     for (word, script, number, line) in [
-        ("play", b"".as_slice(), 0, ""),
-        ("play", b"@".as_slice(), 6, "bad frame 1\n"),
+        ("play", b"".as_slice(), 6, "bad frame 0\n"),
+        (
+            "play",
+            b"@setup 0\n\n".as_slice(),
+            7,
+            "setup refused: rule 1\n",
+        ),
         (
             "serve",
             b"".as_slice(),

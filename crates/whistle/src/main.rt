@@ -3,6 +3,7 @@
 
 mod answering;
 mod exits;
+mod opening;
 mod playing;
 mod status;
 
@@ -60,6 +61,8 @@ fn main(rt: HostRuntime) -> ExitCode {
 
 #[cfg(test)]
 mod ending_tests;
+#[cfg(test)]
+mod setup_text;
 #[cfg(test)]
 mod tests;
 #[cfg(test)]

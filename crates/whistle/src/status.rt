@@ -2,10 +2,11 @@
 ghost use Rattle.std.specs.Prelude.{◌≡◌, ◌++◌, codes, decimal, OnOk, OnErr};
 ghost use Rattle.std.specs.Io.KnownBytes.{Appends};
 ghost use Rattle.wb_base.specs.Outside.{AppendsFront, HasCause};
-ghost use Rattle.whistle.specs.Runs.{status_text, status_number};
+ghost use Rattle.whistle.specs.Runs.{refusal_text, status_text, status_number};
 
 use itoa::Buffer;
 use wb_base::{Failed, Sink};
+use wb_tenants::SetupFault;
 
 /// How a run ended.
 #[derive(Clone, Copy, Debug, PartialEq, Eq)]
@@ -20,8 +21,14 @@ pub enum Status {
     WriteFault,
     /// There was no memory for reading the script or for opening the host.
     NoMemory,
-    /// The frame of this number, counted from 1, is not of the form, or the input ends inside it.
+    /// The frame of this number, counted from 1, is not of the form, or the input ends inside it; 0 is the setup's.
     BadFrame(u64),
+    /// The setup is refused. It is never for want of memory.
+    Setup(SetupFault),
+    /// The keeper failed when the host was opened.
+    OpenFault,
+    /// The keeper holds rows already.
+    KeptRows,
     /// 2^40 bytes were taken and the input has not ended.
     TooLong,
 }
@@ -38,23 +45,43 @@ impl Status {
             Status::WriteFault => 4,
             Status::NoMemory => 5,
             Status::BadFrame(_) => 6,
+            Status::Setup(_) => 7,
+            Status::OpenFault => 8,
+            Status::KeptRows => 9,
             Status::TooLong => 10,
         }
     }
 }
 
-// Writes the number of a frame and a line feed.
-fn write_number<W: Sink>(sink: &mut W, n: u64) -> Result<(), Failed>
-    ensures ok { OnOk result (Appends (W.held sink.old) (W.held sink.new) (decimal n ++ codes "\n")) }
-    ensures err { OnErr result (AppendsFront (W.held sink.old) (W.held sink.new) (decimal n ++ codes "\n")) }
+// Writes a text, a number and a line feed.
+fn write_numbered<W: Sink>(sink: &mut W, text: &[u8], n: u64) -> Result<(), Failed>
+    ensures ok { OnOk result (Appends (W.held sink.old) (W.held sink.new) (text.now ++ decimal n ++ codes "\n")) }
+    ensures err { OnErr result (AppendsFront (W.held sink.old) (W.held sink.new) (text.now ++ decimal n ++ codes "\n")) }
     ensures cause { HasCause (W.count sink.old) (W.count sink.new) result }
 {
+    match sink.write_all(text) {
+        Ok(()) => {}
+        Err(no) => return Err(no),
+    }
     let mut digits = Buffer::new();
     match sink.write_all(digits.format(n).as_bytes()) {
         Ok(()) => {}
         Err(no) => return Err(no),
     }
     sink.write_all(b"\n")
+}
+
+// Writes the line of a setup's refusal.
+fn refusal_line<W: Sink>(fault: SetupFault, sink: &mut W) -> Result<(), Failed>
+    ensures ok { OnOk result (Appends (W.held sink.old) (W.held sink.new) (refusal_text fault)) }
+    ensures err { OnErr result (AppendsFront (W.held sink.old) (W.held sink.new) (refusal_text fault)) }
+    ensures cause { HasCause (W.count sink.old) (W.count sink.new) result }
+{
+    match fault {
+        SetupFault::Text => sink.write_all(b"setup refused: text\n"),
+        SetupFault::Rule(rule) => write_numbered(sink, b"setup refused: rule ", rule as u64),
+        SetupFault::Memory => sink.write_all(b"no memory\n"),
+    }
 }
 
 /// Writes the line of a status, which standard error gets; nothing where all was done. It takes no memory.
@@ -71,13 +98,10 @@ pub fn exit_line<W: Sink>(status: &Status, sink: &mut W) -> Result<(), Failed>
         Status::ReadFault => sink.write_all(b"read fault\n"),
         Status::WriteFault => sink.write_all(b"write fault\n"),
         Status::NoMemory => sink.write_all(b"no memory\n"),
-        Status::BadFrame(n) => {
-            match sink.write_all(b"bad frame ") {
-                Ok(()) => {}
-                Err(no) => return Err(no),
-            }
-            write_number(sink, *n)
-        }
+        Status::BadFrame(n) => write_numbered(sink, b"bad frame ", *n),
+        Status::Setup(fault) => refusal_line(*fault, sink),
+        Status::OpenFault => sink.write_all(b"open fault\n"),
+        Status::KeptRows => sink.write_all(b"kept rows refused\n"),
         Status::TooLong => sink.write_all(b"input too long\n"),
     }
 }

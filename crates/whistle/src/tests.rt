@@ -2,6 +2,7 @@ ghost use Rattle.std.specs.Prelude.{◌<◌};
 
 use super::*;
 use crate::rows_in_memory;
+use crate::setup_text::harbour;
 use std::alloc::Global;
 use std::test::Fail;
 use wb_base::{Keeper, MemKeeper, MemSink, MemSource, Text};
@@ -25,7 +26,7 @@ pub(crate) struct Ends<'a> {
 pub(crate) type Reply<'a> = (u16, &'a str, &'a str, &'a str);
 
 // One request of a script, and the reply that it gets. Without fields of its own it has a length where it is a `POST`, and
-// else the standing session.
+// else the session of a login at the first turn.
 #[derive(Clone, Copy)]
 pub(crate) struct Row<'a> {
     pub moment: u64,
@@ -41,6 +42,21 @@ pub(crate) fn push(text: &mut Vec<u8>, bytes: &[u8]) -> Result<(), Fail> {
     Ok(())
 }
 
+// A script that begins with a setup's bytes as a frame.
+pub(crate) fn begun_with(alloc: Global, setup: &[u8]) -> Result<Vec<u8>, Fail> {
+    let mut script = Vec::new(alloc);
+    let line = format!(in alloc; "@setup {}\n", setup.len())?;
+    push(&mut script, line.as_bytes())?;
+    push(&mut script, setup)?;
+    push(&mut script, b"\n")?;
+    Ok(script)
+}
+
+// A script that begins with the setup of a city.
+pub(crate) fn begun(alloc: Global) -> Result<Vec<u8>, Fail> {
+    begun_with(alloc, harbour(alloc)?.as_bytes())
+}
+
 pub(crate) const CLOSE: &str = "Connection: close\r\n";
 
 // The bytes of a request.
@@ -51,7 +67,7 @@ pub(crate) fn request(alloc: Global, row: &Row) -> Result<String, Fail> {
     } else if method == "POST" {
         format!(in alloc; "Content-Length: {}\r\n", body.len())?
     } else {
-        format!(in alloc; "X-Session: 0-00000000000000000000000000000000\r\n")?
+        format!(in alloc; "X-Session: 1-00000000000000000000000000000000\r\n")?
     };
     Ok(format!(in alloc; "{method} {path} HTTP/1.1\r\nHost: h\r\n{fields}\r\n{body}")?)
 }
@@ -107,7 +123,7 @@ pub(crate) fn play(alloc: Global, script: &[u8], ends: &Ends) -> Result<(Status,
 }
 
 // The same over a keeper's rows.
-fn play_over(
+pub(crate) fn play_over(
     alloc: Global,
     script: &[u8],
     ends: &Ends,
@@ -153,16 +169,31 @@ pub(crate) fn created(body: &str) -> Reply {
     (201, "Created", body, "")
 }
 
+// The login of the recipient of the context 1, which gives this session.
+fn login(session: &str) -> Row {
+    Row {
+        path: "/t/1/sessions",
+        ..post(
+            "{\"user\":\"ada\",\"password\":\"ada-pass\"}",
+            created(session),
+        )
+    }
+}
+
+const FIRST_SESSION: &str =
+    "{\"role\":\"recipient\",\"session\":\"1-00000000000000000000000000000000\"}";
+
 pub(crate) fn faulty(body: &str) -> Reply {
     (422, "Unprocessable Entity", body, "")
 }
 
-// The first requests of a host, the first of them a submission with this body.
-pub(crate) fn rows<'a>(body: &'a str) -> [Row<'a>; 8] {
+// The first requests of a host, among them a submission with this body.
+pub(crate) fn rows<'a>(body: &'a str) -> [Row<'a>; 9] {
     [
+        login(FIRST_SESSION),
         post(
             body,
-            created("{\"number\":1,\"receipt\":\"0000000000000042\"}"),
+            created("{\"number\":1,\"receipt\":\"0000000000000043\"}"),
         ),
         get("/t/1/reports/1", (200, "OK", VIEW, "")),
         post(
@@ -175,7 +206,7 @@ pub(crate) fn rows<'a>(body: &'a str) -> [Row<'a>; 8] {
         ),
         post(
             "{\"context\":2,\"answers\":{\"what\":\"x\"}}",
-            created("{\"number\":2,\"receipt\":\"0000000000000046\"}"),
+            created("{\"number\":2,\"receipt\":\"0000000000000047\"}"),
         ),
         get("/t/1/reports/2?why", NOT_FOUND),
         get("/t/1/reports/99", NOT_FOUND),
@@ -186,9 +217,9 @@ pub(crate) fn rows<'a>(body: &'a str) -> [Row<'a>; 8] {
 // The word of the first frame; each frame has one more than the frame before.
 pub(crate) const WORD: u64 = 42;
 
-// The script of these rows and `hello`, and the output that it has.
+// The script of a setup, these rows and `hello`, and the output that it has.
 pub(crate) fn script_of(alloc: Global, rows: &[Row]) -> Result<(Vec<u8>, Vec<u8>), Fail> {
-    let mut script = Vec::new(alloc);
+    let mut script = begun(alloc)?;
     let mut output = Vec::new(alloc);
     for (at, row) in rows.iter().enumerate() {
         push_frame(
@@ -245,17 +276,30 @@ fn later<'a>(moment: u64, row: Row<'a>) -> Row<'a> {
 const LAST: u64 = 1_738_281_599;
 
 // A keeper of no rows yet that fails at these calls, counted from 1.
-fn keeper_failing_at(alloc: Global, calls: Vec<u64>) -> MemKeeper {
+pub(crate) fn keeper_failing_at(alloc: Global, calls: Vec<u64>) -> MemKeeper {
     MemKeeper::new(Vec::new(alloc), calls)
 }
 
-// The kinds and numbers of the rows that a keeper holds.
+// The kinds and numbers of the rows of reports that a keeper holds, beside those of the setup.
 fn kept(alloc: Global, keeper: &MemKeeper) -> Result<Vec<(u8, u32, u32)>, Fail> {
     let mut keys = Vec::new(alloc);
     for row in keeper.rows() {
-        keys.push((row.key.kind, row.key.a, row.key.b))?;
+        if row.key.kind > 5 {
+            keys.push((row.key.kind, row.key.a, row.key.b))?;
+        }
+    }
+    if keeper.rows().len() != keys.len() + 9 {
+        return Err("the rows of the setup".into());
     }
     Ok(keys)
+}
+
+// The last read of the first report, with the session of a login at the second turn.
+fn read(reply: Reply) -> Row {
+    Row {
+        fields: "X-Session: 2-00000000000000000000000000000000\r\n",
+        ..later(LAST, get("/t/1/reports/1", reply))
+    }
 }
 
 #[test]
@@ -267,24 +311,29 @@ fn an_expired_report_is_gone_and_so_are_its_rows(rt: HostRuntime) -> Result<(), 
             BRIBE,
             created("{\"number\":1,\"receipt\":\"0000000000000042\"}"),
         ),
-        later(LAST, get("/t/1/reports/1", (200, "OK", VIEW, ""))),
+        later(
+            LAST,
+            login("{\"role\":\"recipient\",\"session\":\"2-00000000000000000000000000000000\"}"),
+        ),
+        read((200, "OK", VIEW, "")),
         later(LAST + 1, get("/health", health)),
-        later(LAST, get("/t/1/reports/1", NOT_FOUND)),
+        read(NOT_FOUND),
         later(
             LAST,
             post(
                 "{\"context\":1,\"answers\":{\"what\":\"x\"}}",
-                created("{\"number\":2,\"receipt\":\"0000000000000046\"}"),
+                created("{\"number\":2,\"receipt\":\"0000000000000047\"}"),
             ),
         ),
     ];
-    let held: [&[(u8, u32, u32)]; 6] = [
+    let held: [&[(u8, u32, u32)]; 7] = [
         &[],
-        &[(2, 0, 0), (6, 1, 1), (7, 1, 0)],
-        &[(2, 0, 0), (6, 1, 1), (7, 1, 0)],
-        &[(2, 0, 0)],
-        &[(2, 0, 0)],
-        &[(2, 0, 0), (6, 2, 1)],
+        &[(6, 1, 1), (7, 1, 0)],
+        &[(6, 1, 1), (7, 1, 0)],
+        &[(6, 1, 1), (7, 1, 0)],
+        &[],
+        &[],
+        &[(6, 2, 1)],
     ];
     for (turns, wanted) in held.iter().enumerate() {
         let (script, output) = script_of(alloc, &rows[..turns])?;
@@ -302,15 +351,16 @@ fn a_turn_that_the_keeper_fails_is_lost_and_can_be_made_again(rt: HostRuntime) -
     let lost: Reply = (503, "Service Unavailable", "{\"code\":\"keeper\"}", "");
     let body = "{\"context\":1,\"answers\":{\"what\":\"x\"}}";
     let rows = [
+        login(FIRST_SESSION),
         post(
             body,
-            created("{\"number\":1,\"receipt\":\"0000000000000042\"}"),
+            created("{\"number\":1,\"receipt\":\"0000000000000043\"}"),
         ),
         post(body, lost),
         get("/t/1/reports/2", NOT_FOUND),
         post(
             body,
-            created("{\"number\":2,\"receipt\":\"0000000000000045\"}"),
+            created("{\"number\":2,\"receipt\":\"0000000000000046\"}"),
         ),
         // What fell due is purged by the next turn.
         later(LAST + 1, get("/health", lost)),
@@ -318,14 +368,14 @@ fn a_turn_that_the_keeper_fails_is_lost_and_can_be_made_again(rt: HostRuntime) -
             LAST + 1,
             get("/health", (200, "OK", "{\"status\":\"ok\"}", "")),
         ),
-        later(LAST + 1, get("/t/1/reports/1", NOT_FOUND)),
     ];
     let (script, output) = script_of(alloc, &rows)?;
-    let mut keeper = keeper_failing_at(alloc, [2, 4].to_vec(alloc)?);
+    // The first two calls open the host.
+    let mut keeper = keeper_failing_at(alloc, [4, 6].to_vec(alloc)?);
     let (status, written) = play_over(alloc, &script, &WHOLE, &mut keeper)?;
     assert!(rt; status == Status::Done);
     assert!(rt; written == output);
-    assert!(rt; kept(alloc, &keeper)?.as_slice() == [(2, 0, 0)].as_slice());
+    assert!(rt; kept(alloc, &keeper)?.is_empty());
     assert!(rt; keeper.faults() == 2);
     Ok(())
 }
@@ -335,7 +385,7 @@ fn a_day_has_its_quota_and_a_receipt_its_report(rt: HostRuntime) -> Result<(), F
     let alloc = rt.alloc();
     let body = "{\"context\":1,\"answers\":{\"what\":\"x\"}}";
     let request = request(alloc, &post(body, (201, "", "", "")))?;
-    let mut script = Vec::new(alloc);
+    let mut script = begun(alloc)?;
     for word in 1..51 {
         push_frame(alloc, &mut script, 1_735_689_600, word, request.as_bytes())?;
     }

@@ -1,7 +1,7 @@
 use crate::Status;
 use crate::tests::{
-    BRIBE, CLOSE, Ends, NOT_FOUND, Reply, Row, WORD, created, faulty, get, play, post, push_frame,
-    request, script_of,
+    BRIBE, CLOSE, Ends, NOT_FOUND, Reply, Row, WORD, begun, created, faulty, get, play, post,
+    push_frame, request, script_of,
 };
 use std::alloc::Global;
 use std::test::Fail;
@@ -145,7 +145,7 @@ fn a_body_may_have_262_144_bytes(rt: HostRuntime) -> Result<(), Fail> {
         for _ in BRIBE.len()..size {
             body.push(' ')?;
         }
-        let mut script = Vec::new(alloc);
+        let mut script = begun(alloc)?;
         let request = request(alloc, &post(&body, (201, "", "", "")))?;
         push_frame(alloc, &mut script, 0, WORD, request.as_bytes())?;
         assert!(rt; play(alloc, &script, &ends)?.1.starts_with(status));

@@ -1,4 +1,5 @@
 //! Scripts of turns on reports: what reporters and recipients are answered.
+use crate::texts::harbour;
 use crate::turns::{DONE, NOT_FOUND, Turn, first_other};
 use std::test::Fail;
 
@@ -14,11 +15,9 @@ const BEN: &str = r#"{"user":"ben","password":"ben-pass"}"#;
 
 const RECEIPT: &str = r#"{"receipt":"0000000000000001"}"#;
 
-const RECIPIENT_2: &str =
-    r#"{"role":"recipient","session":"2-00000000000000000000000000000002"}"#;
+const RECIPIENT_2: &str = r#"{"role":"recipient","session":"2-00000000000000000000000000000002"}"#;
 
-const RECIPIENT_3: &str =
-    r#"{"role":"recipient","session":"3-00000000000000000000000000000003"}"#;
+const RECIPIENT_3: &str = r#"{"role":"recipient","session":"3-00000000000000000000000000000003"}"#;
 
 const REPORTER_2: &str = r#"{"role":"reporter","session":"2-00000000000000000000000000000002"}"#;
 
@@ -274,14 +273,7 @@ const TRANSFERRED: &[Turn] = &[
 // On the first second of its last day a report is gone, with its reporter's sessions and its receipt.
 const EXPIRED: &[Turn] = &[
     (0, "POST /t/1/reports", 0, BRIBE, 201, FIRST),
-    (
-        2_590_000,
-        "POST /t/1/sessions",
-        0,
-        RECEIPT,
-        201,
-        REPORTER_2,
-    ),
+    (2_590_000, "POST /t/1/sessions", 0, RECEIPT, 201, REPORTER_2),
     (2_590_000, "POST /t/1/sessions", 0, ADA, 201, RECIPIENT_3),
     (2_592_000, "GET /t/1/reports/1", 3, "", 404, NOT_FOUND),
     (
@@ -361,14 +353,7 @@ const LEFT: &[Turn] = &[
         r#"{"code":"bad_login"}"#,
     ),
     (0, "POST /t/1/sessions", 0, ADA, 201, RECIPIENT_2),
-    (
-        0,
-        "GET /t/1/report",
-        2,
-        "",
-        403,
-        r#"{"code":"role"}"#,
-    ),
+    (0, "GET /t/1/report", 2, "", 403, r#"{"code":"role"}"#),
     (0, "DELETE /t/1/sessions", 2, "", 200, DONE),
     (
         0,
@@ -378,7 +363,14 @@ const LEFT: &[Turn] = &[
         401,
         r#"{"code":"no_session"}"#,
     ),
-    (0, "POST /t/1/reports", 0, PUBLIC, 201, r#"{"number":1,"receipt":"0000000000000006"}"#),
+    (
+        0,
+        "POST /t/1/reports",
+        0,
+        PUBLIC,
+        201,
+        r#"{"number":1,"receipt":"0000000000000006"}"#,
+    ),
     (
         0,
         "POST /t/1/sessions",
@@ -407,16 +399,10 @@ const LEFT: &[Turn] = &[
 
 #[test]
 fn reports_are_read_and_done_on(rt: HostRuntime) -> Result<(), Fail> {
-    for turns in [
-        READ,
-        DONE_ON,
-        SHARED,
-        TRANSFERRED,
-        EXPIRED,
-        POSTPONED,
-        LEFT,
-    ] {
-        assert_eq!(rt; first_other(rt.alloc(), turns)?, None);
+    let alloc = rt.alloc();
+    let setup = harbour(alloc)?;
+    for turns in [READ, DONE_ON, SHARED, TRANSFERRED, EXPIRED, POSTPONED, LEFT] {
+        assert_eq!(rt; first_other(alloc, &setup, turns)?, None);
     }
     Ok(())
 }

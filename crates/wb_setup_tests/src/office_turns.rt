@@ -1,5 +1,7 @@
 //! Scripts of turns of custodians and administrators, and of what the public is shown.
-use crate::turns::{DONE, NOT_FOUND, Turn, first_other};
+use crate::texts::harbour;
+use crate::turns::{DONE, Host, NOT_FOUND, Turn, first_other};
+use std::alloc::Global;
 use std::test::Fail;
 
 const BRIBE: &str = r#"{"context":1,"answers":{"what":"Bribe","name":"Eve"}}"#;
@@ -12,11 +14,9 @@ const CLEO: &str = r#"{"user":"cleo","password":"cleo-pass"}"#;
 
 const DAN: &str = r#"{"user":"dan","password":"dan-pass"}"#;
 
-const RECIPIENT_2: &str =
-    r#"{"role":"recipient","session":"2-00000000000000000000000000000002"}"#;
+const RECIPIENT_2: &str = r#"{"role":"recipient","session":"2-00000000000000000000000000000002"}"#;
 
-const CUSTODIAN_3: &str =
-    r#"{"role":"custodian","session":"3-00000000000000000000000000000003"}"#;
+const CUSTODIAN_3: &str = r#"{"role":"custodian","session":"3-00000000000000000000000000000003"}"#;
 
 const ADMIN_1: &str = r#"{"role":"admin","session":"1-00000000000000000000000000000001"}"#;
 
@@ -75,7 +75,14 @@ const GRANTED: &[Turn] = &[
         201,
         r#"{"role":"recipient","session":"9-00000000000000000000000000000009"}"#,
     ),
-    (604_899, "GET /t/1/reports/1/identity", 9, "", 404, NOT_FOUND),
+    (
+        604_899,
+        "GET /t/1/reports/1/identity",
+        9,
+        "",
+        404,
+        NOT_FOUND,
+    ),
     (604_900, "GET /t/1/reports/1/identity", 9, "", 200, IDENTITY),
     (
         604_900,
@@ -230,14 +237,7 @@ const SET: &[Turn] = &[
         409,
         r#"{"code":"role_fixed","kept":"recipient"}"#,
     ),
-    (
-        0,
-        "GET /t/1/admin",
-        2,
-        "",
-        403,
-        r#"{"code":"role"}"#,
-    ),
+    (0, "GET /t/1/admin", 2, "", 403, r#"{"code":"role"}"#),
     (
         0,
         "PUT /t/1/admin/users/1",
@@ -348,8 +348,38 @@ const SET: &[Turn] = &[
 
 #[test]
 fn offices_grant_and_set(rt: HostRuntime) -> Result<(), Fail> {
+    let alloc = rt.alloc();
+    let setup = harbour(alloc)?;
     for turns in [GRANTED, REVOKED, ENDED, SET] {
-        assert_eq!(rt; first_other(rt.alloc(), turns)?, None);
+        assert_eq!(rt; first_other(alloc, &setup, turns)?, None);
     }
+    Ok(())
+}
+
+const FORM: &str =
+    r#"{"form":{"steps":[{"title":"T","fields":[{"id":"a","label":"A","kind":"text"}]}]}}"#;
+
+// The version that a form has when no further one is taken.
+fn last_version(alloc: Global, host: &mut Host) -> Result<u64, Fail> {
+    for version in 2..200 {
+        let reply = format!(in alloc; r#"{{"version":{version}}}"#)?;
+        let put = (0, "PUT /t/1/admin/forms/1", 1, FORM, 200, reply.as_str());
+        if !host.answers(2, &put)? {
+            return Ok(version - 1);
+        }
+    }
+    Ok(0)
+}
+
+#[test]
+fn a_form_has_99_versions(rt: HostRuntime) -> Result<(), Fail> {
+    let alloc = rt.alloc();
+    let mut host = Host::open(alloc, &harbour(alloc)?, &[])?;
+    let login = [(0, "POST /t/1/sessions", 0, DAN, 201, ADMIN_1)];
+    let login = host.first_other(login.as_slice())?;
+    let last = last_version(alloc, &mut host)?;
+    let full = r#"{"code":"full","kept":99}"#;
+    let refused = host.answers(2, &(0, "PUT /t/1/admin/forms/1", 1, FORM, 409, full))?;
+    assert!(rt; login == None && last == 99 && refused);
     Ok(())
 }

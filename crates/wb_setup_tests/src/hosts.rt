@@ -1,0 +1,248 @@
+//! Hosts over setups: what is kept of them, what a purge leaves, and what a keeper's failure changes.
+use crate::texts::{harbour, two_tenants};
+use crate::turns::{DONE, Host, Turn, keeper};
+use std::alloc::Global;
+use std::test::Fail;
+use wb_base::MemKeeper;
+use wb_desk::{Desk, OpenFault};
+use wb_tenants::Setup;
+
+const PUBLIC: &str = r#"{"context":1,"answers":{"what":"x"}}"#;
+
+const SAFETY: &str = r#"{"context":2,"answers":{"what":"x"}}"#;
+
+// Why no host is opened, where none is, and how many rows are kept then.
+fn opening(alloc: Global, keeper: &mut MemKeeper) -> Result<(Option<OpenFault>, usize), Fail> {
+    let Ok(setup) = Setup::read(alloc, harbour(alloc)?.as_bytes()) else {
+        return Err("a setup".into());
+    };
+    let fault = match Desk::open(alloc, keeper, setup) {
+        Ok(_) => None,
+        Err(fault) => Some(fault),
+    };
+    Ok((fault, keeper.rows().len()))
+}
+
+#[test]
+fn a_host_keeps_what_it_is_set_up_with(rt: HostRuntime) -> Result<(), Fail> {
+    let alloc = rt.alloc();
+    let mut keeper = keeper(alloc, &[])?;
+    // The settings, the numbering, four users, a form and two contexts; on these no other host is opened yet.
+    let first = opening(alloc, &mut keeper)?;
+    let second = opening(alloc, &mut keeper)?;
+    assert!(rt; first == (None, 9) && second == (Some(OpenFault::Kept), 9));
+    Ok(())
+}
+
+#[test]
+fn a_host_is_not_opened_where_its_keeper_fails(rt: HostRuntime) -> Result<(), Fail> {
+    let alloc = rt.alloc();
+    for call in [1, 2] {
+        let mut keeper = keeper(alloc, &[call])?;
+        let opened = opening(alloc, &mut keeper)?;
+        assert!(rt; opened == (Some(OpenFault::Keeper), 0));
+    }
+    Ok(())
+}
+
+/// A turn, its k, and what then stands: kept rows, live reports, sessions.
+type Step = (u64, Turn<'static>, (usize, u64, u64));
+
+// The k of the first step whose reply, or after which what stands, is not the wanted one.
+fn first_unlike(host: &mut Host, steps: &[Step]) -> Result<Option<u64>, Fail> {
+    for (k, turn, holds) in steps {
+        if !host.answers(*k, turn)? || host.holds() != *holds {
+            return Ok(Some(*k));
+        }
+    }
+    Ok(None)
+}
+
+const HEALTH: &str = r#"{"status":"ok"}"#;
+
+const DOCK_REPORT: Turn = (
+    0,
+    "POST /t/2/reports",
+    0,
+    PUBLIC,
+    201,
+    r#"{"number":1,"receipt":"0000000000000042"}"#,
+);
+
+// A tenant's day begins two hours before the day of UTC: then its report goes.
+const GONE: &[Step] = &[
+    (42, DOCK_REPORT, (19, 1, 0)),
+    (
+        1,
+        (2_584_799, "GET /health", 0, "", 200, HEALTH),
+        (19, 1, 0),
+    ),
+    (
+        2,
+        (2_584_800, "GET /health", 0, "", 200, HEALTH),
+        (18, 0, 0),
+    ),
+];
+
+// Two tenants may give one receipt, one tenant may not.
+const TAKEN: &[Step] = &[
+    (
+        42,
+        (
+            0,
+            "POST /t/1/reports",
+            0,
+            PUBLIC,
+            201,
+            r#"{"number":1,"receipt":"0000000000000042"}"#,
+        ),
+        (19, 1, 0),
+    ),
+    (
+        42,
+        (
+            0,
+            "POST /t/1/reports",
+            0,
+            PUBLIC,
+            409,
+            r#"{"code":"receipt_taken","kept":null}"#,
+        ),
+        (19, 1, 0),
+    ),
+    (42, DOCK_REPORT, (20, 2, 0)),
+];
+
+#[test]
+fn days_and_receipts_are_a_tenants_own(rt: HostRuntime) -> Result<(), Fail> {
+    let alloc = rt.alloc();
+    for steps in [GONE, TAKEN] {
+        let mut host = Host::open(alloc, &two_tenants(alloc)?, &[])?;
+        assert_eq!(rt; first_unlike(&mut host, steps)?, None);
+    }
+    Ok(())
+}
+
+// The keeper's fifth call fails as a comment comes on the day on which the first report goes. What is lost can be done again:
+// then that report's entry goes, and the comment is kept.
+const LOST: &[Step] = &[
+    (
+        1,
+        (
+            0,
+            "POST /t/1/reports",
+            0,
+            SAFETY,
+            201,
+            r#"{"number":1,"receipt":"0000000000000001"}"#,
+        ),
+        (10, 1, 0),
+    ),
+    (
+        2,
+        (
+            863_000,
+            "POST /t/1/reports",
+            0,
+            PUBLIC,
+            201,
+            r#"{"number":2,"receipt":"0000000000000002"}"#,
+        ),
+        (11, 2, 0),
+    ),
+    (
+        3,
+        (
+            863_100,
+            "POST /t/1/sessions",
+            0,
+            r#"{"receipt":"0000000000000002"}"#,
+            201,
+            r#"{"role":"reporter","session":"3-00000000000000000000000000000003"}"#,
+        ),
+        (11, 2, 1),
+    ),
+    (
+        4,
+        (
+            864_000,
+            "POST /t/1/report/comments",
+            3,
+            r#"{"text":"More"}"#,
+            503,
+            r#"{"code":"keeper"}"#,
+        ),
+        (11, 2, 1),
+    ),
+    (
+        5,
+        (
+            864_001,
+            "POST /t/1/report/comments",
+            3,
+            r#"{"text":"More"}"#,
+            201,
+            DONE,
+        ),
+        (11, 1, 1),
+    ),
+];
+
+#[test]
+fn a_turn_that_its_keeper_lost_can_be_made_again(rt: HostRuntime) -> Result<(), Fail> {
+    let alloc = rt.alloc();
+    let mut host = Host::open(alloc, &harbour(alloc)?, &[5])?;
+    assert_eq!(rt; first_unlike(&mut host, LOST)?, None);
+    Ok(())
+}
+
+const NO_REPORTS: &str = r#"{"reports":[]}"#;
+
+const NO_SESSION: &str = r#"{"code":"no_session"}"#;
+
+// After nine logins of a user the first session is none, and the others end after four hours.
+const NINE: &[Step] = &[
+    (
+        10,
+        (0, "GET /t/1/reports", 1, "", 401, NO_SESSION),
+        (9, 0, 8),
+    ),
+    (
+        11,
+        (0, "GET /t/1/reports", 2, "", 200, NO_REPORTS),
+        (9, 0, 8),
+    ),
+    (
+        12,
+        (14_399, "GET /t/1/reports", 9, "", 200, NO_REPORTS),
+        (9, 0, 8),
+    ),
+    (
+        13,
+        (14_400, "GET /t/1/reports", 9, "", 401, NO_SESSION),
+        (9, 0, 0),
+    ),
+];
+
+// Logs a user in nine times, and says whether each login was answered with its session.
+fn log_in_nine_times(alloc: Global, host: &mut Host) -> Result<bool, Fail> {
+    for k in 1..10 {
+        let session = format!(in alloc; r#"{{"role":"recipient","session":"{k}-{k:032x}"}}"#)?;
+        let ada = r#"{"user":"ada","password":"ada-pass"}"#;
+        let login = (0, "POST /t/1/sessions", 0, ada, 201, session.as_str());
+        if !host.answers(k, &login)? {
+            return Ok(false);
+        }
+    }
+    Ok(true)
+}
+
+#[test]
+fn a_user_has_eight_sessions(rt: HostRuntime) -> Result<(), Fail> {
+    let alloc = rt.alloc();
+    let mut host = Host::open(alloc, &harbour(alloc)?, &[])?;
+    let answered = log_in_nine_times(alloc, &mut host)?;
+    let unlike = first_unlike(&mut host, NINE)?;
+    assert!(rt; answered && unlike == None);
+    Ok(())
+}

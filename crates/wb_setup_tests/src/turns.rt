@@ -1,0 +1,113 @@
+//! What a host answers turn by turn: scripts of requests with their replies, each script a table.
+use std::alloc::Global;
+use std::test::Fail;
+use wb_base::{MemKeeper, Moment, Row, Words};
+use wb_desk::Desk;
+use wb_tenants::Setup;
+use wb_wire::{Routes, read_request};
+
+/// A turn: seconds after the start of 2025 in UTC; method and path; the turn whose login made the session, or 0 for no
+/// session; the body; and the status and the body of the reply. Turn k is made with the words 0, k, 0, k.
+pub type Turn<'a> = (u32, &'a str, u64, &'a str, u16, &'a str);
+
+/// 2025-01-01 00:00 in UTC.
+const NEW_YEAR: u64 = 1_735_689_600;
+
+/// The reply's body where a change is done.
+pub const DONE: &str = r#"{"done":true}"#;
+
+/// The refusal of what is not there for the caller.
+pub const NOT_FOUND: &str = r#"{"code":"not_found"}"#;
+
+// A request to a path with a session, where one is named, and a body, where there is one.
+fn request(alloc: Global, target: &str, session: u64, body: &str) -> Result<String, Fail> {
+    let named = if session == 0 {
+        String::new(alloc)
+    } else {
+        format!(in alloc; "X-Session: {session}-{session:032x}\r\n")?
+    };
+    let length = if body.is_empty() {
+        String::new(alloc)
+    } else {
+        format!(in alloc; "Content-Length: {}\r\n", body.len())?
+    };
+    Ok(format!(in alloc; "{target} HTTP/1.1\r\nHost: h\r\n{named}{length}\r\n{body}")?)
+}
+
+/// A host over a setup, with the keeper of its rows.
+#[derive(Drop)]
+pub struct Host {
+    alloc: Global,
+    routes: Routes,
+    desk: Desk,
+    keeper: MemKeeper,
+}
+
+impl Host {
+    /// A host over a setup, whose keeper fails at these calls.
+    pub fn open(alloc: Global, setup: &str, fail: &[u64]) -> Result<Host, Fail> {
+        let routes = Routes::new(alloc)?;
+        let mut keeper = keeper(alloc, fail)?;
+        let Ok(setup) = Setup::read(alloc, setup.as_bytes()) else {
+            return Err("a setup".into());
+        };
+        match Desk::open(alloc, &mut keeper, setup) {
+            Ok(desk) => Ok(Host {
+                alloc,
+                routes,
+                desk,
+                keeper,
+            }),
+            Err(_) => Err("a host".into()),
+        }
+    }
+
+    /// Makes a turn with the words 0, k, 0, k, and says whether its reply is the wanted one.
+    pub fn answers(&mut self, k: u64, turn: &Turn) -> Result<bool, Fail> {
+        let (seconds, target, session, body, status, reply) = *turn;
+        let Some(moment) = Moment::try_new(NEW_YEAR + u64::from(seconds)) else {
+            return Err("a moment".into());
+        };
+        let text = request(self.alloc, target, session, body)?;
+        let Ok(asked) = read_request(self.alloc, &self.routes, text.as_bytes()) else {
+            return Err("a request".into());
+        };
+        let words = Words([0, k, 0, k]);
+        let told = self.desk.step(&mut self.keeper, &asked, moment, &words);
+        Ok(told.status == status && told.body.as_bytes() == reply.as_bytes())
+    }
+
+    /// The number of the first turn whose reply is not the wanted one.
+    pub fn first_other(&mut self, turns: &[Turn]) -> Result<Option<u64>, Fail> {
+        let mut number = 0;
+        for turn in turns {
+            number = u64::saturating_add(number, 1);
+            if !self.answers(number, turn)? {
+                return Ok(Some(number));
+            }
+        }
+        Ok(None)
+    }
+
+    /// How many rows are kept, and how many reports are live and sessions stand.
+    pub fn holds(&self) -> (usize, u64, u64) {
+        let counts = self.desk.counts();
+        (self.keeper.rows().len(), counts.live, counts.sessions)
+    }
+
+    /// The rows that are kept.
+    pub fn rows(&self) -> &[Row] {
+        self.keeper.rows()
+    }
+}
+
+/// The number of the first turn whose reply is not the wanted one, on a host over a setup.
+pub fn first_other(alloc: Global, setup: &str, turns: &[Turn]) -> Result<Option<u64>, Fail> {
+    let mut host = Host::open(alloc, setup, &[])?;
+    host.first_other(turns)
+}
+
+/// A keeper that holds nothing yet and fails at these calls.
+pub fn keeper(alloc: Global, fail: &[u64]) -> Result<MemKeeper, Fail> {
+    Ok(MemKeeper::new(Vec::new(alloc), fail.to_vec(alloc)?))
+}
