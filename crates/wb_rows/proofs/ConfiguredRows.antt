@@ -38,7 +38,7 @@ ids_order kind t a c = numbers_order kind t a 0 c 0 ∙ by (nat_cmp a c)
 pub versions_order : (a b c d : ℕ) → b ≤ 99 → d ≤ 99 → ordering_then (nat_cmp a c) (nat_cmp b d) ≡ nat_cmp (a * 100 + b) (c * 100 + d)
 versions_order a b c d low high = grind (arith, nat_tests)
 
-versions_held : (forms : List FormItem) (x : FormItem) → AreVersions forms → Held x forms → x.version ≤ 99
+pub versions_held : (forms : List FormItem) (x : FormItem) → AreVersions forms → Held x forms → x.version ≤ 99
 versions_held [] x all held = absurd held
 versions_held (y ∷ ys) x all (inl e) = let same : x.version ≡ y.version = ap (λ (z : FormItem). z.version) e in omega (arith, same, all.0.1)
 versions_held (y ∷ ys) x all (inr held) = versions_held ys x all.1 held

@@ -2,6 +2,8 @@
 use Rattle.std.proofs.Common.{◌≡◌, Bool, true, List, [], ◌∷◌, Option, Some, None, refl, subst}
 use Rattle.std.proofs.lemmas.Bool.{and_from, and_parts}
 use Rattle.std.specs.List.{cons_option, filter_map, list_all}
+use Rattle.std.specs.Prelude.{nat_le}
+use Rattle.wb_kinds.specs.declared.item.EntryItem.{EntryItem}
 use Rattle.wb_kinds.specs.declared.item.Item.{Item}
 use Rattle.wb_kinds.specs.declared.item.Item.TheVariants as items
 use Rattle.wb_kinds.specs.Items.{is_in_range}
@@ -10,7 +12,7 @@ use Rattle.wb_model.specs.declared.registry.FormItem.{FormItem}
 use Rattle.wb_model.specs.declared.registry.TenantItem.{TenantItem}
 use Rattle.wb_model.specs.declared.registry.UserItem.{UserItem}
 use Rattle.wb_model.specs.SetUps.{is_context_item, is_form_item, is_tenant_item, is_user_item}
-use Rattle.wb_rows.specs.KeptItems.{context_in, form_in, tenant_in, user_in}
+use Rattle.wb_rows.specs.KeptItems.{context_in, entry_in, form_in, tenant_in, user_in}
 
 pub picked : {X : Type 0} (given : Item → Bool) (pick : Item → Option X) (test : X → Bool) → ((i : Item) (x : X) → given i ≡ true → pick i ≡ Some x → test x ≡ true) → (all : List Item) → list_all given all ≡ true → list_all test (filter_map pick all) ≡ true
 picked given pick test so [] holds = refl
@@ -48,4 +50,12 @@ contexts-fit = picked is_in_range context_in is_context_item fit
   where
     fit : (i : Item) (x : ContextItem) → is_in_range i ≡ true → context_in i ≡ Some x → is_context_item x ≡ true
     fit (items.Context y) x own is = let same : y ≡ x = cc (is) in subst (λ z. is_context_item z ≡ true) same own
+    fit _ x own is = absurd (cc (is))
+
+-- a report's number is 1 at least
+pub entries-fit : (all : List Item) → list_all is_in_range all ≡ true → list_all (λ (x : EntryItem). nat_le 1 x.number) (filter_map entry_in all) ≡ true
+entries-fit = picked is_in_range entry_in (λ (x : EntryItem). nat_le 1 x.number) fit
+  where
+    fit : (i : Item) (x : EntryItem) → is_in_range i ≡ true → entry_in i ≡ Some x → nat_le 1 x.number ≡ true
+    fit (items.Entry y) x own is = let same : y ≡ x = cc (is) in subst (λ (z : EntryItem). nat_le 1 z.number ≡ true) same own
     fit _ x own is = absurd (cc (is))

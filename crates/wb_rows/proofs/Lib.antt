@@ -1,6 +1,9 @@
 pub mod RowPuts
 pub mod NotedRows
 pub mod ConfiguredRows
+pub mod Ascending
+pub mod AscendingRows
+pub mod NewTenants
 pub mod ItemOrder
 pub mod Freedom
 pub mod OpenTrails
@@ -14,6 +17,17 @@ pub mod Judging
 pub mod ItemKinds
 pub mod TrailRows
 pub mod SealedRows
+pub mod RulesHold
 pub mod RowsBack
+pub mod OwnedRows
 pub mod KeptSetUp
 pub mod LegalReports
+pub mod WholeTrails
+pub mod HeldReports
+pub mod KeptMoments
+pub mod KeptReceipts
+pub mod KeptTables
+pub mod NoTenant
+pub mod TenantParts
+pub mod RowsByTenant
+pub mod OpenedTables

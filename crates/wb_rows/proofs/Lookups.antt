@@ -24,7 +24,7 @@ sealed_there items t n =
 abbrev pub case_place : CaseItem → ℕ × ℕ
 case_place x = (x.tenant, x.number)
 
-find-map : {X Y : Type 0} (f : X → Y) (p : Y → Bool) (xs : List X) → find p (map f xs) ≡ option_map f (find (λ x. p (f x)) xs)
+pub find-map : {X Y : Type 0} (f : X → Y) (p : Y → Bool) (xs : List X) → find p (map f xs) ≡ option_map f (find (λ x. p (f x)) xs)
 find-map f p [] = refl
 find-map {X} f p (x ∷ xs) = by (p (f x)) (find-map f p xs)
   where

@@ -84,7 +84,7 @@ pub keys_after : (P : Key → Type 0) (k : Key) (rs : List Row) → ((m : Key) �
 keys_after P k [] greater have = tt
 keys_after P k (r ∷ rs) greater have = (greater r.key have.0, keys_after P k rs greater have.1)
 
-keys_append : (P : Key → Type 0) (a b : List Row) → HaveKeys P a → HaveKeys P b → HaveKeys P (a ++ b)
+pub keys_append : (P : Key → Type 0) (a b : List Row) → HaveKeys P a → HaveKeys P b → HaveKeys P (a ++ b)
 keys_append P [] b h g = g
 keys_append P (r ∷ a) b h g = (h.0, keys_append P a b h.1 g)
 
@@ -119,7 +119,7 @@ abbrev pub AreKinds : ℕ → List (Tenancy → List Row) → Type 0
 AreKinds kind [] = Unit {0}
 AreKinds kind (f ∷ fs) = ((x : Tenancy) → HaveKeys (IsOf kind x.id) (f x)) × AreKinds (kind + 1) fs
 
-kinds_follow : AreKinds 1 kinds
+pub kinds_follow : AreKinds 1 kinds
 kinds_follow = (
   λ x. ((refl, refl), tt),
   (
@@ -153,9 +153,21 @@ Makes place [] x y z = ⊥
 Makes zero (f ∷ fs) x y z = (put (f y) x ≡ f z) × AreSame fs y z
 Makes (suc place) (f ∷ fs) x y z = (f y ≡ f z) × Makes place fs x y z
 
-of_each : (f : Tenancy → List Row) (xs : List Tenancy) → of_tenants f xs ≡ each f xs
+pub of_each : (f : Tenancy → List Row) (xs : List Tenancy) → of_tenants f xs ≡ each f xs
 of_each f [] = refl
 of_each f (x ∷ xs) = ap (λ l. f x ++ l) (of_each f xs)
+
+-- the rows of a kind come before a key of a later one
+pub kind_before : (kind : ℕ) (f : Tenancy → List Row) (xs : List Tenancy) (k : Key) → ((b : Tenancy) → HaveKeys (IsOf kind b.id) (f b)) → kind < k.kind → AreBefore k (of_tenants f xs)
+kind_before kind f xs k of lt = subst (AreBefore k) (sym (of_each f xs)) (before_each k f xs (λ b held. keys_before (IsOf kind b.id) k (f b) (λ m of_b. less_kind m k (omega (arith, of_b.0, lt))) (of b)))
+
+-- and the rows of later kinds come after it
+pub kinds_after : (kind : ℕ) (fs : List (Tenancy → List Row)) (xs : List Tenancy) (k : Key) → AreKinds kind fs → k.kind < kind → AreAfter k (of_kinds fs xs)
+kinds_after kind [] xs k follow lt = tt
+kinds_after kind (f ∷ fs) xs k follow lt =
+    after_append k (of_tenants f xs) (of_kinds fs xs)
+    (subst (AreAfter k) (sym (of_each f xs)) (after_each k f xs (λ b held. keys_after (IsOf kind b.id) k (f b) (λ m of_b. above_kind m k (omega (arith, of_b.0, lt))) (follow.0 b))))
+    (kinds_after (kind + 1) fs xs k follow.1 (omega (arith, lt)))
 
 module _ (before after : List Tenancy) (y z : Tenancy) (below : (b : Tenancy) → Held b before → b.id < y.id) (above : (b : Tenancy) → Held b after → y.id < b.id) where
   abbrev whole : List Tenancy
@@ -180,21 +192,13 @@ module _ (before after : List Tenancy) (y z : Tenancy) (below : (b : Tenancy) �
       (λ b held. refl) (λ b held. refl) is
       ∙ sym (of_each f made))
 
-  later_after : (kind : ℕ) (fs : List (Tenancy → List Row)) (k : Key) → AreKinds kind fs → k.kind < kind → AreAfter k (of_kinds fs whole)
-  later_after kind [] k follow lt = tt
-  later_after kind (f ∷ fs) k follow lt =
-      after_append k (of_tenants f whole) (of_kinds fs whole)
-      (subst (AreAfter k) (sym (of_each f whole)) (after_each k f whole (λ b held. keys_after (IsOf kind b.id) k (f b) (λ m of_b. above_kind m k (omega (arith, of_b.0, lt))) (follow.0 b))))
-      (later_after (kind + 1) fs k follow.1 (omega (arith, lt)))
-
   kinds_made : (kind place : ℕ) (fs : List (Tenancy → List Row)) (x : Row) → AreKinds kind fs → x.key.kind ≡ kind + place → x.key.tenant ≡ y.id → Makes place fs x y z → put (of_kinds fs whole) x ≡ of_kinds fs made
   kinds_made kind place [] x follow is here makes = absurd makes
   kinds_made kind zero (f ∷ fs) x follow is here makes =
-      put_front (of_tenants f whole) (of_kinds fs whole) x (later_after (kind + 1) fs x.key follow.1 (omega (arith, is)))
+      put_front (of_tenants f whole) (of_kinds fs whole) x (kinds_after (kind + 1) fs whole x.key follow.1 (omega (arith, is)))
       ∙ (λ i. kind_made kind f x follow.0 (omega (arith, is)) here makes.0 i ++ kinds_same fs makes.1 i)
   kinds_made kind (suc place) (f ∷ fs) x follow is here makes =
-      put_past (of_tenants f whole) (of_kinds fs whole) x
-      (subst (AreBefore x.key) (sym (of_each f whole)) (before_each x.key f whole (λ b held. keys_before (IsOf kind b.id) x.key (f b) (λ m of_b. less_kind m x.key (omega (arith, of_b.0, is))) (follow.0 b))))
+      put_past (of_tenants f whole) (of_kinds fs whole) x (kind_before kind f whole x.key follow.0 (omega (arith, is)))
       ∙ (λ i. kind_same f makes.0 i ++ kinds_made (kind + 1) place fs x follow.1 (omega (arith, is)) here makes.1 i)
 
 -- THE LAW of a row of a tenant: where it makes of the tenant's rows those of another state of the tenant, it makes of the host's rows those with that state

@@ -1,9 +1,9 @@
 -- THE LAW of what is read: rows that are read as tables are the rows of the tables.
-use Rattle.std.proofs.Common.{◌≡◌, ℕ, Bool, true, false, not, cond, List, [], ◌∷◌, ◌++◌, append_assoc, map, find, Option, Some, None, Result, Ok, Err, refl, sym, ap, ◌∙◌, subst}
+use Rattle.std.proofs.Common.{◌≡◌, Bool, true, false, List, [], ◌∷◌, ◌++◌, append_assoc, map, find, Option, Some, None, Result, Ok, Err, refl, sym, ap, ◌∙◌, subst}
 use Rattle.std.proofs.lemmas.Bool.{and_parts, false≢true}
 use Rattle.std.specs.List.{list_all}
 use Rattle.std.specs.List.Sorted.{IsStrictlySortedBy}
-use Rattle.std.specs.Option.{is_some, option_map, option_map_or, option_or}
+use Rattle.std.specs.Option.{is_some, option_map_or}
 use Rattle.std.specs.Prelude.{◌&&◌}
 use Rattle.wb_base.specs.KeptRows.{key_cmp, key_of}
 use Rattle.wb_base.specs.declared.rows.Key.{Key}
@@ -16,44 +16,26 @@ use Rattle.wb_model.specs.Openings.{registry_of}
 use Rattle.wb_model.specs.Trails.{has_identity}
 use Rattle.wb_rows.specs.declared.faults.RowFault.{RowFault}
 use Rattle.wb_rows.specs.declared.items.Kept.{Kept}
-use Rattle.wb_rows.specs.Blame.{first_breaking, blamed}
 use Rattle.wb_rows.specs.Held.{Report, Held}
 use Rattle.wb_rows.specs.HeldRows.{settings_row, numbering_row, user_row, form_row, context_row, list_rows, rows_of}
-use Rattle.wb_rows.specs.Judged.{first_undrawn, first_unsealed, report_fault, held, unless, judged_reports, judged_items, judged}
+use Rattle.wb_rows.specs.Judged.{report_fault, held, unless, judged_reports, judged_items, judged}
 use Rattle.wb_rows.specs.KeptItems.{kept_of}
 use Rattle.wb_rows.specs.ListRules.{list_fault}
-use Rattle.wb_rows.specs.Places.{entry_key, sealed_key}
 use Rattle.wb_rows.specs.ReadItems.{items_in}
-use Rattle.wb_rows.specs.ReportRules.{are_late_answers, has_its_seal, is_report, is_right_entry, is_right_seal}
+use Rattle.wb_rows.specs.ReportRules.{are_late_answers, is_report, is_right_seal}
 use Rattle.wb_rows.specs.TrailRule.{reports_of}
 use Rattle.wb_rows.proofs.ItemKinds.{by_kinds, entry_row, sealed_row}
 use Rattle.wb_rows.proofs.ItemOrder.{entries-order, items_ascend, item_key, rows_of_items, sealed-order}
 use Rattle.wb_rows.proofs.ReportOrder.{reports_ascend}
+use Rattle.wb_rows.proofs.RulesHold.{rules-hold}
 use Rattle.wb_rows.proofs.SealedRows.{AreThere, sealed-back}
 use Rattle.wb_rows.proofs.TrailRows.{trails-back}
 
--- ---- a rule that is not broken
+-- ---- identity answers
 
--- where none breaks a rule, all keep it
-pub none-breaking : {X : Type 0} (rule : X → Bool) (key : X → Key) (xs : List X) → first_breaking rule key xs ≡ None → list_all rule xs ≡ true
-none-breaking rule key [] none = refl
-none-breaking rule key (x ∷ xs) none = by (rule x) none (none-breaking rule key xs)
-  where
-    by : (b : Bool) → option_map key (cond (not b) (Some x) (find (λ y. not (rule y)) xs)) ≡ None → (first_breaking rule key xs ≡ None → list_all rule xs ≡ true) → (b && list_all rule xs) ≡ true
-    by true e rest = rest e
-    by false e rest = absurd (cc (e))
-
-pub none-blamed : (rule : ℕ) (o : Option Key) (rest : Option RowFault) → blamed rule o rest ≡ None → (o ≡ None) × (rest ≡ None)
-none-blamed rule None rest e = (refl, e)
-none-blamed rule (Some k) rest e = absurd (cc (e))
-
-neither : (a b : Option Key) → option_or a b ≡ None → (a ≡ None) × (b ≡ None)
-neither None b e = (refl, e)
-neither (Some k) b e = absurd (cc (e))
-
-is_there : (f : Report → Bool) (o : Option Report) → option_map_or f o false ≡ true → is_some o ≡ true
+pub is_there : {X : Type 0} (f : X → Bool) (o : Option X) → option_map_or f o false ≡ true → is_some o ≡ true
 is_there f None e = absurd (false≢true e)
-is_there f (Some r) e = refl
+is_there f (Some x) e = refl
 
 seal_there : (lists : Lists) (rs : List Report) (s : SealedItem) → is_right_seal lists rs s ≡ true → is_some (find (is_report s.tenant s.number) rs) ≡ true
 unfolding is_right_seal
@@ -65,17 +47,9 @@ seals_there lists rs (s ∷ ss) right =
     let parts = and_parts (is_right_seal lists rs s) (list_all (is_right_seal lists rs) ss) right in
     (seal_there lists rs s parts.0, seals_there lists rs ss parts.1)
 
--- no seal is wrong where no rule of reports is broken
-seals_right : (k : Kept) (rs : List Report) → report_fault k rs ≡ None → first_breaking (is_right_seal k.lists rs) sealed_key k.sealed ≡ None
-seals_right k rs none =
-    let six = none-blamed 6 (first_breaking (is_right_entry k.lists) entry_key k.entries) _ none in
-    let seven = none-blamed 7 (first_undrawn k) _ six.1 in
-    let eight = none-blamed 8 (first_unsealed k rs) _ seven.1 in
-    (neither (first_breaking (has_its_seal k.sealed) entry_key k.entries) (first_breaking (is_right_seal k.lists rs) sealed_key k.sealed) eight.0).1
-
 -- ---- the rows
 
-together : (a b c d e f g : List Row) → (a ++ (b ++ (c ++ (d ++ e)))) ++ (f ++ g) ≡ a ++ (b ++ (c ++ (d ++ (e ++ (f ++ g)))))
+pub together : (a b c d e f g : List Row) → (a ++ (b ++ (c ++ (d ++ e)))) ++ (f ++ g) ≡ a ++ (b ++ (c ++ (d ++ (e ++ (f ++ g)))))
 together a b c d e f g =
     append_assoc a (b ++ (c ++ (d ++ e))) (f ++ g)
     ∙ ap (λ l. a ++ l) (append_assoc b (c ++ (d ++ e)) (f ++ g) ∙ ap (λ l. b ++ l) (append_assoc c (d ++ e) (f ++ g) ∙ ap (λ l. c ++ l) (append_assoc d e (f ++ g))))
@@ -85,7 +59,7 @@ kept_back all rs fits order reports none =
     let k : Kept = kept_of all in
     let trails = trails-back k.lists k.entries rs reports in
     let ascend = reports_ascend k.lists k.entries rs (entries-order all fits order) reports in
-    let there = seals_there k.lists rs k.sealed (none-breaking (is_right_seal k.lists rs) sealed_key k.sealed (seals_right k rs none)) in
+    let there = seals_there k.lists rs k.sealed (rules-hold k rs none).seals in
     let sealed = sealed-back k.sealed rs (sealed-order all fits order) ascend there in
     (λ i. list_rows k.lists k.numberings ++ (sym trails i ++ sym sealed i))
     ∙ (together (map settings_row k.lists.tenants) (map numbering_row k.numberings) (map user_row k.lists.users) (map form_row k.lists.forms) (map context_row k.lists.contexts) (map entry_row k.entries) (map sealed_row k.sealed)

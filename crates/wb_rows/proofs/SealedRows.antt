@@ -31,7 +31,7 @@ AreThere rs (s ∷ ss) = (is_some (find (is_report s.tenant s.number) rs) ≡ tr
 is_place : (p q : ℕ × ℕ) → ((p.0 == q.0) && (p.1 == q.1)) ≡ is_eq (pair_cmp p q)
 is_place p q = both_tied _ _ _ _ (unsigned_ties p.0 q.0) (unsigned_ties p.1 q.1)
 
-other_place : (p q : ℕ × ℕ) → pair_cmp p q ≡ Less → ((p.0 == q.0) && (p.1 == q.1)) ≡ false
+pub other_place : (p q : ℕ × ℕ) → pair_cmp p q ≡ Less → ((p.0 == q.0) && (p.1 == q.1)) ≡ false
 other_place p q less = is_place p q ∙ ap is_eq less
 
 other_back : (p q : ℕ × ℕ) → pair_cmp p q ≡ Less → ((q.0 == p.0) && (q.1 == p.1)) ≡ false

@@ -15,3 +15,4 @@ pub mod Growing
 pub mod ReportRules
 pub mod Judged
 pub mod ReceiptTies
+pub mod Openings

@@ -1,14 +1,15 @@
 -- The rows that changes put.
-use Rattle.std.specs.Prelude.{ℕ, ◌≤◌, List, [], ◌∷◌, Option, Some, None}
+use Rattle.std.specs.Prelude.{ℕ, ◌≤◌, List, [], ◌∷◌, ◌++◌, map, Option, Some, None}
 use Rattle.wb_base.specs.AnswerList.{Answered}
 use Rattle.wb_base.specs.FormJson.{form_data}
 use Rattle.wb_base.specs.declared.rows.Row.{Row}
 use Rattle.wb_base.specs.declared.rows.Change.{Change as RowChange}
 use Rattle.wb_base.specs.declared.rows.Change.TheVariants.{Put}
 use Rattle.wb_model.specs.Json.{answers_data}
-use Rattle.wb_model.specs.Rows.{row, settings_data, user_data, context_data}
+use Rattle.wb_model.specs.Rows.{row, rows_of, settings_data, user_data, context_data}
 use Rattle.wb_model.specs.Settings.{Setting, OfTenant, OfUser, OfContext, OfForm}
 use Rattle.wb_model.specs.Tables.{Registry}
+use Rattle.wb_model.specs.Tenants.{Tenancy}
 use Rattle.wb_tenants.specs.Sets.{set_tenant}
 
 -- the row of a report's identity answers, where there are any
@@ -29,3 +30,12 @@ IsVersion (OfTenant next) = Unit {0}
 IsVersion (OfUser item ends) = Unit {0}
 IsVersion (OfContext item) = Unit {0}
 IsVersion (OfForm item) = item.version ≤ 99
+
+-- the rows of a tenant are put
+abbrev pub tenant_put : Tenancy → List RowChange
+tenant_put x = map Put (rows_of (x ∷ []))
+
+-- those of tenants, tenant by tenant
+abbrev pub tenant_puts : List Tenancy → List RowChange
+tenant_puts [] = []
+tenant_puts (x ∷ xs) = tenant_put x ++ tenant_puts xs

@@ -1,17 +1,21 @@
 //! A set of rows read as tables.
-ghost use Rattle.std.specs.Prelude.{◌≡◌, ◌≢◌, ℕ, map, true, Ok, Err, IfOk, IfErr};
+ghost use Rattle.std.specs.Prelude.{◌≡◌, ◌≢◌, ℕ, map, true, false, Ok, Err, IfOk, IfErr};
 ghost use Rattle.std.specs.List.{list_all};
 ghost use Rattle.std.specs.List.Sorted.{IsStrictlySortedBy};
 ghost use Rattle.wb_base.specs.KeptRows.{key_cmp, key_of};
 ghost use Rattle.wb_custody.specs.SealedAnswers.{answers_of};
 ghost use Rattle.wb_list.specs.Keyed.{IsAscending};
-ghost use Rattle.wb_model.specs.SetUps.{AreSetUp, is_tenant_item, is_form_item};
+ghost use Rattle.wb_model.specs.KeptRules.{AreKept};
+ghost use Rattle.wb_model.specs.Openings.{registry_of, empty_tables};
+ghost use Rattle.wb_model.specs.Rows.{rows_of as rows_of_tenants};
+ghost use Rattle.wb_model.specs.SetUps.{AreSetUp, has_tenant, is_tenant_item, is_form_item};
 ghost use Rattle.wb_rows.specs.declared.faults.RowFault.TheVariants as faults;
 ghost use Rattle.wb_rows.specs.declared.items.Kept.{Kept as KeptData};
 ghost use Rattle.wb_rows.specs.Growing.{IsTrailFault};
 ghost use Rattle.wb_rows.specs.Held.{case_report, held_by};
 ghost use Rattle.wb_rows.specs.HeldRows.{rows_of};
 ghost use Rattle.wb_rows.specs.Judged.{AreBlames, judged, judged_kept, judged_reports};
+ghost use Rattle.wb_rows.specs.Openings.{tables_of, tenancies_of, time_of};
 ghost use Rattle.wb_rows.specs.Places.{entry_key, pair_cmp, sealed_place};
 ghost use Rattle.wb_rows.specs.TrailRule.{is_legal_report, reports_of};
 ghost use Rattle.wb_tenants.specs.Keys.{AreInOrder};
@@ -162,6 +166,12 @@ pub fn read(alloc: Global, rows: Vec<Row>) -> Result<Tables, RowFault>
     // What tenants are set up with is such as an opening asks for.
     ensures set_up { IfOk result (λ tables. AreSetUp tables.registry.lists) }
     ensures legal { IfOk result (λ tables. list_all (is_legal_report tables.registry.lists) (map case_report tables.cases) ≡ true) }
+    // The tables of each tenant keep the rules that an opening asks for.
+    ensures kept { IfOk result (λ tables. (t : ℕ) → AreKept (time_of (held_by tables)) tables.registry.lists t (tables_of (held_by tables) t)) }
+    // Nothing is held of a tenant that is not there.
+    ensures others { IfOk result (λ tables. (t : ℕ) → has_tenant tables.registry.lists t ≡ false → tables_of (held_by tables) t ≡ empty_tables (registry_of tables.registry.lists t)) }
+    // The rows of the tenants that are there are the rows read.
+    ensures whole { IfOk result (λ tables. rows_of_tenants (tenancies_of (held_by tables)) ≡ rows.items) }
 {
     let items = read_items(alloc, rows.as_slice())?;
     let kept = sort_items(alloc, items)?;

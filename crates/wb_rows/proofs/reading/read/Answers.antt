@@ -16,6 +16,7 @@ use Rattle.wb_rows.proofs.KeptSetUp.{read-set-up}
 use Rattle.wb_rows.proofs.LegalReports.{read-legal}
 use Rattle.wb_rows.specs.Judged.{judged, judged_items, judged_kept}
 use Rattle.wb_rows.proofs.Judging.{ok-then}
+use Rattle.wb_rows.proofs.OpenedTables.{read-kept, read-others, read-whole}
 use Rattle.wb_rows.proofs.RowsBack.{rows-back}
 use Rattle.wb_rows.proofs.FitItems.{tenants-fit, forms-fit}
 use Rattle.wb_rows.proofs.ItemOrder.{items_ascend, lists-order, entries-order, sealed-order}
@@ -75,3 +76,27 @@ returns-clause-legal c =
     let read : items_in rows ≡ Ok own = sym (ap items_in c.as_slice.ensures.value) ∙ c.in_ok-items.ensures.ok in
     let fit = c.in_ok-items.ensures.fits in
     ok-then c.judge.result c.judge.ensures.ok (λ tables is. read-legal rows (held_by tables) (of_rows rows own read fit _ _ (held_by tables) c.as_slice-2.ensures.value c.in_ok-kept.ensures is))
+
+pub returns-clause-kept : goal.returns-clause-kept
+returns-clause-kept c =
+    let rows = c.args.rows.items in
+    let own = c.in_ok-items.items.items in
+    let read : items_in rows ≡ Ok own = sym (ap items_in c.as_slice.ensures.value) ∙ c.in_ok-items.ensures.ok in
+    let fit = c.in_ok-items.ensures.fits in
+    ok-then c.judge.result c.judge.ensures.ok (λ tables is. read-kept rows (held_by tables) c.requires (fits rows own read fit) (of_rows rows own read fit _ _ (held_by tables) c.as_slice-2.ensures.value c.in_ok-kept.ensures is))
+
+pub returns-clause-others : goal.returns-clause-others
+returns-clause-others c =
+    let rows = c.args.rows.items in
+    let own = c.in_ok-items.items.items in
+    let read : items_in rows ≡ Ok own = sym (ap items_in c.as_slice.ensures.value) ∙ c.in_ok-items.ensures.ok in
+    let fit = c.in_ok-items.ensures.fits in
+    ok-then c.judge.result c.judge.ensures.ok (λ tables is. read-others rows (held_by tables) c.requires (fits rows own read fit) (of_rows rows own read fit _ _ (held_by tables) c.as_slice-2.ensures.value c.in_ok-kept.ensures is))
+
+pub returns-clause-whole : goal.returns-clause-whole
+returns-clause-whole c =
+    let rows = c.args.rows.items in
+    let own = c.in_ok-items.items.items in
+    let read : items_in rows ≡ Ok own = sym (ap items_in c.as_slice.ensures.value) ∙ c.in_ok-items.ensures.ok in
+    let fit = c.in_ok-items.ensures.fits in
+    ok-then c.judge.result c.judge.ensures.ok (λ tables is. read-whole rows (held_by tables) c.requires (fits rows own read fit) (of_rows rows own read fit _ _ (held_by tables) c.as_slice-2.ensures.value c.in_ok-kept.ensures is))
