@@ -1,5 +1,5 @@
 -- Statements made in turn: joined, and what they keep.
-use Rattle.std.proofs.Common.{◌≡◌, List, [], ◌∷◌, ◌++◌, Result, Ok, Err, OnOk, OnErr, IsTrue, inl, inr, refl, sym, subst, ◌∙◌, arith, true, false}
+use Rattle.std.proofs.Common.{◌≡◌, List, [], ◌∷◌, ◌++◌, Result, Ok, Err, IfOk, OnOk, OnErr, IsTrue, inl, inr, refl, sym, subst, ◌∙◌, arith, true, false}
 use Rattle.sqlite_trees.specs.declared.store.Store.{Ghosts}
 use Rattle.sqlite.specs.Held.{Held, state}
 use Rattle.sqlite.specs.State.{State, Survives, KeepsCommit}
@@ -70,3 +70,16 @@ pub record IsUndone (a b : State) : Type 0 where
 pub commit_failed : (a b : State) (e : Error) → FailsToCommit a b e → IsTrue a.in_transaction → IsTrue b.is_open → IsUndone a b
 commit_failed a b e (inl (cause, is, why, back, told)) inside up = record { was_open = back.was_open up; now = (back.undone up).0; committed = (back.undone up).1 }
 commit_failed a b e (inr (is, outside, same)) inside up = absurd (let e : true ≡ false = sym inside ∙ outside in cc)
+
+-- a premise within the outcome
+pub on_ok_if : {T E : Type 0} (P Q : Type 0) (r : Result T E) → (P → OnOk r Q) → OnOk r (P → Q)
+on_ok_if P Q (Ok value) f = f
+on_ok_if P Q (Err e) f = tt
+
+pub on_err_if : {T E : Type 0} (P U Q : Type 0) (r : Result T E) → (P → U → OnErr r Q) → OnErr r (P → U → Q)
+on_err_if P U Q (Ok value) f = tt
+on_err_if P U Q (Err e) f = f
+
+pub if_ok_held : {T E H : Type 0} (P : Type 0) (Q : H → T → Type 0) (r : Result T E) (h : H) → (P → IfOk r (Q h)) → IfOk r (λ value. P → (old : H) × Q old value)
+if_ok_held P Q (Ok value) h f = λ p. (h, f p)
+if_ok_held P Q (Err e) h f = tt

@@ -1,4 +1,5 @@
 pub mod Counts
 pub mod StoredRows
 pub mod Statements
+pub mod Readings
 pub mod Standing

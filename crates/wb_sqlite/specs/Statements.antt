@@ -1,10 +1,10 @@
 -- What a batch of changes is in the database: its statements in turn, in one transaction.
-use Rattle.std.specs.Prelude.{◌≡◌, ℕ, pos, List, [], ◌∷◌, ◌++◌, Ok, codes, ◌==◌, if◌then◌else◌, true}
+use Rattle.std.specs.Prelude.{◌≡◌, ℕ, pos, List, [], ◌∷◌, ◌++◌, Option, Some, None, Ok, IsTrue, codes, ◌==◌, if◌then◌else◌, true, ⊤}
 use Rattle.sqlite_value.specs.declared.value.Value.TheVariants.{Int, Text}
 use Rattle.sqlite_value.specs.Order.{Row as SqlRow}
 use Rattle.sqlite_trees.specs.declared.store.Store.{Ghosts}
 use Rattle.sqlite.specs.Held.{Held, state}
-use Rattle.sqlite.specs.State.{ExecutesInside}
+use Rattle.sqlite.specs.State.{ExecutesInside, HasCleanDisk}
 use Rattle.wb_base.specs.declared.rows.Row.{Row}
 use Rattle.wb_base.specs.declared.rows.Change.{Change}
 use Rattle.wb_base.specs.declared.rows.Change.TheVariants.{Put, DropReport}
@@ -70,3 +70,14 @@ pub record CommitsAll {S : Type 0} (g : Ghosts S) (changes : List Change) (old n
 pub record IsAsCommitted {S : Type 0} (g : Ghosts S) (old new : Held S) : Type 0 where
   pub now : (state g new).now ≡ (state g old).committed
   pub committed : (state g new).committed ≡ (state g old).committed
+
+-- over a connection that is open only once its file is: it was open and is, and all changes are committed, while the disk is clean
+abbrev pub CommitsOpen : {S : Type 0} → Ghosts S → List Change → Option (Held S) → Option (Held S) → Type 0
+CommitsOpen g changes (Some old) (Some new) = HasCleanDisk (state g new) → CommitsAll g changes old new
+CommitsOpen g changes _ _ = ⊥
+
+-- it is open only if it was, and is then as it was last committed, while the disk is clean and the database is open
+abbrev pub KeepsOpen : {S : Type 0} → Ghosts S → Option (Held S) → Option (Held S) → Type 0
+KeepsOpen g (Some old) (Some new) = HasCleanDisk (state g new) → IsTrue (state g new).is_open → IsAsCommitted g old new
+KeepsOpen g None None = ⊤
+KeepsOpen g _ _ = ⊥

@@ -1,22 +1,20 @@
 //! What a keeper asks of a database.
-ghost use Rattle.std.specs.Prelude.{◌≡◌, false, IsTrue, IfOk, OnOk, OnErr};
+ghost use Rattle.std.specs.Prelude.{◌≡◌, [], false, IsTrue, IfOk, OnOk, OnErr};
 ghost use Rattle.sqlite.specs.Held.{state};
 ghost use Rattle.sqlite.specs.State.{HasCleanDisk};
 ghost use Rattle.wb_list.specs.Keyed.{IsAscending};
 ghost use Rattle.wb_base.specs.KeptRows.{key_cmp, key_of};
+ghost use Rattle.wb_sqlite.specs.Readings.{LoadsAll, Reads, read_record, read_sealed};
 ghost use Rattle.wb_sqlite.specs.Statements.{CommitsAll, IsAsCommitted};
+ghost use Rattle.wb_sqlite.specs.StoredRows.{IsRecordRow, IsSealedRow};
 
 use crate::refusal::Refusal;
-use crate::statements::{make, make_all};
+use crate::statements::{READ_RECORD, READ_SEALED, expect_all, make, make_all};
 use crate::stored::{add, record_row, sealed_row};
 use sqlite::{Alter, Connection};
 use std::alloc::Global;
 use wb_base::{Change, Row};
 use wb_list::Sorted;
-
-const READ_RECORD: &str = "SELECT kind, tenant, a, b, body FROM record ORDER BY kind, tenant, a, b";
-
-const READ_SEALED: &str = "SELECT tenant, a, body FROM sealed ORDER BY tenant, a";
 
 /// Makes all changes in turn in one transaction, or none.
 pub(crate) fn apply_all<S: Alter>(
@@ -35,13 +33,16 @@ pub(crate) fn apply_all<S: Alter>(
     Ok(())
 }
 
-// Makes the tables that are not there, in a transaction of their own.
+// Makes the tables that are not there, in a transaction of their own, where all statements can be made over them.
 fn make_tables<S: Alter>(conn: &mut Connection<S>) -> Result<(), Refusal>
     requires { conn.old.in_transaction ≡ false }
-    ensures { conn.new.in_transaction ≡ false }
+    ensures idle { conn.new.in_transaction ≡ false }
+    ensures clean { HasCleanDisk (state S.Store conn.new) → HasCleanDisk (state S.Store conn.old) }
+    ensures made { HasCleanDisk (state S.Store conn.new) → OnOk result (CommitsAll S.Store [] conn.old conn.new) }
 {
     let mut tx = conn.transaction();
     make(&mut tx)?;
+    expect_all(&mut tx)?;
     tx.commit()?;
     Ok(())
 }
@@ -53,7 +54,9 @@ fn read_record<S: Alter>(
     rows: &mut Sorted<Row>,
 ) -> Result<(), Refusal>
     requires { conn.old.in_transaction ≡ false }
-    ensures { conn.new.in_transaction ≡ false }
+    ensures idle { conn.new.in_transaction ≡ false }
+    ensures clean { HasCleanDisk (state S.Store conn.new) → HasCleanDisk (state S.Store conn.old) }
+    ensures read { HasCleanDisk (state S.Store conn.new) → OnOk result (Reads S.Store IsRecordRow read_record conn.old conn.new rows.old.items rows.new.items) }
 {
     let mut given = conn.query(READ_RECORD, &[])?;
     for _ in 0..u64::MAX {
@@ -73,7 +76,9 @@ fn read_sealed<S: Alter>(
     rows: &mut Sorted<Row>,
 ) -> Result<(), Refusal>
     requires { conn.old.in_transaction ≡ false }
-    ensures { conn.new.in_transaction ≡ false }
+    ensures idle { conn.new.in_transaction ≡ false }
+    ensures clean { HasCleanDisk (state S.Store conn.new) → HasCleanDisk (state S.Store conn.old) }
+    ensures read { HasCleanDisk (state S.Store conn.new) → OnOk result (Reads S.Store IsSealedRow read_sealed conn.old conn.new rows.old.items rows.new.items) }
 {
     let mut given = conn.query(READ_SEALED, &[])?;
     for _ in 0..u64::MAX {
@@ -94,6 +99,7 @@ pub(crate) fn load_all<S: Alter>(
     requires { conn.old.in_transaction ≡ false }
     ensures idle { conn.new.in_transaction ≡ false }
     ensures ascending { IfOk result (λ rows. IsAscending key_cmp key_of rows.items) }
+    ensures loads { HasCleanDisk (state S.Store conn.new) → IfOk result (λ rows. LoadsAll S.Store conn.old conn.new rows.items) }
 {
     make_tables(conn)?;
     let mut rows = Sorted::new(alloc);

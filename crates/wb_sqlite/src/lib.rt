@@ -2,6 +2,7 @@
 #![tactic(auto)]
 
 mod database;
+mod one_byte;
 mod path_keeper;
 mod refusal;
 mod sql_keeper;

@@ -4,6 +4,7 @@ ghost use Rattle.wb_base.specs.declared.faults.KeepErr.TheVariants.{Memory as No
 ghost use Rattle.wb_sqlite.specs.Counts.{answer_to, count_with};
 
 use sqlite::{Error, ErrorCode};
+use std::io::{self, ErrorKind};
 use wb_base::{KeepErr, Memory};
 
 /// Why the database gave no answer: it wanted memory, it refused, or a stored row is none of a keeper.
@@ -30,6 +31,16 @@ impl From<Error> for Refusal {
         match error {
             Error::SqliteFailure(ErrorCode::OutOfMemory) => Refusal::MEMORY,
             _ => Refusal::FAULT,
+        }
+    }
+}
+
+impl From<io::Error> for Refusal {
+    fn from(error: io::Error) -> Refusal {
+        if error.kind() == ErrorKind::OutOfMemory {
+            Refusal::MEMORY
+        } else {
+            Refusal::FAULT
         }
     }
 }

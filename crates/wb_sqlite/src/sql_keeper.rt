@@ -7,6 +7,7 @@ ghost use Rattle.wb_list.specs.Keyed.{IsAscending};
 ghost use Rattle.wb_base.specs.Outside.{KeeperHasCause};
 ghost use Rattle.wb_base.specs.KeptRows.{key_cmp, key_of, IsGoodChange};
 ghost use Rattle.wb_sqlite.specs.Counts.{count_after};
+ghost use Rattle.wb_sqlite.specs.Readings.{LoadsAll};
 ghost use Rattle.wb_sqlite.specs.Statements.{CommitsAll, IsAsCommitted};
 
 use crate::database::{apply_all, load_all};
@@ -85,6 +86,7 @@ impl<S: Alter + Drop> Keeper for SqlKeeper<S> {
         ensures ascending { IfOk result (λ loaded. IsAscending key_cmp key_of loaded.items) }
         ensures cause { KeeperHasCause self.old.faults self.new.faults result }
         ensures count { self.new.faults ≡ count_after self.old.faults result }
+        ensures loads { HasCleanDisk (state S.Store self.new.conn) → IfOk result (λ loaded. LoadsAll S.Store self.old.conn self.new.conn loaded.items) }
     {
         match load_all(self.alloc, &mut self.conn) {
             Ok(rows) => Ok(rows),

@@ -1,7 +1,7 @@
 //! The statements over the two tables, and what is made of changes with them.
 ghost use Rattle.std.specs.Prelude.{◌≡◌, ◌∷◌, [], IsTrue, OnOk, OnErr};
 ghost use Rattle.sqlite.specs.Held.{state};
-ghost use Rattle.sqlite.specs.State.{HasCleanDisk, Survives, KeepsCommit};
+ghost use Rattle.sqlite.specs.State.{HasCleanDisk, IsUnchanged, Survives, KeepsCommit};
 ghost use Rattle.sqlite.specs.Values.{bound};
 ghost use Rattle.wb_base.specs.declared.rows.Change.TheVariants.{Put};
 ghost use Rattle.wb_sqlite.specs.Statements.{Makes, make_tables, statements_of, all_statements, drop_trail, drop_sealed, put_record, put_sealed};
@@ -26,6 +26,22 @@ const PUT_SEALED: &str =
 const DROP_TRAIL: &str = "DELETE FROM record WHERE kind = 6 AND tenant = ?1 AND a = ?2";
 
 const DROP_SEALED: &str = "DELETE FROM sealed WHERE tenant = ?1 AND a = ?2";
+
+/// The rows of `record`, by ascending key.
+pub(crate) const READ_RECORD: &str =
+    "SELECT kind, tenant, a, b, body FROM record ORDER BY kind, tenant, a, b";
+
+/// The rows of `sealed`, by ascending key.
+pub(crate) const READ_SEALED: &str = "SELECT tenant, a, body FROM sealed ORDER BY tenant, a";
+
+const SIX: [&str; 6] = [
+    PUT_RECORD,
+    PUT_SEALED,
+    DROP_TRAIL,
+    DROP_SEALED,
+    READ_RECORD,
+    READ_SEALED,
+];
 
 /// The kind of sealed answers, which have a table of their own.
 pub(crate) const SEALED: u8 = 7;
@@ -54,6 +70,30 @@ pub(crate) fn make<S: Alter>(tx: &mut Transaction<'_, S>) -> Result<(), Refusal>
 {
     run(tx, MAKE_RECORD, &[])?;
     run(tx, MAKE_SEALED, &[])
+}
+
+// Asks whether a statement can be made over the tables as they stand.
+fn expect<S: Alter>(tx: &mut Transaction<'_, S>, text: &str) -> Result<(), Refusal>
+    ensures same_reference { tx.new.conn.ghost_name ≡ tx.old.conn.ghost_name }
+    ensures same { HasCleanDisk (state S.Store tx.new.conn.now) → OnOk result (IsUnchanged (state S.Store tx.old.conn.now) (state S.Store tx.new.conn.now)) }
+    ensures survives { Survives (state S.Store tx.old.conn.now) (state S.Store tx.new.conn.now) (λ _. ⊥) }
+{
+    tx.prepare(text)?;
+    Ok(())
+}
+
+/// Asks whether the six statements can be made over the tables as they stand. A table that another program made may have
+/// other columns or no key.
+pub(crate) fn expect_all<S: Alter>(tx: &mut Transaction<'_, S>) -> Result<(), Refusal>
+    ensures same_reference { tx.new.conn.ghost_name ≡ tx.old.conn.ghost_name }
+    ensures same { HasCleanDisk (state S.Store tx.new.conn.now) → OnOk result ((state S.Store tx.new.conn.now).now ≡ (state S.Store tx.old.conn.now).now) }
+    ensures inside { HasCleanDisk (state S.Store tx.new.conn.now) → OnOk result (tx.new.conn.now.in_transaction ≡ tx.old.conn.now.in_transaction) }
+    ensures survives { Survives (state S.Store tx.old.conn.now) (state S.Store tx.new.conn.now) (λ _. ⊥) }
+{
+    for text in SIX {
+        expect(tx, text)?;
+    }
+    Ok(())
 }
 
 // Sets the text under a key in `record`.

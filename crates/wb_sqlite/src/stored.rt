@@ -1,8 +1,10 @@
 //! Stored rows as rows of a keeper.
-ghost use Rattle.std.specs.Prelude.{◌≡◌, ◌≤◌, ◌++◌, ◌∷◌, [], IfOk, OnOk};
+ghost use Rattle.std.specs.Prelude.{◌≡◌, ◌≤◌, ◌++◌, ◌∷◌, ◌↔◌, [], true, All, IfOk, OnOk};
+ghost use Rattle.std.specs.declared.cmp.Ordering.TheVariants.{Less};
 ghost use Rattle.sqlite_value.specs.declared.value.Value.TheVariants.{Int, Text as Words};
 ghost use Rattle.sqlite_value.specs.Order.{column};
 ghost use Rattle.std.specs.Prelude.{pos};
+ghost use Rattle.wb_base.specs.KeptRows.{key_cmp};
 ghost use Rattle.wb_sqlite.specs.StoredRows.{IsRecordRow, IsSealedRow};
 
 use crate::refusal::Refusal;
@@ -35,12 +37,12 @@ fn text_at(alloc: Global, row: &Stored, at: usize) -> Result<Text, Refusal>
     }
 }
 
-/// The row of a stored row of `record`, which holds every kind but sealed answers.
+/// The row of a stored row of `record`, which holds the kinds from 1 to 6.
 pub(crate) fn record_row(alloc: Global, row: &Stored) -> Result<Row, Refusal>
     ensures { IfOk result (λ kept. IsRecordRow row.now kept) }
 {
     let kind = number_at(row, 0)?;
-    if kind > 6 {
+    if kind < 1 || 6 < kind {
         return Err(Refusal::FAULT);
     }
     let key = Key {
@@ -71,13 +73,24 @@ pub(crate) fn sealed_row(alloc: Global, row: &Stored) -> Result<Row, Refusal>
     })
 }
 
+// Whether a row's key is above all others.
+fn is_above(rows: &Sorted<Row>, row: &Row) -> bool
+    ensures { result ≡ true ↔ All (λ other. key_cmp other.key row.now.key ≡ Less) rows.now.items }
+{
+    match rows.as_slice().last() {
+        Some(last) => last.compare_to(row) == Ordering::Less,
+        None => true,
+    }
+}
+
 /// Puts a row behind all others, where its key is above theirs.
-pub(crate) fn add(rows: &mut Sorted<Row>, row: Row) -> Result<(), Refusal> {
-    let len = rows.len();
-    if 0 < len && rows.get(len - 1).compare_to(&row) != Ordering::Less {
+pub(crate) fn add(rows: &mut Sorted<Row>, row: Row) -> Result<(), Refusal>
+    ensures { OnOk result (rows.new.items ≡ rows.old.items ++ row ∷ []) }
+{
+    if !is_above(rows, &row) {
         return Err(Refusal::FAULT);
     }
     rows.reserve(1)?;
-    rows.set(row);
+    rows.push(row);
     Ok(())
 }

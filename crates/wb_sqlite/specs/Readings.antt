@@ -1,0 +1,47 @@
+-- What a load is in the database: the tables are made where they were not there, and each is read whole, in the order of its key.
+use Rattle.std.specs.Prelude.{◌≡◌, ℕ, List, [], ◌∷◌, ◌++◌, Option, Some, None, codes}
+use Rattle.sqlite_value.specs.Order.{Row as SqlRow}
+use Rattle.sqlite_trees.specs.declared.store.Store.{Ghosts}
+use Rattle.sqlite.specs.Held.{Held, state}
+use Rattle.sqlite.specs.State.{HasCleanDisk, Shown}
+use Rattle.wb_base.specs.declared.rows.Row.{Row}
+use Rattle.wb_sqlite.specs.Statements.{CommitsAll}
+use Rattle.wb_sqlite.specs.StoredRows.{IsRecordRow, IsSealedRow}
+
+abbrev pub read_record : List ℕ
+read_record = codes "SELECT kind, tenant, a, b, body FROM record ORDER BY kind, tenant, a, b"
+
+abbrev pub read_sealed : List ℕ
+read_sealed = codes "SELECT tenant, a, body FROM sealed ORDER BY tenant, a"
+
+-- each stored row, in turn, is the kept row at its place, and there are as many
+abbrev pub AreInTurn : (SqlRow → Row → Type 0) → List SqlRow → List Row → Type 0
+AreInTurn IsOf [] [] = Unit {0}
+AreInTurn IsOf (c ∷ cs) (r ∷ rs) = IsOf c r × AreInTurn IsOf cs rs
+AreInTurn IsOf _ _ = ⊥
+
+-- all rows that a query shows, each as the kept row that it is, stand behind those that were read before
+pub record Reads {S : Type 0} (g : Ghosts S) (IsOf : SqlRow → Row → Type 0) (text : List ℕ) (old new : Held S) (before after : List Row) : Type 0 where
+  pub shown : List SqlRow
+  pub added : List Row
+  pub from : Held S
+  pub to : Held S
+  pub answer : Shown text [] (state g from) (state g to) shown
+  pub over : (state g from).now ≡ (state g old).now
+  pub left : (state g new).now ≡ (state g to).now
+  pub each : AreInTurn IsOf shown added
+  pub behind : after ≡ before ++ added
+
+-- the tables were made where they were not there, and committed; then the rows are all of `record` and after them all of `sealed`
+pub record LoadsAll {S : Type 0} (g : Ghosts S) (old new : Held S) (rows : List Row) : Type 0 where
+  pub made : Held S
+  pub tables : CommitsAll g [] old made
+  pub records : List Row
+  pub mid : Held S
+  pub first : Reads g IsRecordRow read_record made mid [] records
+  pub then : Reads g IsSealedRow read_sealed mid new records rows
+
+-- the same of a file that is open since: it held what was read, while the disk is clean
+abbrev pub LoadsOpen : {S : Type 0} → Ghosts S → Option (Held S) → List Row → Type 0
+LoadsOpen {S} g (Some now) rows = HasCleanDisk (state g now) → (old : Held S) × LoadsAll g old now rows
+LoadsOpen g None rows = ⊥
