@@ -2,10 +2,13 @@ pub mod AlikeTurns
 pub mod ChangeRows
 pub mod Changes
 pub mod KeptChanges
+pub mod KeptOpenings
+pub mod KeptReports
 pub mod KeptTurns
-pub mod OpenedParts
+pub mod LaterMoments
+pub mod NewTenants
 pub mod OpenedPlaces
-pub mod OpenedRows
+pub mod OwnRows
 pub mod OwnSessions
 pub mod PastTurns
 pub mod Rooms

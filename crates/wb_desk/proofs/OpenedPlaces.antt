@@ -1,4 +1,4 @@
--- The tenants of a host that is opened over a setup.
+-- The tenants of a host that is opened over what is held.
 use Rattle.std.proofs.Common.{◌≡◌, ℕ, zero, suc, ◌<◌, ◌≤◌, Bool, true, false, cond, List, [], ◌∷◌, length, get_or, is_some, Some, refl, ap, arith, ℤ, eq-eqb}
 use Rattle.std.specs.Prelude.{◌==◌, ◌&&◌, nat_lt, nat_le, int_le, neg_ℤ, pos, ◌≤ℤ◌, map, filter, find, unwrap_or}
 use Rattle.std.specs.List.{list_all}
@@ -13,32 +13,14 @@ use Rattle.wb_model.specs.declared.registry.Lists.{Lists}
 use Rattle.wb_model.specs.declared.registry.TenantItem.{TenantItem}
 use Rattle.wb_model.specs.Fits.{is_between, has_bytes}
 use Rattle.wb_model.specs.Legal.{ascends, ascends_from}
-use Rattle.wb_model.specs.Opened.{AreOpened}
-use Rattle.wb_model.specs.Openings.{no_settings, registry_of, empty_tables, opening_of}
-use Rattle.wb_model.specs.Past.{Opening}
-use Rattle.wb_model.specs.Pasts.{held_tenancy, standing_hosts}
-use Rattle.wb_model.specs.SetUps.{is_offset, is_tenant_item, is_form_item, tenant_ids, AreSetUp}
-use Rattle.wb_model.specs.Tenants.{Tenancy}
-use Rattle.wb_tables.specs.Kept.{Place, tenancy_of, sessions_at}
+use Rattle.wb_model.specs.Openings.{no_settings}
+use Rattle.wb_model.specs.SetUps.{is_offset, is_tenant_item, is_form_item, AreSetUp}
+use Rattle.wb_rows.specs.Held.{Held}
+use Rattle.wb_tables.specs.Kept.{Place, sessions_at}
 use Rattle.wb_tables.specs.Places.{AreGoodForms}
-use Rattle.wb_tables.specs.Standing.{hosts_of}
 use Rattle.wb_tenants.specs.Sets.{HasTenant, is_tenant}
-use Rattle.wb_desk.specs.Desks.{IsDesk}
-use Rattle.wb_desk.specs.Openings.{opened_place, opened_places}
+use Rattle.wb_desk.specs.Openings.{held_place, held_places}
 use Rattle.wb_desk.specs.SetUp.{AreSetUpRight}
-
--- ---- what they stand for
-
--- the hosts of the opening
-pub opened_hosts : (lists : Lists) (ids : ascends (tenant_ids lists) ≡ true) (sound : (t : ℕ) → AreOpened 0 (empty_tables (registry_of lists t)))
-    → hosts_of (record { turns = 0; time = 0; tenants = opened_places lists; sealed = [] }) ≡ standing_hosts (Opening (opening_of lists ids sound))
-opened_hosts lists ids sound = ap (λ (xs : List Tenancy). record { turns = 0; now = 0; list = xs }) (by (tenant_ids lists))
-  where
-    by : (ts : List ℕ) → map (tenancy_of []) (map (opened_place lists) ts) ≡ map (held_tenancy (Opening (opening_of lists ids sound))) ts
-    by [] = refl
-    by (t ∷ ts) = ap (λ l. tenancy_of [] (opened_place lists t) ∷ l) (by ts)
-
--- ---- what holds of them
 
 at_most : (a b : ℕ) → nat_le a b ≡ true → a ≤ b
 at_most a b e = grind (arith, nat_tests, e)
@@ -90,31 +72,31 @@ good_part p (x ∷ xs) all = by (p x) (and_parts (is_form_item x) (list_all is_f
     by true parts rest = ((and_parts (is_between 1 16 x.id && is_between 1 99 x.version) (is_good x.form) parts.0).1, rest parts.1)
     by false parts rest = rest parts.1
 
-right_from : (lists : Lists) → AreSetUp lists → (k : ℕ) (xs : List TenantItem) → list_all is_tenant_item xs ≡ true → ascends_from k (map (λ x. x.tenant) xs) ≡ true
-    → AreSetUpRight k (map (opened_place lists) (map (λ x. x.tenant) xs))
-right_from lists up k [] all rise = tt
-right_from lists up k (x ∷ xs) all rise =
+right_from : (h : Held) → AreSetUp h.lists → (k : ℕ) (xs : List TenantItem) → list_all is_tenant_item xs ≡ true → ascends_from k (map (λ x. x.tenant) xs) ≡ true
+    → AreSetUpRight k (map (held_place h) (map (λ x. x.tenant) xs))
+right_from h up k [] all rise = tt
+right_from h up k (x ∷ xs) all rise =
     let parts = and_parts (is_tenant_item x) (list_all is_tenant_item xs) all in
     let order = and_parts (nat_lt k x.tenant) (ascends_from x.tenant (map (λ y. y.tenant) xs)) rise in (
       (
         below k x.tenant order.0,
         record {
           id = (id_in x parts.0).1;
-          offset = found_offset x.tenant lists.tenants up.tenants;
-          forms = good_part (λ y. y.tenant == x.tenant) lists.forms up.forms;
+          offset = found_offset x.tenant h.lists.tenants up.tenants;
+          forms = good_part (λ y. y.tenant == x.tenant) h.lists.forms up.forms;
         },
       ),
-      right_from lists up x.tenant xs parts.1 order.1,
+      right_from h up x.tenant xs parts.1 order.1,
     )
 
-pub opened_right : (lists : Lists) → AreSetUp lists → AreSetUpRight 0 (opened_places lists)
-opened_right lists up = right_from lists up 0 lists.tenants up.tenants (ids_from lists.tenants up.tenants up.order)
+pub held_right : (h : Held) → AreSetUp h.lists → AreSetUpRight 0 (held_places h)
+held_right h up = right_from h up 0 h.lists.tenants up.tenants (ids_from h.lists.tenants up.tenants up.order)
 
-pub no_sessions : (lists : Lists) (ts : List ℕ) → sessions_at (map (opened_place lists) ts) ≡ 0
-no_sessions lists [] = refl
-no_sessions lists (t ∷ ts) =
-    let rest = no_sessions lists ts in
-    let more = sum_by-cons (λ (x : Place). length x.plain.sessions) (opened_place lists t) (map (opened_place lists) ts) in
+pub no_sessions : (h : Held) (ts : List ℕ) → sessions_at (map (held_place h) ts) ≡ 0
+no_sessions h [] = refl
+no_sessions h (t ∷ ts) =
+    let rest = no_sessions h ts in
+    let more = sum_by-cons (λ (x : Place). length x.plain.sessions) (held_place h t) (map (held_place h) ts) in
     omega (arith, rest, more)
 
 -- a tenant at a place is there
@@ -131,14 +113,3 @@ found_at (suc i) x (y ∷ ys) within is = by (y.tenant == x.tenant) (found_at i 
 
 pub there_at : (lists : Lists) (i : ℕ) (x : TenantItem) → i < length lists.tenants → get_or lists.tenants i x ≡ x → HasTenant lists x.tenant
 there_at lists i x within is = found_at i x lists.tenants within is
-
--- ---- the desk
-
-pub opened_desk : (lists : Lists) → AreSetUp lists → ascends (tenant_ids lists) ≡ true → ((t : ℕ) → AreOpened 0 (empty_tables (registry_of lists t)))
-    → IsDesk (record { turns = 0; time = 0; tenants = opened_places lists; sealed = [] })
-opened_desk lists up ids sound = record {
-  past = record { past = Opening (opening_of lists ids sound); verdicts = λ t. tt; stands = opened_hosts lists ids sound };
-  set_up = opened_right lists up;
-  most = omega arith;
-  sessions = (let none = no_sessions lists (tenant_ids lists) in omega (arith, none));
-}

@@ -11,6 +11,8 @@ mod office_turns;
 #[cfg(test)]
 mod registries;
 #[cfg(test)]
+mod reopenings;
+#[cfg(test)]
 mod report_turns;
 #[cfg(test)]
 mod setup_frames;

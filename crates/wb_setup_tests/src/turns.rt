@@ -51,7 +51,7 @@ impl Host {
         let Ok(setup) = Setup::read(alloc, setup.as_bytes()) else {
             return Err("a setup".into());
         };
-        match Desk::open(alloc, &mut keeper, setup) {
+        match Desk::open(alloc, &mut keeper, &setup) {
             Ok(desk) => Ok(Host {
                 alloc,
                 routes,
@@ -59,6 +59,29 @@ impl Host {
                 keeper,
             }),
             Err(_) => Err("a host".into()),
+        }
+    }
+
+    /// The host that is opened over a setup and the rows that this one leaves.
+    pub fn reopened(self, setup: &str) -> Result<Host, Fail> {
+        let Host {
+            alloc,
+            routes,
+            desk: _,
+            keeper,
+        } = self;
+        let mut keeper = keeper;
+        let Ok(setup) = Setup::read(alloc, setup.as_bytes()) else {
+            return Err("a setup".into());
+        };
+        match Desk::open(alloc, &mut keeper, &setup) {
+            Ok(desk) => Ok(Host {
+                alloc,
+                routes,
+                desk,
+                keeper,
+            }),
+            Err(_) => Err("a host again".into()),
         }
     }
 

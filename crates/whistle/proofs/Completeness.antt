@@ -8,6 +8,9 @@ use Rattle.wb_model.specs.FrameTexts.{texts, frame_text, IsFrame, IsBroken}
 use Rattle.whistle.specs.declared.status.Status.{Status}
 use Rattle.whistle.specs.declared.status.Status.TheVariants.{Done, Usage, ReadFault, WriteFault, NoMemory, BadFrame, Setup, OpenFault, KeptRows, TooLong}
 use Rattle.wb_model.specs.declared.registry.Lists.{Lists}
+use Rattle.wb_rows.specs.declared.faults.RowFault.{RowFault}
+use Rattle.wb_rows.specs.Held.{Held}
+use Rattle.wb_rows.specs.Judged.{judged}
 use Rattle.wb_tenants.specs.declared.setup.SetupFault.{SetupFault}
 use Rattle.wb_tenants.specs.Setups.{setup as lists_in}
 use Rattle.wb_wire.specs.SetupReading.{TookSetup}
@@ -40,8 +43,12 @@ module _ (one_way : (f g : ScriptFrame) (x y : List ℕ) → IsFrame f → IsFra
     not_refused : (setup other : List ℕ) (lists : Lists) (fault : SetupFault) → setup ≡ other → lists_in setup ≡ Ok lists → lists_in other ≡ Err fault → ⊥
     not_refused setup other lists fault same reads refused = grind (arith, same, reads, refused)
 
+    -- nor are the rows
+    rows_not_refused : (rows loaded : List Row) (h : Held) (fault : RowFault) → rows ≡ loaded → judged rows ≡ Ok h → judged loaded ≡ Err fault → ⊥
+    rows_not_refused rows loaded h fault same reads refused = grind (arith, same, reads, refused)
+
     module _ (left' held held' : Option (List ℕ)) (source source' sink sink' keeper keeper' : ℕ) (honest : Type 0) (holds holds' : List Row → Type 0) (setup : List ℕ) (lists : Lists) (frames : List ScriptFrame) (whole : IsSetup setup) (reads : lists_in setup ≡ Ok lists)
-        (all : AllByRecursion IsFrame frames) (short : length (script_text setup frames) < 2 ^ 40) (h : honest) (empty : holds []) (read : Rose source source' → ⊥) (wrote : Rose sink sink' → ⊥) (kept : Rose keeper keeper' → ⊥)
+        (all : AllByRecursion IsFrame frames) (short : length (script_text setup frames) < 2 ^ 40) (h : honest) (kept_rows : List Row) (holding : holds kept_rows) (held_rows : Held) (reads_rows : judged kept_rows ≡ Ok held_rows) (read : Rose source source' → ⊥) (wrote : Rose sink sink' → ⊥) (kept : Rose keeper keeper' → ⊥)
       where
         abbrev pub Comes : Status → Type 0
         Comes status = (status ≡ Done) ⊎ (status ≡ NoMemory)
@@ -61,7 +68,7 @@ module _ (one_way : (f g : ScriptFrame) (x y : List ℕ) → IsFrame f → IsFra
         not_begun (BadFrame n) ne ran = absurd (ran.none.cause.1 setup (texts frames) whole refl)
         not_begun (Setup fault) ne ran = let refused = ran.none.cause in absurd (not_refused setup refused.0 lists fault (same_setup left' setup refused.0 frames whole refused.1) reads refused.2.1)
         not_begun OpenFault ne ran = absurd (kept ran.none.cause.2.0)
-        not_begun KeptRows ne ran = absurd (ran.none.cause.2.0 h [] empty refl)
+        not_begun (KeptRows fault) ne ran = let refused = ran.none.cause.2.0 in absurd (rows_not_refused kept_rows refused.0 held_rows fault (refused.1 h kept_rows holding) reads_rows refused.2)
         not_begun TooLong ne ran =
             let part = ran.none.cause.0 in
             let text = begins_with (Some (script_text setup frames)) left' (part.0 ++ part.1 ∷ []) part.2 in
@@ -78,7 +85,7 @@ module _ (one_way : (f g : ScriptFrame) (x y : List ℕ) → IsFrame f → IsFra
             absurd (parted frames plays.0 plays.5.0 all plays.2.played.good (after_setup setup ran.setup frames plays.0 plays.5.0 whole ran.whole plays.5.1) plays.5.2)
         gone_on (Setup fault) ran = absurd ran.plays
         gone_on OpenFault ran = absurd ran.plays
-        gone_on KeptRows ran = absurd ran.plays
+        gone_on (KeptRows fault) ran = absurd ran.plays
         gone_on TooLong ran =
             let plays = ran.plays in
             let text = begins_with (Some (script_text setup frames)) left' (script_text ran.setup plays.0 ++ plays.3.0 ++ plays.3.1 ∷ []) plays.3.2 in

@@ -1,9 +1,9 @@
--- The laws of scripts, said of what a run played from the past that its setup opened.
+-- The laws of scripts, said of what a run played from the past that it opened.
 use Rattle.std.proofs.Common.{◌≡◌, ℕ, true, List, Some, subst, sym}
 use Rattle.std.specs.Prelude.{map}
+use Rattle.wb_base.specs.declared.rows.Row.{Row}
 use Rattle.wb_model.specs.declared.wire.ScriptFrame.{ScriptFrame}
 use Rattle.wb_model.specs.Absence.{replies, past_with, without_place, AreApart, BeginsAt, DrawOthersAfter, is_purged_after, replies_after}
-use Rattle.wb_model.specs.Openings.{opening_of}
 use Rattle.wb_model.specs.Past.{Past, Opening}
 use Rattle.wb_model.specs.Pasts.{AllOpened, standing_hosts}
 use Rattle.wb_model.specs.Playing.{ArePlacesOf, AreLossesTold}
@@ -24,9 +24,9 @@ module _ (one_reading : (bytes : List ℕ) (a b : Reading) → Reads bytes a →
     (by_hosts : (i t r : ℕ) (past : Past AllOpened) (places : List Place) → AreApart t past → BeginsAt i t r past places → DrawOthersAfter i t r past places → is_purged_after i t r past places ≡ true
     → standing_hosts (past_with past (without_place i t places)) ≡ standing_hosts (past_after past places))
   where
-    pub laws_of : (setup : List ℕ) (start : Past AllOpened) → IsOpenedBy setup start → Laws setup start
-    laws_of setup start opened = record {
+    pub laws_of : (loaded : List Row) (setup : List ℕ) (start : Past AllOpened) → IsOpenedBy loaded setup start → Laws loaded setup start
+    laws_of loaded setup start opened = record {
       losses = told start;
       identities = keeps one_reading alike start;
-      absence = forgets one_reading by_replies by_hosts start (λ t. subst (AreApart t) (sym opened.opens) (opening t (opening_of opened.lists opened.ids opened.sound)));
+      absence = forgets one_reading by_replies by_hosts start (λ t. subst (AreApart t) (sym opened.opens) (opening t opened.opening));
     }

@@ -1,8 +1,11 @@
 pub mod AnswerLemmas
 pub mod SinkLemmas
+pub mod GeneratedLemmas
 pub mod SubmissionLemmas
 pub mod PlayLemmas
 pub mod Completeness
 pub mod Identities
 pub mod Forgetting
 pub mod Laws
+pub mod CommandLineLemmas
+pub mod OpeningLemmas

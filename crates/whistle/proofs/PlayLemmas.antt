@@ -100,8 +100,8 @@ some_bytes f = omega (arith, length-append (line_of f) (10 ∷ (f.bytes ++ 10 �
 pub script_more : (setup : List ℕ) (fs : List ScriptFrame) (f : ScriptFrame) → script_text setup (more fs f) ≡ script_text setup fs ++ frame_text f
 script_more setup fs f = ap (λ l. setup_text setup ++ l) (texts_more fs f) ∙ sym (append_assoc (setup_text setup) (texts fs) (frame_text f))
 
--- of one setup, and the past that it opens
-module _ (setup : List ℕ) (start : Past AllOpened) where
+-- of loaded rows and a setup, and the past that they open
+module _ (loaded : List Row) (setup : List ℕ) (start : Past AllOpened) where
   -- the laws of scripts, said of what is played from there
   pub record Laws : Type 0 where
     pub losses : (frames : List ScriptFrame) (places : List Place) → ArePlacesOf frames places → ArePossible start places → AreLossesTold start places
@@ -118,7 +118,7 @@ module _ (setup : List ℕ) (start : Past AllOpened) where
         pub taken : Consumes left left' (script_text setup frames)
         pub told : Appends held held' (output (script_replies start places))
         pub counted : RoseBy (keeper_losses places) keeper keeper'
-        pub kept : honest → (before : List Row) → holds before → (before ≡ []) × holds' (rows (past_after start places))
+        pub kept : honest → (before : List Row) → holds before → (before ≡ loaded) × holds' (rows (past_after start places))
         pub stands : StandsFor hosts (past_after start places)
         pub number : reader.given ≡ length frames
         pub size : reader.taken ≡ length (script_text setup frames)
@@ -129,7 +129,7 @@ module _ (setup : List ℕ) (start : Past AllOpened) where
         pub absence : ForgetsReports start frames places
 
     -- before the first turn
-    pub at_start : Laws → (left' : Option (List ℕ)) (keeper' : ℕ) (honest : Type 0) (holds' : List Row → Type 0) (hosts : Hosts) (reader : Progress) → Consumes left left' (setup_text setup) → Opens keeper keeper' honest holds holds' setup start hosts
+    pub at_start : Laws → (left' : Option (List ℕ)) (keeper' : ℕ) (honest : Type 0) (holds' : List Row → Type 0) (hosts : Hosts) (reader : Progress) → Consumes left left' (setup_text setup) → Opens keeper keeper' honest holds holds' loaded setup start hosts
         → reader ≡ after_setup unread setup → Standing left' held keeper' honest holds' hosts reader [] []
     at_start laws left' keeper' honest holds' hosts reader taken opens is = record {
       good = tt;
@@ -177,7 +177,7 @@ module _ (setup : List ℕ) (start : Past AllOpened) where
     pub stuck : Laws → (left' held' : Option (List ℕ)) (keeper' : ℕ) (honest : Type 0) (holds' : List Row → Type 0) (hosts : Hosts) (reader : Progress) (frames : List ScriptFrame) (places : List Place) → Standing left' held' keeper' honest holds' hosts reader frames places
         → (left'' held'' : Option (List ℕ)) (keeper'' : ℕ) (honest' : Type 0) (holds'' : List Row → Type 0) → (honest' → honest) → (after : Hosts) (frame : ScriptFrame) (answer : Answer) (place : Place) → IsFrame frame → Consumes left' left'' (frame_text frame)
         → IsAnswer honest' holds' holds'' (past_after start places) frame answer after keeper' keeper'' place → AppendsFront held' held'' (written (reply_of answer)) → (source source' sink sink' : ℕ)
-        → Played left left'' held held'' source source' sink sink' keeper keeper'' honest' holds holds'' setup start (more frames frame) (more places place) × Consumes left left'' (script_text setup (more frames frame)) × BrokeOff left left'' held held'' source source' sink sink' keeper keeper'' honest' holds holds'' setup start (more places place)
+        → Played left left'' held held'' source source' sink sink' keeper keeper'' honest' holds holds'' loaded setup start (more frames frame) (more places place) × Consumes left left'' (script_text setup (more frames frame)) × BrokeOff left left'' held held'' source source' sink sink' keeper keeper'' honest' holds holds'' loaded setup start (more places place)
     stuck laws left' held' keeper' honest holds' hosts reader frames places so_far left'' held'' keeper'' honest' holds'' back after frame answer place is_frame taken is told source source' sink sink' =
         let consumed : Consumes left left'' (script_text setup (more frames frame)) = subst (Consumes left left'') (sym (script_more setup frames frame)) (Consumes-trans left left' left'' _ _ so_far.taken taken) in (
           record {
@@ -198,18 +198,19 @@ module _ (setup : List ℕ) (start : Past AllOpened) where
 
     -- what is so far was played and written
     pub wrote : (left' held' : Option (List ℕ)) (keeper' : ℕ) (honest : Type 0) (holds' : List Row → Type 0) (hosts : Hosts) (reader : Progress) (frames : List ScriptFrame) (places : List Place) → Standing left' held' keeper' honest holds' hosts reader frames places
-        → (left'' : Option (List ℕ)) (part : List ℕ) → Consumes left' left'' part → (source source' sink sink' : ℕ) → Wrote left left'' held held' source source' sink sink' keeper keeper' honest holds holds' setup start frames places
+        → (left'' : Option (List ℕ)) (part : List ℕ) → Consumes left' left'' part → (source source' sink sink' : ℕ) → Wrote left left'' held held' source source' sink sink' keeper keeper' honest holds holds' loaded setup start frames places
     wrote left' held' keeper' honest holds' hosts reader frames places so_far left'' part taken source source' sink sink' = record {
       played = record { good = so_far.good; placed = so_far.placed; possible = so_far.possible; begins = begins_with left left' _ so_far.taken; counted = so_far.counted; kept = so_far.kept; losses = so_far.losses; submissions = so_far.submissions; identities = so_far.identities; absence = so_far.absence };
       written = so_far.told;
     }
 
--- how it stands in a run: the setup, the past that it opened, and the frames and places so far
+-- how it stands in a run: the rows that were loaded, the setup, the past that they opened, and the frames and places so far
 pub record InRun (left held : Option (List ℕ)) (keeper : ℕ) (holds : List Row → Type 0) (left' held' : Option (List ℕ)) (keeper' : ℕ) (honest : Type 0) (holds' : List Row → Type 0) (hosts : Hosts) (reader : Progress) : Type 0 where
+  pub loaded : List Row
   pub setup : List ℕ
   pub start : Past AllOpened
   pub whole : IsSetup setup
-  pub opened : IsOpenedBy setup start
+  pub opened : IsOpenedBy loaded setup start
   pub frames : List ScriptFrame
   pub places : List Place
-  pub so_far : Standing setup start left held keeper holds left' held' keeper' honest holds' hosts reader frames places
+  pub so_far : Standing loaded setup start left held keeper holds left' held' keeper' honest holds' hosts reader frames places

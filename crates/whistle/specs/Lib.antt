@@ -4,3 +4,6 @@ pub mod Headline
 pub mod Starts
 pub mod Runs
 pub mod Exits
+pub mod CommandLine
+pub mod Generated
+pub mod Asked

@@ -11,6 +11,9 @@ use Rattle.wb_model.specs.Pasts.{AllOpened}
 use Rattle.wb_model.specs.Playing.{ArePlacesOf, written, output, keeper_losses, RoseBy, AreLossesTold}
 use Rattle.wb_model.specs.Scripts.{Place, ArePossible, play, script_replies, past_after}
 use Rattle.wb_model.specs.Rows.{rows}
+use Rattle.wb_base.specs.declared.rows.Key.{Key}
+use Rattle.wb_rows.specs.declared.faults.RowFault.{RowFault}
+use Rattle.wb_rows.specs.declared.faults.RowFault.TheVariants.{BadRow, BadSet, Memory as RowsMemory}
 use Rattle.wb_tenants.specs.declared.setup.SetupFault.{SetupFault}
 use Rattle.wb_tenants.specs.declared.setup.SetupFault.TheVariants.{Text, Rule, Memory as SetupMemory}
 use Rattle.wb_wire.specs.SetupText.{setup_text, IsSetup}
@@ -27,8 +30,8 @@ script_text setup frames = setup_text setup ++ texts frames
 -- what the source had left and has left now, what the sink held before and holds now, the counts of both and of the keeper before and now, and
 -- the rows that the keeper holds before and now, where it is honest
 module _ (left left' held held' : Option (List ℕ)) (source source' sink sink' keeper keeper' : ℕ) (honest : Type 0) (holds holds' : List Row → Type 0) where
-  -- of a host that was opened with this setup, and stands for this past before its first turn
-  module _ (setup : List ℕ) (start : Past AllOpened) where
+  -- of a host that was opened over these loaded rows with this setup, and stands for this past before its first turn
+  module _ (loaded : List Row) (setup : List ℕ) (start : Past AllOpened) where
     -- the input begins with the setup and these frames, and the host played them as these places
     pub record Played (frames : List ScriptFrame) (places : List Place) : Type 0 where
       pub good : AllByRecursion IsFrame frames
@@ -36,8 +39,8 @@ module _ (left left' held held' : Option (List ℕ)) (source source' sink sink' 
       pub possible : ArePossible start places
       pub begins : IfSome left (λ text. (rest : List ℕ) × (text ≡ script_text setup frames ++ rest))
       pub counted : RoseBy (keeper_losses places) keeper keeper'
-      -- the keeper held nothing, and holds the rows of the past after them
-      pub kept : honest → (before : List Row) → holds before → (before ≡ []) × holds' (rows (past_after start places))
+      -- the keeper held the rows that were loaded, and holds those of the past after the frames
+      pub kept : honest → (before : List Row) → holds before → (before ≡ loaded) × holds' (rows (past_after start places))
       -- a turn was lost or a request unread exactly where the reply is 503 or 507
       pub losses : AreLossesTold start places
       -- and each good submission among them was answered as its sender expects
@@ -80,7 +83,7 @@ module _ (left left' held held' : Option (List ℕ)) (source source' sink sink' 
         × IfSome left (λ text. (rest : List ℕ) × (text ≡ script_text setup frames ++ rest) × IsBroken rest)
     Plays (Setup fault) = ⊥
     Plays OpenFault = ⊥
-    Plays KeptRows = ⊥
+    Plays (KeptRows fault) = ⊥
     Plays TooLong = (frames : List ScriptFrame) × (places : List Place) × Wrote frames places × TookAll frames
 
   -- a run that opened no host: nothing is written, and what is kept is as it was
@@ -88,13 +91,14 @@ module _ (left left' held held' : Option (List ℕ)) (source source' sink sink' 
     pub none : OpensNone keeper keeper' honest holds holds' left left' source source' status
     pub held_as_it_was : Keeps held held'
 
-  -- a run that opened one with a setup, and played frames
+  -- a run that opened one over the rows that the keeper held and a setup, and played frames
   pub record RanOn (status : Status) : Type 0 where
+    pub loaded : List Row
     pub setup : List ℕ
     pub start : Past AllOpened
     pub whole : IsSetup setup
-    pub opened : IsOpenedBy setup start
-    pub plays : Plays setup start status
+    pub opened : IsOpenedBy loaded setup start
+    pub plays : Plays loaded setup start status
 
   -- what a run with this status did
   abbrev pub Ran : Status → Type 0
@@ -107,6 +111,15 @@ refusal_text Text = codes "setup refused: text\n"
 refusal_text (Rule rule) = codes "setup refused: rule " ++ decimal rule ++ codes "\n"
 refusal_text SetupMemory = codes "no memory\n"
 
+-- the rule that kept rows break, 0 for a row that is not good, and the fields of the key at which they do
+abbrev pub broken_text : ℕ → Key → List ℕ
+broken_text rule key = ((codes "kept rows refused: rule " ++ decimal rule) ++ (codes " at " ++ decimal key.kind)) ++ ((codes "/" ++ decimal key.tenant) ++ (codes "/" ++ decimal key.a)) ++ (codes "/" ++ decimal key.b ++ codes "\n")
+
+abbrev pub rows_text : RowFault → List ℕ
+rows_text (BadRow key) = broken_text 0 key
+rows_text (BadSet rule key) = broken_text rule key
+rows_text RowsMemory = codes "no memory\n"
+
 abbrev pub status_text : Status → List ℕ
 status_text Done = []
 status_text Usage = codes "usage: whistle play [--store PATH], make N, tally N, serve --setup PATH --listen ADDRESS --workers N [--store PATH]\n"
@@ -116,7 +129,7 @@ status_text NoMemory = codes "no memory\n"
 status_text (BadFrame n) = codes "bad frame " ++ decimal n ++ codes "\n"
 status_text (Setup fault) = refusal_text fault
 status_text OpenFault = codes "open fault\n"
-status_text KeptRows = codes "kept rows refused\n"
+status_text (KeptRows fault) = rows_text fault
 status_text TooLong = codes "input too long\n"
 
 -- the number that the program ends with
@@ -129,5 +142,5 @@ status_number NoMemory = 5
 status_number (BadFrame n) = 6
 status_number (Setup fault) = 7
 status_number OpenFault = 8
-status_number KeptRows = 9
+status_number (KeptRows fault) = 9
 status_number TooLong = 10

@@ -1,33 +1,34 @@
 -- How a run begins: with a setup that opens a host, or why no host is opened.
-use Rattle.std.specs.Prelude.{ℕ, ◌≡◌, ◌≢◌, ◌≤◌, ◌⊎◌, true, List, [], Option, None, IfSome, Ok, Err}
+use Rattle.std.specs.Prelude.{ℕ, ◌≡◌, ◌≢◌, ◌≤◌, ◌⊎◌, List, Option, None, IfSome, Ok, Err}
 use Rattle.std.specs.Io.KnownBytes.{Keeps}
 use Rattle.wb_base.specs.declared.rows.Row.{Row}
 use Rattle.wb_base.specs.Outside.{Rose}
 use Rattle.wb_model.specs.declared.registry.Lists.{Lists}
-use Rattle.wb_model.specs.Legal.{ascends}
-use Rattle.wb_model.specs.Opened.{AreOpened}
-use Rattle.wb_model.specs.Openings.{registry_of, empty_tables, opening_of}
 use Rattle.wb_model.specs.Past.{Past, Opening}
 use Rattle.wb_model.specs.Pasts.{AllOpened}
 use Rattle.wb_model.specs.Rows.{rows}
-use Rattle.wb_model.specs.SetUps.{tenant_ids}
 use Rattle.wb_model.specs.Tenants.{Hosts}
+use Rattle.wb_rows.specs.Held.{Held}
+use Rattle.wb_rows.specs.Judged.{judged}
 use Rattle.wb_tenants.specs.declared.setup.SetupFault.TheVariants as faults
 use Rattle.wb_tenants.specs.Setups.{setup as lists_in}
 use Rattle.wb_wire.specs.FrameReading.{Progress}
 use Rattle.wb_wire.specs.SetupReading.{TookSetup, TookSetupPart, TookSetupAll, after_setup}
 use Rattle.wb_wire.specs.SetupText.{NoSetup}
+use Rattle.wb_desk.specs.Openings.{AreLoaded, IsOpeningOver}
 use Rattle.wb_desk.specs.Turns.{StandsFor}
 use Rattle.whistle.specs.declared.status.Status.{Status}
 use Rattle.whistle.specs.declared.status.Status.TheVariants.{Done, Usage, ReadFault, WriteFault, NoMemory, BadFrame, Setup, OpenFault, KeptRows, TooLong}
 
--- the past that a setup's bytes open: they are read as lists, with which the host is before its first turn
-pub record IsOpenedBy (setup : List ℕ) (start : Past AllOpened) : Type 0 where
+-- the past that loaded rows and a setup's bytes open: both are read, and the host is before its first turn
+pub record IsOpenedBy (loaded : List Row) (setup : List ℕ) (start : Past AllOpened) : Type 0 where
   pub lists : Lists
   pub reads : lists_in setup ≡ Ok lists
-  pub ids : ascends (tenant_ids lists) ≡ true
-  pub sound : (t : ℕ) → AreOpened 0 (empty_tables (registry_of lists t))
-  pub opens : start ≡ Opening (opening_of lists ids sound)
+  pub held : Held
+  pub kept : judged loaded ≡ Ok held
+  pub opening : AllOpened
+  pub over : IsOpeningOver lists held opening
+  pub opens : start ≡ Opening opening
 
 -- a reader that took nothing
 abbrev pub unread : Progress
@@ -35,18 +36,18 @@ unread = record { given = 0; taken = 0; stopped = None }
 
 -- the keeper's count before and now, and the rows that it holds before and now where it is honest
 module _ (keeper keeper' : ℕ) (honest : Type 0) (holds holds' : List Row → Type 0) where
-  -- the hosts stand for what the setup opens: the keeper held nothing, and holds the rows of the start
-  pub record Opens (setup : List ℕ) (start : Past AllOpened) (hosts : Hosts) : Type 0 where
-    pub opened : IsOpenedBy setup start
+  -- the hosts stand for what the rows and the setup open: the keeper held the rows, and holds those of the start
+  pub record Opens (loaded : List Row) (setup : List ℕ) (start : Past AllOpened) (hosts : Hosts) : Type 0 where
+    pub opened : IsOpenedBy loaded setup start
     pub stands : StandsFor hosts start
-    pub kept : honest → (before : List Row) → holds before → (before ≡ []) × holds' (rows start)
+    pub kept : honest → (before : List Row) → holds before → (before ≡ loaded) × holds' (rows start)
     pub later : keeper ≤ keeper'
 
-  -- the setup opens no host: it is refused, or the keeper failed, or it holds rows already, or there was no memory
+  -- the setup opens no host: it is refused, or the keeper failed, or the rows that it held are refused, or there was no memory
   abbrev pub Refuses : List ℕ → Status → Type 0
   Refuses setup (Setup fault) = (fault ≢ faults.Memory) × (lists_in setup ≡ Err fault) × (keeper' ≡ keeper)
   Refuses setup OpenFault = Rose keeper keeper' × ((lists : Lists) × (lists_in setup ≡ Ok lists))
-  Refuses setup KeptRows = (honest → (before : List Row) → holds before → before ≢ []) × ((lists : Lists) × (lists_in setup ≡ Ok lists)) × (keeper ≤ keeper')
+  Refuses setup (KeptRows fault) = ((loaded : List Row) × AreLoaded honest holds loaded × (judged loaded ≡ Err fault)) × ((lists : Lists) × (lists_in setup ≡ Ok lists)) × (keeper ≤ keeper')
   Refuses setup NoMemory = keeper ≤ keeper'
   Refuses setup Done = ⊥
   Refuses setup Usage = ⊥
@@ -63,11 +64,12 @@ module _ (keeper keeper' : ℕ) (honest : Type 0) (holds holds' : List Row → T
   module _ (left left' : Option (List ℕ)) (source source' : ℕ) where
     -- the input begins with a setup's frame, of which a host was opened
     pub record Begins (reader : Progress) (hosts : Hosts) : Type 0 where
+      pub loaded : List Row
       pub setup : List ℕ
       pub start : Past AllOpened
       pub took : TookSetup left left' setup
       pub goes_on : reader ≡ after_setup unread setup
-      pub opens : Opens setup start hosts
+      pub opens : Opens loaded setup start hosts
 
     -- the input begins with a setup's frame, which opens no host
     abbrev pub IsRefused : Status → Type 0
@@ -83,7 +85,7 @@ module _ (keeper keeper' : ℕ) (honest : Type 0) (holds holds' : List Row → T
     Lacks (BadFrame n) = (n ≡ 0) × IfSome left NoSetup × TookSetupPart 0 left left' × (keeper' ≡ keeper)
     Lacks (Setup fault) = IsRefused (Setup fault)
     Lacks OpenFault = IsRefused OpenFault
-    Lacks KeptRows = IsRefused KeptRows
+    Lacks (KeptRows fault) = IsRefused (KeptRows fault)
     Lacks TooLong = TookSetupAll 0 left left' × (keeper' ≡ keeper)
 
     -- no host was opened, and what is kept is as it was

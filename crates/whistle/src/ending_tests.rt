@@ -6,8 +6,25 @@ use crate::tests::{
 use crate::{Status, exit_line, rows_in_memory, run, run_to_end};
 use std::alloc::Global;
 use std::test::Fail;
-use wb_base::{Keeper, MemKeeper, MemSink, MemSource, Text};
+use wb_base::{Change, Keeper, Key, MemKeeper, MemSink, MemSource, Row as KeptRow, Text};
+use wb_rows::RowFault;
 use wb_tenants::SetupFault;
+
+// The key of the first tenant's numbering.
+const NUMBERING: Key = Key {
+    kind: 2,
+    tenant: 1,
+    a: 0,
+    b: 0,
+};
+
+// A key with a number at its end.
+const BAD_KEY: Key = Key {
+    kind: 7,
+    tenant: 64,
+    a: 4_294_967_295,
+    b: 12,
+};
 
 // The script of one submission, with so many more or fewer bytes said than there are.
 fn misread(alloc: Global, said: &str) -> Result<Vec<u8>, Fail> {
@@ -86,14 +103,37 @@ fn a_setup_that_opens_no_host_ends_the_run(rt: HostRuntime) -> Result<(), Fail> 
     assert!(rt; keeper.rows().is_empty());
     assert!(rt; opened(alloc, setup.as_bytes(), &mut keeper)? == Status::Done);
     assert!(rt; keeper.rows().len() == 9);
-    // What is kept already is left as it is.
-    assert!(rt; opened(alloc, setup.as_bytes(), &mut keeper)? == Status::KeptRows);
+    // A host that is opened on what is kept puts nothing more.
+    assert!(rt; opened(alloc, setup.as_bytes(), &mut keeper)? == Status::Done);
     assert!(rt; keeper.rows().len() == 9 && keeper.faults() == 0);
     for call in [1, 2] {
         let mut failing = keeper_failing_at(alloc, [call].to_vec(alloc)?);
         assert!(rt; opened(alloc, setup.as_bytes(), &mut failing)? == Status::OpenFault);
         assert!(rt; failing.rows().is_empty() && failing.faults() == 1);
     }
+    Ok(())
+}
+
+// A keeper of one row, the numbering of a tenant of which nothing else is kept.
+fn numbering_alone(alloc: Global) -> Result<MemKeeper, Fail> {
+    let mut keeper = rows_in_memory(alloc);
+    let row = KeptRow {
+        key: NUMBERING,
+        text: Text::from_str(alloc, r#"{"at":0,"drawn":0,"last":0}"#)?,
+    };
+    match keeper.apply(&[Change::Put(row)]) {
+        Ok(()) => Ok(keeper),
+        Err(_) => Err("a keeper".into()),
+    }
+}
+
+#[test]
+fn rows_that_break_a_rule_open_no_host(rt: HostRuntime) -> Result<(), Fail> {
+    let alloc = rt.alloc();
+    let mut keeper = numbering_alone(alloc)?;
+    let status = opened(alloc, harbour(alloc)?.as_bytes(), &mut keeper)?;
+    assert!(rt; status == Status::KeptRows(RowFault::BadSet(1, NUMBERING)));
+    assert!(rt; keeper.rows().len() == 1 && keeper.faults() == 0);
     Ok(())
 }
 
@@ -131,7 +171,7 @@ fn the_replies_before_a_fault_stand(rt: HostRuntime) -> Result<(), Fail> {
 #[test]
 fn other_words_are_no_form(rt: HostRuntime) -> Result<(), Fail> {
     let alloc = rt.alloc();
-    for words in [[].as_slice(), &["plays"], &["play", "play"], &["--help"]] {
+    for words in [[].as_slice(), &["plays"], &["play", "play"], &["make", "0"]] {
         let mut texts = Vec::new(alloc);
         for word in words {
             texts.push(Text::from_str(alloc, word)?)?;
@@ -170,7 +210,16 @@ fn each_status_has_its_line(rt: HostRuntime) -> Result<(), Fail> {
             "setup refused: rule 9\n",
         ),
         (Status::OpenFault, 8, "open fault\n"),
-        (Status::KeptRows, 9, "kept rows refused\n"),
+        (
+            Status::KeptRows(RowFault::BadRow(BAD_KEY)),
+            9,
+            "kept rows refused: rule 0 at 7/64/4294967295/12\n",
+        ),
+        (
+            Status::KeptRows(RowFault::BadSet(10, BAD_KEY)),
+            9,
+            "kept rows refused: rule 10 at 7/64/4294967295/12\n",
+        ),
         (Status::TooLong, 10, "input too long\n"),
     ];
     for (status, number, line) in lines {

@@ -1,11 +1,12 @@
 //! How the program ends: the words that it was called with, the number of its status, and its line on standard error.
-ghost use Rattle.std.specs.Prelude.{◌≡◌, ◌≢◌, ◌↔◌, ◌∷◌, [], codes, drop, map, string_bytes, IfOk};
+ghost use Rattle.std.specs.Prelude.{◌≡◌, drop, map, string_bytes, IfOk};
 ghost use Rattle.std.specs.Vec.Iter.{into_iter_items};
 ghost use Rattle.whistle.specs.declared.status.Status.{Status};
 ghost use Rattle.whistle.specs.Exits.{TellsLine};
-ghost use Rattle.whistle.specs.Runs.{Ran, status_number};
+ghost use Rattle.whistle.specs.Asked.{Did};
+ghost use Rattle.whistle.specs.Runs.{status_number};
 
-use crate::playing::run;
+use crate::running::run;
 use crate::status::{Status, exit_line};
 use std::alloc::Global;
 use std::env::Args;
@@ -52,8 +53,7 @@ pub fn run_to_end<S: Source, W: Sink, K: Keeper, E: Sink>(
     errors: &mut E,
 ) -> u8
     ensures { (status : Status) × (result ≡ status_number status)
-        × ((status ≡ Status.Usage) ↔ (words.now ≢ codes "play" ∷ []))
-        × Ran (S.left source.old) (S.left source.new) (W.held sink.old) (W.held sink.new) (S.count source.old) (S.count source.new) (W.count sink.old) (W.count sink.new) (K.count keeper.old) (K.count keeper.new) (K.honest keeper.new) (K.holds keeper.old) (K.holds keeper.new) status
+        × Did (S.left source.old) (S.left source.new) (W.held sink.old) (W.held sink.new) (S.count source.old) (S.count source.new) (W.count sink.old) (W.count sink.new) (K.count keeper.old) (K.count keeper.new) (K.honest keeper.new) (K.holds keeper.old) (K.holds keeper.new) words.now status
         × TellsLine (E.held errors.old) (E.held errors.new) (E.count errors.old) (E.count errors.new) status }
 {
     let status = run(alloc, words, source, sink, keeper);

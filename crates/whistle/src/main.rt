@@ -1,20 +1,29 @@
-//! The program: plays scripts on a whistleblowing host.
+//! The program: plays scripts on a whistleblowing host, and makes scripts for trying one.
 #![tactic(auto)]
 
 mod answering;
+mod command_line;
 mod exits;
+mod generated;
+mod harbour;
 mod opening;
+mod plans;
 mod playing;
+mod running;
 mod status;
 
+pub use command_line::plan;
 pub use exits::{end, run_to_end, words_of};
-pub use playing::run;
+pub use generated::make;
+pub use plans::PlanFault;
+pub use running::run;
 pub use status::{Status, exit_line};
 use std::alloc::Global;
 use std::env;
 use std::io::{BufReader, ErrorKind};
 use std::process::ExitCode;
-use wb_base::{MemKeeper, StdSink, StdSource, Text};
+use wb_base::{Keeper, MemKeeper, StdSink, StdSource, Text};
+use wb_sqlite::PathKeeper;
 
 // The words after the program's name. Words that are not UTF-8 are no form of any call.
 fn words(rt: &HostRuntime) -> Result<Vec<Text>, Status> {
@@ -32,8 +41,8 @@ fn rows_in_memory(alloc: Global) -> MemKeeper {
     MemKeeper::new(Vec::new(alloc), Vec::new(alloc))
 }
 
-// Runs the words over standard input, output and error, and keeps rows in memory.
-fn run_words(rt: &HostRuntime, words: &[Text]) -> u8 {
+// Runs the words over standard input, output and error, and a keeper.
+fn run_over<K: Keeper>(rt: &HostRuntime, words: &[Text], keeper: &mut K) -> u8 {
     let alloc = rt.alloc();
     let mut errors = StdSink::new(rt.stderr());
     let Ok(input) = BufReader::new(alloc, rt.stdin()) else {
@@ -41,15 +50,17 @@ fn run_words(rt: &HostRuntime, words: &[Text]) -> u8 {
     };
     let mut source = StdSource::new(input);
     let mut sink = StdSink::new(rt.stdout());
-    let mut keeper = rows_in_memory(alloc);
-    run_to_end(
-        alloc,
-        words,
-        &mut source,
-        &mut sink,
-        &mut keeper,
-        &mut errors,
-    )
+    run_to_end(alloc, words, &mut source, &mut sink, keeper, &mut errors)
+}
+
+// Runs the words. Rows are kept in the file that they name, or else in memory.
+fn run_words(rt: &HostRuntime, words: &[Text]) -> u8 {
+    match plan(rt.alloc(), words) {
+        Ok(plans::Plan::Play { store: Some(path) }) => {
+            run_over(rt, words, &mut PathKeeper::new(rt, path))
+        }
+        _ => run_over(rt, words, &mut rows_in_memory(rt.alloc())),
+    }
 }
 
 fn main(rt: HostRuntime) -> ExitCode {
@@ -60,7 +71,11 @@ fn main(rt: HostRuntime) -> ExitCode {
 }
 
 #[cfg(test)]
+mod command_line_tests;
+#[cfg(test)]
 mod ending_tests;
+#[cfg(test)]
+mod generated_tests;
 #[cfg(test)]
 mod setup_text;
 #[cfg(test)]

@@ -1,5 +1,6 @@
-//! The host that a script's setup opens.
-ghost use Rattle.std.specs.Prelude.{◌≡◌, ◌≢◌, ◌≤◌, ◌^◌, ℕ, Ok, IfOk, IfErr};
+//! The host that kept rows and a script's setup open.
+ghost use Rattle.std.specs.Prelude.{◌≡◌, ◌≢◌, ◌≤◌, ◌^◌, ℕ, List, Ok, IfOk, IfErr};
+ghost use Rattle.wb_base.specs.declared.rows.Row.{Row};
 ghost use Rattle.wb_tables.specs.Standing.{hosts_of};
 ghost use Rattle.wb_model.specs.Past.{Past};
 ghost use Rattle.wb_model.specs.Pasts.{AllOpened};
@@ -9,7 +10,6 @@ use crate::status::Status;
 use std::alloc::Global;
 use wb_base::{Keeper, Source};
 use wb_desk::{Desk, OpenFault};
-use wb_model::setups_and_kept_rows_make_openings;
 use wb_tenants::{Setup, SetupFault};
 use wb_wire::{FrameNo, FrameReader};
 
@@ -25,21 +25,20 @@ fn refused(fault: SetupFault) -> Status
     }
 }
 
-// The host that a setup's bytes open, or how a run ends for which they open none.
+// The host that a setup's bytes open over the rows that a keeper holds, or how a run ends for which they open none.
 fn open_by<K: Keeper>(alloc: Global, keeper: &mut K, setup: &[u8]) -> Result<Desk, Status>
-    ensures ok { IfOk result (λ desk. (start : Past AllOpened) × Opens (K.count keeper.old) (K.count keeper.new) (K.honest keeper.new) (K.holds keeper.old) (K.holds keeper.new) setup.now start (hosts_of desk)) }
+    ensures ok { IfOk result (λ desk. (loaded : List Row) × (start : Past AllOpened) × Opens (K.count keeper.old) (K.count keeper.new) (K.honest keeper.new) (K.holds keeper.old) (K.holds keeper.new) loaded setup.now start (hosts_of desk)) }
     ensures err { IfErr result (λ status. Refuses (K.count keeper.old) (K.count keeper.new) (K.honest keeper.new) (K.holds keeper.old) (K.holds keeper.new) setup.now status × KeepsRows (K.count keeper.old) (K.count keeper.new) (K.honest keeper.new) (K.holds keeper.old) (K.holds keeper.new)) }
     ensures back { K.honest keeper.new → K.honest keeper.old }
 {
-    setups_and_kept_rows_make_openings();
     let setup = match Setup::read(alloc, setup) {
         Ok(setup) => setup,
         Err(fault) => return Err(refused(fault)),
     };
-    match Desk::open(alloc, keeper, setup) {
+    match Desk::open(alloc, keeper, &setup) {
         Ok(desk) => Ok(desk),
         Err(OpenFault::Keeper) => Err(Status::OpenFault),
-        Err(OpenFault::Kept) => Err(Status::KeptRows),
+        Err(OpenFault::Rows(fault)) => Err(Status::KeptRows(fault)),
         Err(OpenFault::Memory) => Err(Status::NoMemory),
     }
 }

@@ -1,10 +1,13 @@
-//! The top call.
-ghost use Rattle.std.specs.Prelude.{ℕ, List, Some, Ok, ◌≡◌, ◌≢◌, ◌⊎◌, ◌<◌, ◌^◌, ◌↔◌, ◌∷◌, [], codes, length, IsTrue};
+//! Scripts that are played.
+ghost use Rattle.std.specs.Prelude.{ℕ, List, Some, Ok, ◌≡◌, ◌≢◌, ◌⊎◌, ◌<◌, ◌^◌, length};
 ghost use Rattle.std.specs.List.{AllByRecursion};
 ghost use Rattle.wb_base.specs.Outside.{Rose};
+ghost use Rattle.wb_base.specs.declared.rows.Row.{Row as KeptRow};
 ghost use Rattle.wb_model.specs.declared.wire.ScriptFrame.{ScriptFrame};
 ghost use Rattle.wb_model.specs.declared.registry.Lists.{Lists};
 ghost use Rattle.wb_model.specs.FrameTexts.{IsFrame};
+ghost use Rattle.wb_rows.specs.Held.{Held};
+ghost use Rattle.wb_rows.specs.Judged.{judged};
 ghost use Rattle.wb_tenants.specs.Setups.{setup as lists_in};
 ghost use Rattle.wb_wire.specs.SetupText.{IsSetup};
 ghost use Rattle.whistle.specs.Runs.{Ran, script_text};
@@ -13,23 +16,9 @@ use crate::answering::{answer_frame, write_answer};
 use crate::opening::open;
 use crate::status::Status;
 use std::alloc::Global;
-use wb_base::{Keeper, Memory, Sink, Source, Text};
+use wb_base::{Keeper, Memory, Sink, Source};
 use wb_model::{absence_over_scripts, alike_scripts_get_the_same_replies, losses_are_told};
 use wb_wire::{FrameNo, FrameReader, Routes, one_frame, one_reading, one_setup};
-
-// Whether the word is `play`.
-fn is_play_word(word: &Text) -> bool
-    ensures { IsTrue result ↔ (word.now ≡ codes "play") }
-{
-    word.as_bytes() == b"play".as_slice()
-}
-
-// Whether the words are `play` alone.
-fn is_play(words: &[Text]) -> bool
-    ensures { IsTrue result ↔ (words.now ≡ codes "play" ∷ []) }
-{
-    words.len() == 1 && is_play_word(&words[0])
-}
 
 // Plays the setup's frame and frame after frame.
 fn play<S: Source, W: Sink, K: Keeper>(
@@ -70,26 +59,21 @@ fn play<S: Source, W: Sink, K: Keeper>(
     }
 }
 
-/// Does what the words ask: `play` opens the host of the setup with which the source begins, plays the script on it, and
-/// writes each reply before it reads the next frame. It waits for nobody.
-pub fn run<S: Source, W: Sink, K: Keeper>(
+/// Opens the host of the rows that are kept and of the setup with which the source begins, plays the script on it, and writes
+/// each reply before it reads the next frame. It waits for nobody.
+pub fn play_script<S: Source, W: Sink, K: Keeper>(
     alloc: Global,
-    words: &[Text],
     source: &mut S,
     sink: &mut W,
     keeper: &mut K,
 ) -> Status
-    ensures usage { (result ≡ Status.Usage) ↔ (words.now ≢ codes "play" ∷ []) }
     ensures ran { Ran (S.left source.old) (S.left source.new) (W.held sink.old) (W.held sink.new) (S.count source.old) (S.count source.new) (W.count sink.old) (W.count sink.new) (K.count keeper.old) (K.count keeper.new) (K.honest keeper.new) (K.holds keeper.old) (K.holds keeper.new) result }
+    ensures no_usage { result ≢ Status.Usage }
     ensures back { K.honest keeper.new → K.honest keeper.old }
-    // A whole script whose setup is accepted is played to its end over no rows where nothing failed, or there was no memory.
-    ensures complete { (setup : List ℕ) (lists : Lists) (frames : List ScriptFrame) → IsSetup setup → lists_in setup ≡ Ok lists → AllByRecursion IsFrame frames → S.left source.old ≡ Some (script_text setup frames) → length (script_text setup frames) < 2 ^ 40 → words.now ≡ codes "play" ∷ [] → K.honest keeper.new → K.holds keeper.old [] → (Rose (S.count source.old) (S.count source.new) → ⊥) → (Rose (W.count sink.old) (W.count sink.new) → ⊥) → (Rose (K.count keeper.old) (K.count keeper.new) → ⊥) → (result ≡ Status.Done) ⊎ (result ≡ Status.NoMemory) }
+    ensures complete { (setup : List ℕ) (lists : Lists) (frames : List ScriptFrame) (kept : List KeptRow) (held : Held) → IsSetup setup → lists_in setup ≡ Ok lists → AllByRecursion IsFrame frames → S.left source.old ≡ Some (script_text setup frames) → length (script_text setup frames) < 2 ^ 40 → K.honest keeper.new → K.holds keeper.old kept → judged kept ≡ Ok held → (Rose (S.count source.old) (S.count source.new) → ⊥) → (Rose (W.count sink.old) (W.count sink.new) → ⊥) → (Rose (K.count keeper.old) (K.count keeper.new) → ⊥) → (result ≡ Status.Done) ⊎ (result ≡ Status.NoMemory) }
 {
     one_frame();
     one_setup();
-    if !is_play(words) {
-        return Status::Usage;
-    }
     match Routes::new(alloc) {
         Ok(routes) => play(alloc, &routes, source, sink, keeper),
         Err(Memory) => Status::NoMemory,

@@ -2,14 +2,15 @@
 ghost use Rattle.std.specs.Prelude.{◌≡◌, ◌++◌, codes, decimal, OnOk, OnErr};
 ghost use Rattle.std.specs.Io.KnownBytes.{Appends};
 ghost use Rattle.wb_base.specs.Outside.{AppendsFront, HasCause};
-ghost use Rattle.whistle.specs.Runs.{refusal_text, status_text, status_number};
+ghost use Rattle.whistle.specs.Runs.{broken_text, refusal_text, rows_text, status_text, status_number};
 
 use itoa::Buffer;
-use wb_base::{Failed, Sink};
+use wb_base::{Failed, Key, Sink};
+use wb_rows::RowFault;
 use wb_tenants::SetupFault;
 
 /// How a run ended.
-#[derive(Clone, Copy, Debug, PartialEq, Eq)]
+#[derive(Clone, Copy, PartialEq, Eq)]
 pub enum Status {
     /// The input was read to its end, and all output was written.
     Done,
@@ -27,8 +28,8 @@ pub enum Status {
     Setup(SetupFault),
     /// The keeper failed when the host was opened.
     OpenFault,
-    /// The keeper holds rows already.
-    KeptRows,
+    /// The rows that the keeper holds are refused. It is never for want of memory.
+    KeptRows(RowFault),
     /// 2^40 bytes were taken and the input has not ended.
     TooLong,
 }
@@ -47,7 +48,7 @@ impl Status {
             Status::BadFrame(_) => 6,
             Status::Setup(_) => 7,
             Status::OpenFault => 8,
-            Status::KeptRows => 9,
+            Status::KeptRows(_) => 9,
             Status::TooLong => 10,
         }
     }
@@ -84,6 +85,75 @@ fn refusal_line<W: Sink>(fault: SetupFault, sink: &mut W) -> Result<(), Failed>
     }
 }
 
+// Writes a text and a number.
+fn write_part<W: Sink>(sink: &mut W, text: &[u8], n: u64) -> Result<(), Failed>
+    ensures ok { OnOk result (Appends (W.held sink.old) (W.held sink.new) (text.now ++ decimal n)) }
+    ensures err { OnErr result (AppendsFront (W.held sink.old) (W.held sink.new) (text.now ++ decimal n)) }
+    ensures cause { HasCause (W.count sink.old) (W.count sink.new) result }
+{
+    match sink.write_all(text) {
+        Ok(()) => {}
+        Err(no) => return Err(no),
+    }
+    let mut digits = Buffer::new();
+    sink.write_all(digits.format(n).as_bytes())
+}
+
+// Writes two texts, each with a number after it.
+fn write_two<W: Sink>(
+    sink: &mut W,
+    first: &[u8],
+    n: u64,
+    second: &[u8],
+    m: u64,
+) -> Result<(), Failed>
+    ensures ok { OnOk result (Appends (W.held sink.old) (W.held sink.new) ((first.now ++ decimal n) ++ (second.now ++ decimal m))) }
+    ensures err { OnErr result (AppendsFront (W.held sink.old) (W.held sink.new) ((first.now ++ decimal n) ++ (second.now ++ decimal m))) }
+    ensures cause { HasCause (W.count sink.old) (W.count sink.new) result }
+{
+    match write_part(sink, first, n) {
+        Ok(()) => {}
+        Err(no) => return Err(no),
+    }
+    write_part(sink, second, m)
+}
+
+// Writes the line of the rule that kept rows break at a key.
+fn broken_line<W: Sink>(rule: u8, key: Key, sink: &mut W) -> Result<(), Failed>
+    ensures ok { OnOk result (Appends (W.held sink.old) (W.held sink.new) (broken_text rule key)) }
+    ensures err { OnErr result (AppendsFront (W.held sink.old) (W.held sink.new) (broken_text rule key)) }
+    ensures cause { HasCause (W.count sink.old) (W.count sink.new) result }
+{
+    match write_two(
+        sink,
+        b"kept rows refused: rule ",
+        rule as u64,
+        b" at ",
+        key.kind as u64,
+    ) {
+        Ok(()) => {}
+        Err(no) => return Err(no),
+    }
+    match write_two(sink, b"/", key.tenant as u64, b"/", key.a as u64) {
+        Ok(()) => {}
+        Err(no) => return Err(no),
+    }
+    write_numbered(sink, b"/", key.b as u64)
+}
+
+// Writes the line of a refusal of kept rows.
+fn rows_line<W: Sink>(fault: RowFault, sink: &mut W) -> Result<(), Failed>
+    ensures ok { OnOk result (Appends (W.held sink.old) (W.held sink.new) (rows_text fault)) }
+    ensures err { OnErr result (AppendsFront (W.held sink.old) (W.held sink.new) (rows_text fault)) }
+    ensures cause { HasCause (W.count sink.old) (W.count sink.new) result }
+{
+    match fault {
+        RowFault::BadRow(key) => broken_line(0, key, sink),
+        RowFault::BadSet(rule, key) => broken_line(rule, key, sink),
+        RowFault::Memory => sink.write_all(b"no memory\n"),
+    }
+}
+
 /// Writes the line of a status, which standard error gets; nothing where all was done. It takes no memory.
 pub fn exit_line<W: Sink>(status: &Status, sink: &mut W) -> Result<(), Failed>
     ensures ok { OnOk result (Appends (W.held sink.old) (W.held sink.new) (status_text status.now)) }
@@ -101,7 +171,7 @@ pub fn exit_line<W: Sink>(status: &Status, sink: &mut W) -> Result<(), Failed>
         Status::BadFrame(n) => write_numbered(sink, b"bad frame ", *n),
         Status::Setup(fault) => refusal_line(*fault, sink),
         Status::OpenFault => sink.write_all(b"open fault\n"),
-        Status::KeptRows => sink.write_all(b"kept rows refused\n"),
+        Status::KeptRows(fault) => rows_line(*fault, sink),
         Status::TooLong => sink.write_all(b"input too long\n"),
     }
 }

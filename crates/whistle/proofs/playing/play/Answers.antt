@@ -15,13 +15,14 @@ loop-frame-init g c =
     let begins = c.in-Ok.ensures.ok in
     record {
       in_run = record {
+        loaded = begins.loaded;
         setup = begins.setup;
         start = begins.start;
         whole = begins.took.0;
         opened = begins.opens.opened;
         frames = [];
         places = [];
-        so_far = at_start begins.setup begins.start _ _ _ _ (laws_of c.one_reading.ensures.reading c.losses_are_told.ensures c.alike_scripts_get_the_same_replies.ensures.replies c.absence_over_scripts.ensures.opening c.absence_over_scripts.ensures.replies c.absence_over_scripts.ensures.hosts begins.setup begins.start begins.opens.opened)
+        so_far = at_start begins.loaded begins.setup begins.start _ _ _ _ (laws_of c.one_reading.ensures.reading c.losses_are_told.ensures c.alike_scripts_get_the_same_replies.ensures.replies c.absence_over_scripts.ensures.opening c.absence_over_scripts.ensures.replies c.absence_over_scripts.ensures.hosts begins.loaded begins.setup begins.start begins.opens.opened)
             _ _ _ _ (hosts_of c.in-Ok.desk) c.open.new.reader begins.took.1 begins.opens begins.goes_on;
       };
       few = omega (arith, ap (λ (h : Hosts). h.turns) (begins.opens.stands ∙ ap standing_hosts begins.opens.opened.opens));
@@ -40,13 +41,14 @@ loop-frame-preserved g c =
     let goes = rw c.in-Ok-Some.field-0-is at c.in-Ok-Some.ensures.goes_on in
     record {
       in_run = record {
+        loaded = was.loaded;
         setup = was.setup;
         start = was.start;
         whole = was.whole;
         opened = was.opened;
         frames = more was.frames frame;
         places = more was.places is.0;
-        so_far = advance was.setup was.start _ _ _ _ (laws_of c.one_reading.ensures.reading c.losses_are_told.ensures c.alike_scripts_get_the_same_replies.ensures.replies c.absence_over_scripts.ensures.opening c.absence_over_scripts.ensures.replies c.absence_over_scripts.ensures.hosts was.setup was.start was.opened)
+        so_far = advance was.loaded was.setup was.start _ _ _ _ (laws_of c.one_reading.ensures.reading c.losses_are_told.ensures c.alike_scripts_get_the_same_replies.ensures.replies c.absence_over_scripts.ensures.opening c.absence_over_scripts.ensures.replies c.absence_over_scripts.ensures.hosts was.loaded was.setup was.start was.opened)
             _ _ _ _ _ _ c.loop-frame.reader was.frames was.places was.so_far _ _ _ _ _ c.answer_frame-answer.ensures.back (hosts_of c.answer_frame-answer.new.desk) frame c.answer_frame-answer.result is.0 took.0 took.1 is.1 c.in-Ok-write_answer.ensures.ok c.next.new.self goes;
       };
       few = omega (arith, c.answer_frame-answer.ensures.turns, c.loop-frame.invariant.few, ap (λ (p : Progress). p.taken) goes, some_bytes frame);
@@ -67,9 +69,10 @@ returns-in-Err-write_answer-clause-ran g c =
     let frame = c.in-Ok-Some.frame in
     let is = c.answer_frame-answer.ensures.answer (past_after was.start was.places) was.so_far.stands in
     let took = rw c.in-Ok-Some.field-0-is at c.in-Ok-Some.ensures.ok in
-    let both = stuck was.setup was.start _ _ _ _ (laws_of c.one_reading.ensures.reading c.losses_are_told.ensures c.alike_scripts_get_the_same_replies.ensures.replies c.absence_over_scripts.ensures.opening c.absence_over_scripts.ensures.replies c.absence_over_scripts.ensures.hosts was.setup was.start was.opened)
+    let both = stuck was.loaded was.setup was.start _ _ _ _ (laws_of c.one_reading.ensures.reading c.losses_are_told.ensures c.alike_scripts_get_the_same_replies.ensures.replies c.absence_over_scripts.ensures.opening c.absence_over_scripts.ensures.replies c.absence_over_scripts.ensures.hosts was.loaded was.setup was.start was.opened)
     _ _ _ _ _ _ c.loop-frame.reader was.frames was.places was.so_far _ _ _ _ _ c.answer_frame-answer.ensures.back (hosts_of c.answer_frame-answer.new.desk) frame c.answer_frame-answer.result is.0 took.0 took.1 is.1 c.in-Err-write_answer.ensures.err _ _ _ _ in
     inr (record {
+      loaded = was.loaded;
       setup = was.setup;
       start = was.start;
       whole = was.whole;
@@ -82,6 +85,7 @@ returns-in-Ok-None-clause-ran g c =
     let was = c.loop-frame.invariant.in_run in
     let end = rw c.in-Ok-None.field-0-is at c.in-Ok-None.ensures.ok in
     inr (record {
+      loaded = was.loaded;
       setup = was.setup;
       start = was.start;
       whole = was.whole;
@@ -89,7 +93,7 @@ returns-in-Ok-None-clause-ran g c =
       plays = (
         was.frames,
         was.places,
-        wrote was.setup was.start _ _ _ _ _ _ _ _ _ _ c.loop-frame.reader was.frames was.places was.so_far _ [] end.0 _ _ _ _,
+        wrote was.loaded was.setup was.start _ _ _ _ _ _ _ _ _ _ c.loop-frame.reader was.frames was.places was.so_far _ [] end.0 _ _ _ _,
         at_end (g.S.Source.left c.args.source.now) (g.S.Source.left c.loop-frame.source) (g.S.Source.left c.next.new.source) (script_text was.setup was.frames) was.so_far.taken end.0 end.1,
       );
     })
@@ -101,11 +105,12 @@ returns-in-Err-Read-clause-ran g c =
     let part = cause.1 in
     let taken = Consumes-trans (g.S.Source.left c.args.source.now) (g.S.Source.left c.loop-frame.source) (g.S.Source.left c.next.new.source) (script_text was.setup was.frames) part.0 was.so_far.taken part.1 in
     inr (record {
+      loaded = was.loaded;
       setup = was.setup;
       start = was.start;
       whole = was.whole;
       opened = was.opened;
-      plays = (was.frames, was.places, wrote was.setup was.start _ _ _ _ _ _ _ _ _ _ c.loop-frame.reader was.frames was.places was.so_far _ part.0 part.1 _ _ _ _, omega (arith, c.loop-frame.invariant.read_later, cause.0), (part.0, taken, part.2));
+      plays = (was.frames, was.places, wrote was.loaded was.setup was.start _ _ _ _ _ _ _ _ _ _ c.loop-frame.reader was.frames was.places was.so_far _ part.0 part.1 _ _ _ _, omega (arith, c.loop-frame.invariant.read_later, cause.0), (part.0, taken, part.2));
     })
 
 pub returns-in-Err-Bad-clause-ran : goal.returns-in-Err-Bad-clause-ran
@@ -115,6 +120,7 @@ returns-in-Err-Bad-clause-ran g c =
     let part = cause.2 in
     let taken = Consumes-trans (g.S.Source.left c.args.source.now) (g.S.Source.left c.loop-frame.source) (g.S.Source.left c.next.new.source) (script_text was.setup was.frames) part.0 was.so_far.taken part.1 in
     inr (record {
+      loaded = was.loaded;
       setup = was.setup;
       start = was.start;
       whole = was.whole;
@@ -122,7 +128,7 @@ returns-in-Err-Bad-clause-ran g c =
       plays = (
         was.frames,
         was.places,
-        wrote was.setup was.start _ _ _ _ _ _ _ _ _ _ c.loop-frame.reader was.frames was.places was.so_far _ part.0 part.1 _ _ _ _,
+        wrote was.loaded was.setup was.start _ _ _ _ _ _ _ _ _ _ c.loop-frame.reader was.frames was.places was.so_far _ part.0 part.1 _ _ _ _,
         (part.0, taken, part.2),
         omega (arith, cause.0, was.so_far.number),
         then_broken (g.S.Source.left c.args.source.now) (g.S.Source.left c.loop-frame.source) (script_text was.setup was.frames) was.so_far.taken cause.1,
@@ -136,6 +142,7 @@ returns-in-Err-TooLong-clause-ran g c =
     let script = script_text was.setup was.frames in
     let taken = Consumes-trans (g.S.Source.left c.args.source.now) (g.S.Source.left c.loop-frame.source) (g.S.Source.left c.next.new.source) script (all.0 ++ all.1 ∷ []) was.so_far.taken all.2 in
     inr (record {
+      loaded = was.loaded;
       setup = was.setup;
       start = was.start;
       whole = was.whole;
@@ -143,7 +150,7 @@ returns-in-Err-TooLong-clause-ran g c =
       plays = (
         was.frames,
         was.places,
-        wrote was.setup was.start _ _ _ _ _ _ _ _ _ _ c.loop-frame.reader was.frames was.places was.so_far _ (all.0 ++ all.1 ∷ []) all.2 _ _ _ _,
+        wrote was.loaded was.setup was.start _ _ _ _ _ _ _ _ _ _ c.loop-frame.reader was.frames was.places was.so_far _ (all.0 ++ all.1 ∷ []) all.2 _ _ _ _,
         (all.0, all.1, regrouped (g.S.Source.left c.args.source.now) (g.S.Source.left c.next.new.source) script all.0 (all.1 ∷ []) taken, all.3, omega (arith, length-append script all.0, was.so_far.size, all.4)),
       );
     })
@@ -154,9 +161,10 @@ returns-in-Err-Memory-clause-ran g c =
     let part = rw c.in-Err-Memory.field-0-is at c.in-Err-Memory.ensures.cause was.so_far.goes_on in
     let taken = Consumes-trans (g.S.Source.left c.args.source.now) (g.S.Source.left c.loop-frame.source) (g.S.Source.left c.next.new.source) (script_text was.setup was.frames) part.0 was.so_far.taken part.1 in
     inr (record {
+      loaded = was.loaded;
       setup = was.setup;
       start = was.start;
       whole = was.whole;
       opened = was.opened;
-      plays = (was.frames, was.places, wrote was.setup was.start _ _ _ _ _ _ _ _ _ _ c.loop-frame.reader was.frames was.places was.so_far _ part.0 part.1 _ _ _ _, (part.0, taken, part.2));
+      plays = (was.frames, was.places, wrote was.loaded was.setup was.start _ _ _ _ _ _ _ _ _ _ c.loop-frame.reader was.frames was.places was.so_far _ part.0 part.1 _ _ _ _, (part.0, taken, part.2));
     })

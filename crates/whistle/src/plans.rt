@@ -1,0 +1,40 @@
+//! What can be asked of the program.
+ghost use Rattle.std.specs.Prelude.{◌≡◌};
+ghost use Rattle.whistle.specs.declared.plans.PlanFault.TheVariants.{Memory as NoMemory};
+
+use std::alloc::AllocError;
+use wb_base::{Memory, Text};
+
+/// What the words ask.
+#[derive(Drop)]
+pub enum Plan {
+    /// Plays the script of the input, over rows in memory, or in the file of this path.
+    Play { store: Option<Text> },
+    /// Writes a script of so many turns.
+    Make(u32),
+}
+
+/// Why nothing is asked.
+#[derive(Clone, Copy, Debug, PartialEq, Eq)]
+pub enum PlanFault {
+    /// The words are no form of any call.
+    Usage,
+    /// There was no memory.
+    Memory,
+}
+
+impl From<Memory> for PlanFault {
+    ghost from_gives = { λ _ fault. fault ≡ NoMemory };
+
+    fn from(_: Memory) -> PlanFault {
+        PlanFault::Memory
+    }
+}
+
+impl From<AllocError> for PlanFault {
+    ghost from_gives = { λ _ fault. fault ≡ NoMemory };
+
+    fn from(_: AllocError) -> PlanFault {
+        PlanFault::Memory
+    }
+}

@@ -1,0 +1,57 @@
+//! The top call.
+ghost use Rattle.std.specs.Prelude.{ℕ, List, Option, Some, Ok, ◌≡◌, ◌⊎◌, ◌<◌, ◌^◌, length};
+ghost use Rattle.std.specs.List.{AllByRecursion};
+ghost use Rattle.wb_base.specs.Outside.{Rose};
+ghost use Rattle.wb_base.specs.declared.rows.Row.{Row as KeptRow};
+ghost use Rattle.wb_model.specs.declared.registry.Lists.{Lists};
+ghost use Rattle.wb_model.specs.declared.wire.ScriptFrame.{ScriptFrame};
+ghost use Rattle.wb_model.specs.FrameTexts.{IsFrame};
+ghost use Rattle.wb_rows.specs.Held.{Held};
+ghost use Rattle.wb_rows.specs.Judged.{judged};
+ghost use Rattle.wb_tenants.specs.Setups.{setup as lists_in};
+ghost use Rattle.wb_wire.specs.SetupText.{IsSetup};
+ghost use Rattle.whistle.specs.declared.plans.Plan.TheVariants.{Play};
+ghost use Rattle.whistle.specs.Asked.{Did, Writes};
+ghost use Rattle.whistle.specs.CommandLine.{Asks};
+ghost use Rattle.whistle.specs.Runs.{script_text};
+
+use crate::command_line::plan;
+use crate::generated::make;
+use crate::plans::{Plan, PlanFault};
+use crate::playing::play_script;
+use crate::status::Status;
+use std::alloc::Global;
+use wb_base::{Keeper, Sink, Source, Text};
+
+// Writes the script of so many turns.
+fn make_script<W: Sink>(turns: u32, sink: &mut W) -> Status
+    ensures ends { (result ≡ Status.Done) ⊎ (result ≡ Status.WriteFault) }
+    ensures writes { Writes (W.held sink.old) (W.held sink.new) (W.count sink.old) (W.count sink.new) turns result }
+{
+    match make(turns, sink) {
+        Ok(()) => Status::Done,
+        Err(_) => Status::WriteFault,
+    }
+}
+
+/// Does what the words ask: `play` opens the host of the rows that the keeper holds and of the setup with which the source begins, plays
+/// the script on it, and writes each reply before it reads the next frame; `make` writes a script and nothing else. It waits for nobody.
+pub fn run<S: Source, W: Sink, K: Keeper>(
+    alloc: Global,
+    words: &[Text],
+    source: &mut S,
+    sink: &mut W,
+    keeper: &mut K,
+) -> Status
+    ensures did { Did (S.left source.old) (S.left source.new) (W.held sink.old) (W.held sink.new) (S.count source.old) (S.count source.new) (W.count sink.old) (W.count sink.new) (K.count keeper.old) (K.count keeper.new) (K.honest keeper.new) (K.holds keeper.old) (K.holds keeper.new) words.now result }
+    ensures back { K.honest keeper.new → K.honest keeper.old }
+    // A whole script whose setup is accepted is played to its end over rows that are read, where nothing failed, or there was no memory.
+    ensures complete { (store : Option (List ℕ)) (setup : List ℕ) (lists : Lists) (frames : List ScriptFrame) (kept : List KeptRow) (held : Held) → Asks words.now (Play store) → IsSetup setup → lists_in setup ≡ Ok lists → AllByRecursion IsFrame frames → S.left source.old ≡ Some (script_text setup frames) → length (script_text setup frames) < 2 ^ 40 → K.honest keeper.new → K.holds keeper.old kept → judged kept ≡ Ok held → (Rose (S.count source.old) (S.count source.new) → ⊥) → (Rose (W.count sink.old) (W.count sink.new) → ⊥) → (Rose (K.count keeper.old) (K.count keeper.new) → ⊥) → (result ≡ Status.Done) ⊎ (result ≡ Status.NoMemory) }
+{
+    match plan(alloc, words) {
+        Ok(Plan::Play { .. }) => play_script(alloc, source, sink, keeper),
+        Ok(Plan::Make(turns)) => make_script(turns, sink),
+        Err(PlanFault::Usage) => Status::Usage,
+        Err(PlanFault::Memory) => Status::NoMemory,
+    }
+}
