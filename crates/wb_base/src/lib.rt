@@ -21,6 +21,7 @@ mod words;
 
 pub use answers::{Answers, Given};
 pub use callers::{Presented, Principal, Role};
+pub use calls::Calls;
 pub use faults::{AnswerFault, Failed, FormFault, KeepErr, TextFault};
 pub use form::{Choice, Cond, Field, FieldKind, Form, Step, Trigger};
 pub use kind::Kind;

@@ -1,19 +1,22 @@
 -- Reports that are added to their tenants one after another.
 use Rattle.std.proofs.Common.{◌≡◌, ◌≢◌, ◌⊎◌, inl, inr, ℕ, zero, suc, ◌<◌, ◌≤◌, Bool, true, false, cond, List, [], ◌∷◌, ◌++◌, append_assoc, length, map, find, set, get_or, Some, None, Result, Ok, Err, refl, sym, ap, ◌∙◌, subst, arith, eq-eqb, ne_eqb, ℤ}
-use Rattle.std.specs.Prelude.{◌==◌, nat_lt, if◌then◌else◌, OnOk}
+use Rattle.std.specs.Prelude.{◌==◌, ◌&&◌, ◌||◌, is_some, nat_lt, if◌then◌else◌, OnOk}
 use Rattle.std.specs.List.{AllByRecursion, list_all}
 use Rattle.std.proofs.lemmas.Bool.{and_parts, cases_eq}
 use Rattle.std.proofs.lemmas.List.{append-nil}
 use Rattle.wb_model.specs.declared.registry.Lists.{Lists}
-use Rattle.wb_model.specs.Legal.{ascends_from, is_legal}
-use Rattle.wb_model.specs.Opened.{AtMost}
-use Rattle.wb_model.specs.Tables.{Case}
+use Rattle.wb_model.specs.declared.entry.Entry.{Entry}
+use Rattle.wb_model.specs.Legal.{ascends_from, is_first, is_legal, legal_from, right_actor, right_values}
+use Rattle.wb_model.specs.Opened.{Apart, AtMost}
+use Rattle.wb_model.specs.Tables.{Case, has_receipt}
+use Rattle.wb_model.specs.Trails.{submission_in}
 use Rattle.wb_rows.specs.Held.{Report, Held}
 use Rattle.wb_rows.specs.Openings.{case_of, cases_of}
 use Rattle.wb_rows.specs.TrailRule.{is_legal_report, offset}
 use Rattle.wb_tables.specs.declared.tenancy.Tenancy.{Tenancy as KeptTenancy}
 use Rattle.wb_tables.specs.Kept.{Place, place_of}
 use Rattle.wb_tables.specs.Places.{is_tenant}
+use Rattle.wb_tables.specs.Receipted.{HasOwnReceipt, is_submitted}
 use Rattle.wb_desk.specs.Openings.{AreToCome, bare, held_place, with_case, with_report, with_reports}
 use Rattle.wb_desk.proofs.OpenedPlaces.{below}
 
@@ -107,35 +110,70 @@ before_number k (b ∷ before) after c rise =
     let le = rest.1.1 in
     (rest.0, ((le, rest.1.0), omega (arith, first, le), rest.1.2))
 
-pub numbers_below : (r : Report) (rs : List Report) (x : Place) → r.tenant ≡ x.id → AreToCome (r ∷ rs) x → (last : ℕ) × (AtMost last x.plain.cases × (last < r.number))
+own_cases : (r : Report) (rs : List Report) (x : Place) → r.tenant ≡ x.id → cases_of (r ∷ rs) x.id ≡ case_of r ∷ cases_of rs x.id
+own_cases r rs x is = rw (eq-eqb r.tenant x.id is) refl
+
+other_cases : (r : Report) (rs : List Report) (x : Place) → r.tenant ≢ x.id → cases_of (r ∷ rs) x.id ≡ cases_of rs x.id
+other_cases r rs x ne = rw (ne_eqb r.tenant x.id ne) refl
+
+numbers_below : (r : Report) (rs : List Report) (x : Place) → r.tenant ≡ x.id → AreToCome (r ∷ rs) x → (last : ℕ) × (AtMost last x.plain.cases × (last < r.number))
 numbers_below r rs x is come =
-    let here : cases_of (r ∷ rs) x.id ≡ case_of r ∷ cases_of rs x.id = rw (eq-eqb r.tenant x.id is) refl in
-    let found = before_number 0 x.plain.cases (cases_of rs x.id) (case_of r) (ap (λ l. ascends_from 0 (map (λ (c : Case). c.number) (x.plain.cases ++ l))) (sym here) ∙ come) in
+    let found = before_number 0 x.plain.cases (cases_of rs x.id) (case_of r) (ap (λ l. ascends_from 0 (map (λ (c : Case). c.number) (x.plain.cases ++ l))) (sym (own_cases r rs x is)) ∙ come.numbers) in
     (found.0, (found.1.0, found.1.2))
 
--- the tenant that is found is such, and has the report's tenant's id
-pub found_below : (r : Report) (rs : List Report) (xs : List Place) (x : Place) → AllByRecursion (AreToCome (r ∷ rs)) xs → find (is_tenant r.tenant) xs ≡ Some x → (last : ℕ) × (AtMost last x.plain.cases × (last < r.number))
-found_below r rs [] x come found = absurd (cc (found))
-found_below r rs (y ∷ ys) x come found = by (cases_eq y.id r.tenant) (λ e. found_below r rs ys x come.1 e)
+-- where no two have one key, what comes before an item has another
+some_within : {X : Type 0} (p : X → Bool) (before after : List X) (x : X) → p x ≡ true → find p (before ++ x ∷ after) ≡ None → ⊥
+some_within p [] after x has none = absurd (cc (sym (ap (λ b. cond b (Some x) (find p after)) has) ∙ none))
+some_within {X} p (y ∷ before) after x has none = by (p y) none (λ e. some_within p before after x has e)
   where
-    by : (y.id ≡ r.tenant) ⊎ (y.id ≡ r.tenant → ⊥) → (find (is_tenant r.tenant) ys ≡ Some x → (last : ℕ) × (AtMost last x.plain.cases × (last < r.number))) → (last : ℕ) × (AtMost last x.plain.cases × (last < r.number))
+    by : (b : Bool) → cond b (Some y) (find p (before ++ x ∷ after)) ≡ None → (find p (before ++ x ∷ after) ≡ None → ⊥) → ⊥
+    by true e rest = cc e
+    by false e rest = rest e
+
+none_before : {K X : Type 0} (P : K → X → Bool) (before after : List X) (x : X) (k : K) → Apart P (before ++ x ∷ after) → P k x ≡ true → find (P k) before ≡ None
+none_before P [] after x k apart has = refl
+none_before P (y ∷ before) after x k apart has = by (P k y) refl (none_before P before after x k apart.1 has)
+  where
+    by : (b : Bool) → P k y ≡ b → find (P k) before ≡ None → cond b (Some y) (find (P k) before) ≡ None
+    by true is rest = absurd (some_within (P k) before after x has (apart.0 k is))
+    by false is rest = rest
+
+receipts_below : (r : Report) (rs : List Report) (x : Place) → r.tenant ≡ x.id → AreToCome (r ∷ rs) x → HasOwnReceipt r.trail x.plain.cases
+receipts_below r rs x is come = λ d has. none_before has_receipt x.plain.cases (cases_of rs x.id) (case_of r) d (subst (λ l. Apart has_receipt (x.plain.cases ++ l)) (own_cases r rs x is) come.receipts) has
+
+-- the tenant that is found is such, and has the report's tenant's id
+found_come : (r : Report) (rs : List Report) (xs : List Place) (x : Place) → AllByRecursion (AreToCome (r ∷ rs)) xs → find (is_tenant r.tenant) xs ≡ Some x → (r.tenant ≡ x.id) × AreToCome (r ∷ rs) x
+found_come r rs [] x come found = absurd (cc (found))
+found_come r rs (y ∷ ys) x come found = by (cases_eq y.id r.tenant) (λ e. found_come r rs ys x come.1 e)
+  where
+    by : (y.id ≡ r.tenant) ⊎ (y.id ≡ r.tenant → ⊥) → (find (is_tenant r.tenant) ys ≡ Some x → (r.tenant ≡ x.id) × AreToCome (r ∷ rs) x) → (r.tenant ≡ x.id) × AreToCome (r ∷ rs) x
     by (inl is) rest =
         let one : y ≡ x = (let some : Some y ≡ Some x = sym (ap (λ b. cond b (Some y) (find (is_tenant r.tenant) ys)) (eq-eqb y.id r.tenant is)) ∙ found in cc (some)) in
-        subst (λ (z : Place). (last : ℕ) × (AtMost last z.plain.cases × (last < r.number))) one (numbers_below r rs y (sym is) come.0)
+        (sym is ∙ ap id_of one, subst (AreToCome (r ∷ rs)) one come.0)
     by (inr ne) rest = rest (sym (ap (λ b. cond b (Some y) (find (is_tenant r.tenant) ys)) (ne_eqb y.id r.tenant ne)) ∙ found)
 
-still_comes : (r : Report) (rs : List Report) (x : Place) → AreToCome (r ∷ rs) x → AreToCome rs (with_report r x)
-still_comes r rs x come = by (cases_eq r.tenant x.id)
+pub found_below : (r : Report) (rs : List Report) (xs : List Place) (x : Place) → AllByRecursion (AreToCome (r ∷ rs)) xs → find (is_tenant r.tenant) xs ≡ Some x → (last : ℕ) × (AtMost last x.plain.cases × (last < r.number))
+found_below r rs xs x come found = let one = found_come r rs xs x come found in numbers_below r rs x one.0 one.1
+
+pub found_own : (r : Report) (rs : List Report) (xs : List Place) (x : Place) → AllByRecursion (AreToCome (r ∷ rs)) xs → find (is_tenant r.tenant) xs ≡ Some x → HasOwnReceipt r.trail x.plain.cases
+found_own r rs xs x come found = let one = found_come r rs xs x come found in receipts_below r rs x one.0 one.1
+
+-- a tenant's reports, with those that are to come
+abbrev those : List Report → Place → List Case
+those rs x = x.plain.cases ++ cases_of rs x.id
+
+those_same : (r : Report) (rs : List Report) (x : Place) → those (r ∷ rs) x ≡ those rs (with_report r x)
+those_same r rs x = by (cases_eq r.tenant x.id)
   where
-    by : (r.tenant ≡ x.id) ⊎ (r.tenant ≡ x.id → ⊥) → AreToCome rs (with_report r x)
-    by (inl is) =
-        let here : cases_of (r ∷ rs) x.id ≡ case_of r ∷ cases_of rs x.id = rw (eq-eqb r.tenant x.id is) refl in
-        subst (AreToCome rs) (sym (own_report r x is))
-        (ap (λ l. ascends_from 0 (map (λ (c : Case). c.number) l)) (append_assoc x.plain.cases (case_of r ∷ []) (cases_of rs x.id))
-        ∙ (ap (λ l. ascends_from 0 (map (λ (c : Case). c.number) (x.plain.cases ++ l))) (sym here) ∙ come))
-    by (inr ne) =
-        let here : cases_of (r ∷ rs) x.id ≡ cases_of rs x.id = rw (ne_eqb r.tenant x.id ne) refl in
-        subst (AreToCome rs) (sym (other_report r x ne)) (ap (λ l. ascends_from 0 (map (λ (c : Case). c.number) (x.plain.cases ++ l))) (sym here) ∙ come)
+    by : (r.tenant ≡ x.id) ⊎ (r.tenant ≡ x.id → ⊥) → those (r ∷ rs) x ≡ those rs (with_report r x)
+    by (inl is) = ap (λ l. x.plain.cases ++ l) (own_cases r rs x is) ∙ (sym (append_assoc x.plain.cases (case_of r ∷ []) (cases_of rs x.id)) ∙ ap (those rs) (sym (own_report r x is)))
+    by (inr ne) = ap (λ l. x.plain.cases ++ l) (other_cases r rs x ne) ∙ ap (those rs) (sym (other_report r x ne))
+
+still_comes : (r : Report) (rs : List Report) (x : Place) → AreToCome (r ∷ rs) x → AreToCome rs (with_report r x)
+still_comes r rs x come = record {
+  numbers = subst (λ l. ascends_from 0 (map (λ (c : Case). c.number) l) ≡ true) (those_same r rs x) come.numbers;
+  receipts = subst (Apart has_receipt) (those_same r rs x) come.receipts;
+}
 
 pub all_still_come : (r : Report) (rs : List Report) (xs : List Place) → AllByRecursion (AreToCome (r ∷ rs)) xs → AllByRecursion (AreToCome rs) (map (with_report r) xs)
 all_still_come r rs [] come = tt
@@ -183,13 +221,22 @@ pub legal_left : (lists : Lists) (r : Report) (rs : List Report) → list_all (i
 legal_left lists r rs all = (and_parts (is_legal_report lists r) (list_all (is_legal_report lists) rs) all).1
 
 -- before the first one, all are to come
-pub none_come_yet : (h : Held) → ((t : ℕ) → ascends_from 0 (map (λ (c : Case). c.number) (cases_of h.reports t)) ≡ true) → (ts : List ℕ) → AllByRecursion (AreToCome h.reports) (map (held_place (bare h.lists h.numberings)) ts)
-none_come_yet h keys [] = tt
-none_come_yet h keys (t ∷ ts) = (keys t, none_come_yet h keys ts)
+pub none_come_yet : (h : Held) → ((t : ℕ) → ascends_from 0 (map (λ (c : Case). c.number) (cases_of h.reports t)) ≡ true) → ((t : ℕ) → Apart has_receipt (cases_of h.reports t)) → (ts : List ℕ) → AllByRecursion (AreToCome h.reports) (map (held_place (bare h.lists h.numberings)) ts)
+none_come_yet h keys receipts [] = tt
+none_come_yet h keys receipts (t ∷ ts) = (record { numbers = keys t; receipts = receipts t }, none_come_yet h keys receipts ts)
 
 pub held_ids : (h : Held) (ts : List ℕ) → ids (map (held_place h) ts) ≡ ts
 held_ids h [] = refl
 held_ids h (t ∷ ts) = ap (λ l. t ∷ l) (held_ids h ts)
+
+-- so it begins with a submission
+pub legal_submitted : (o : ℤ) (trail : List Entry) → is_legal o trail ≡ true → is_submitted trail ≡ true
+legal_submitted o [] legal = absurd (grind (arith, legal))
+legal_submitted o (e ∷ es) legal =
+    let begins : is_first o e ≡ true = (and_parts (is_first o e) (legal_from o e.at (e ∷ []) es) legal).0 in
+    let right = (and_parts (is_some (submission_in e.deed) && right_actor e.deed e.by) (right_values o [] e.at e.deed) begins).0 in
+    let submits = (and_parts (is_some (submission_in e.deed)) (right_actor e.deed e.by) right).0 in
+    ap (λ b. b || is_submitted es) submits
 
 -- what follows where it is well
 pub on_ok : {T E A B : Type 0} (r : Result T E) → (A → B) → OnOk r A → OnOk r B

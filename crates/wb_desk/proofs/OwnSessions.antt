@@ -1,4 +1,4 @@
--- Who logs out ends an own session.
+-- Who logs out ends an own session, and a report that begins has a receipt of its own.
 use Rattle.std.proofs.Common.{◌≡◌, ℕ, ◌<◌, Bool, true, false, cond, List, [], ◌∷◌, length, map, find, get_or, Option, Some, None, refl, sym, ap, ◌∙◌, subst, arith}
 use Rattle.std.specs.Prelude.{◌==◌, ◌&&◌}
 use Rattle.std.proofs.lemmas.Bool.Decides.{nat_tests}
@@ -27,14 +27,16 @@ use Rattle.wb_model.specs.Targets.{Target, Nobody, Alone, On, some_user_target, 
 use Rattle.wb_model.proofs.Effects.{comes_is, in_open_is, identity_is, share_is, transfer_is, decide_is, set_is}
 use Rattle.wb_model.proofs.Found.{find_true}
 use Rattle.wb_model.proofs.Leaving.{apart_filter}
+use Rattle.wb_model.proofs.Receipts.{HasOwn, verdict_own as receipt_own}
 use Rattle.wb_plan.specs.declared.plan.At.{At as KeptAt}
 use Rattle.wb_plan.specs.declared.plan.Plan.{Plan}
 use Rattle.wb_plan.specs.declared.plan.Planned.{Planned}
 use Rattle.wb_plan.specs.declared.plan.Planned.TheVariants as planned
-use Rattle.wb_plan.specs.Plans.{Plans, at_of, change_of as planned_change_of}
+use Rattle.wb_plan.specs.Plans.{IsFit, Plans, at_of, begins, change_of as planned_change_of}
 use Rattle.wb_tables.specs.Kept.{Place, place_of, plain_of, tables_of, live_place, live_plain}
 use Rattle.wb_tables.specs.Logins.{who_seen}
 use Rattle.wb_tables.specs.Places.{ArePlaces}
+use Rattle.wb_tables.specs.Receipted.{HasOwnReceipt}
 use Rattle.wb_tables.specs.declared.tenancy.Tenancy.{Tenancy as KeptTenancy}
 use Rattle.wb_tables.proofs.PlacesAt.{place_at}
 use Rattle.wb_desk.specs.Ready.{AreBy, IsOwn}
@@ -157,17 +159,25 @@ pub own_logout : (p : Plain) (at : At) (q : Request) (turn : ℕ) (who : Who) �
 own_logout p at q turn who apart e = verdict_own p at q (target p q.session q.command) turn who
     (λ k t secret d s. subst (λ x. OwnTarget k p.sessions (target p x q.command)) (sym s) (subst (λ x. OwnTarget k p.sessions (target p (presented.Token k secret) x)) (sym d) (target_own p k secret apart))) e
 
--- ---- a planned logout
+-- ---- a report that begins
 
-planned_own : (p : Plain) (at : At) (q : Request) (t : ℕ) (g : Registry) (c : Planned) → Apart has_turn p.sessions → change_of (verdict p at q) ≡ planned_change_of t g c → IsOwn p.sessions c
-planned_own p at q t g (planned.LogsOut turn who) apart e = own_logout p at q turn (who_seen who) apart e
-planned_own p at q t g _ apart e = tt
+own_begun : (p : Plain) (at : At) (q : Request) (trail : List Entry) (e : Entry) → trail ≡ e ∷ [] → change_of (verdict p at q) ≡ begins trail → HasOwnReceipt trail p.cases
+own_begun p at q trail e one is =
+    let own = subst (HasOwn p) (is ∙ ap begins one) (receipt_own p at q (target p q.session q.command)) in
+    subst (λ es. HasOwnReceipt es p.cases) (sym one) (λ d has. own d 0 has)
+
+-- ---- what is planned
+
+planned_own : (p : Plain) (at : At) (q : Request) (t : ℕ) (g : Registry) (time : ℕ) (x : KeptTenancy) (c : Planned) → Apart has_turn p.sessions → IsFit time x c → change_of (verdict p at q) ≡ planned_change_of t g c → IsOwn p c
+planned_own p at q t g time x (planned.LogsOut turn who) apart fit e = own_logout p at q turn (who_seen who) apart e
+planned_own p at q t g time x (planned.Begins o) apart fit e = own_begun p at q o.case.items fit.1.0 fit.1.1 e
+planned_own p at q t g time x _ apart fit e = tt
 
 -- over the tables of a tenant at a place, once they are purged
-pub own_at : (turns i : ℕ) (at : KeptAt) (asked : Asked) (plan : Plan) (items : List SealedItem) (ks ls : List KeptTenancy) (d : KeptTenancy) → ArePlaces turns 0 items (map place_of ks) → map place_of ls ≡ map (live_place at.time) (map place_of ks) → i < length ks
-    → Plans (get_or ks i d).configuration.tenant (purged at.time (tables_of items (place_of (get_or ks i d)))) (at_of at) asked plan → IsOwn (plain_of (get_or ls i d)).sessions plan.change
-own_at turns i at asked plan items ks ls d all e lt h =
+pub own_at : (turns i : ℕ) (at : KeptAt) (asked : Asked) (plan : Plan) (items : List SealedItem) (ks ls : List KeptTenancy) (d y : KeptTenancy) → ArePlaces turns 0 items (map place_of ks) → map place_of ls ≡ map (live_place at.time) (map place_of ks) → i < length ks → IsFit at.time y plan.change
+    → Plans (get_or ks i d).configuration.tenant (purged at.time (tables_of items (place_of (get_or ks i d)))) (at_of at) asked plan → IsOwn (plain_of (get_or ls i d)) plan.change
+own_at turns i at asked plan items ks ls d y all e lt fit h =
     let x = get_or ks i d in
     let p : Plain = live_plain at.time (plain_of x) in
-    subst (λ (y : Place). IsOwn y.plain.sessions plan.change) (sym ((live_at at.time i ks ls e lt).place d))
-    (planned_own p (at_of at) (plain_part p asked) x.configuration.tenant p.registry plan.change (apart_filter has_turn (lasts at.time (live_cases (plain_of x) at.time)) (plain_of x).sessions (place_at turns 0 i items ks d all lt).plain.logins) h.change)
+    subst (λ (z : Place). IsOwn z.plain plan.change) (sym ((live_at at.time i ks ls e lt).place d))
+    (planned_own p (at_of at) (plain_part p asked) x.configuration.tenant p.registry at.time y plan.change (apart_filter has_turn (lasts at.time (live_cases (plain_of x) at.time)) (plain_of x).sessions (place_at turns 0 i items ks d all lt).plain.logins) fit h.change)

@@ -69,7 +69,7 @@ room_in time spare more x y planned.Nothing apart purged is le h = record { fit 
 room_in time spare more x y (planned.Begins o) apart purged is le h =
     let last : y.numbering.last ≡ x.numbering.last = ap (λ (p : Plain). p.numbering.last) is in
     let wide = purged.room in
-    record { fit = (omega (arith, last, h.fit.0), h.fit.1, h.fit.2); room = (omega (arith, wide, h.room.0), omega (arith, le, h.room.1)) }
+    record { fit = (omega (arith, last, h.fit.0), h.fit.1, h.fit.2, h.fit.3); room = (omega (arith, wide, h.room.0), omega (arith, le, h.room.1)) }
 room_in time spare more x y (planned.Notes n) apart purged is le h =
     let live : Case → Bool = is_live x.configuration.registry.settings time in
     let wide = purged.room in
@@ -82,6 +82,7 @@ room_in time spare more x y (planned.Notes n) apart purged is le h =
           found = ap (find (has_key nat_cmp (λ (r : KeptCase). r.number) n.number)) purged.cases
               ∙ some_filter (has_key nat_cmp (λ (r : KeptCase). r.number) n.number) (λ r. live (case_of r)) x.cases.items ready.report ready.found (found_lives n.number live x.cases.items ready.report apart ready.found h.fit);
           roomy = ready.roomy;
+          later = ready.later;
         },
         omega (arith, wide, h.room.1),
         omega (arith, le, h.room.2),

@@ -5,11 +5,12 @@ use Rattle.wb_base.specs.declared.rows.Row.{Row}
 use Rattle.wb_kinds.specs.declared.item.NumberingItem.{NumberingItem}
 use Rattle.wb_model.specs.declared.registry.Lists.{Lists}
 use Rattle.wb_model.specs.Legal.{ascends_from}
+use Rattle.wb_model.specs.Opened.{Apart}
 use Rattle.wb_model.specs.Openings.{registry_of, empty_tables}
 use Rattle.wb_model.specs.Past.{Opening}
 use Rattle.wb_model.specs.Pasts.{AllOpened}
 use Rattle.wb_model.specs.SetUps.{has_tenant, tenant_ids}
-use Rattle.wb_model.specs.Tables.{Case}
+use Rattle.wb_model.specs.Tables.{Case, has_receipt}
 use Rattle.wb_model.specs.Tenants.{Tenancy, Hosts}
 use Rattle.wb_rows.specs.declared.faults.RowFault.{RowFault}
 use Rattle.wb_rows.specs.declared.faults.RowFault.TheVariants.{BadRow, BadSet, Memory}
@@ -72,9 +73,10 @@ abbrev pub with_reports : List Report → Place → Place
 with_reports [] x = x
 with_reports (r ∷ rs) x = with_reports rs (with_report r x)
 
--- the reports of a tenant that are there and those that are to come stand in the order of their numbers
-abbrev pub AreToCome : List Report → Place → Type 0
-AreToCome rs x = ascends_from 0 (map (λ (c : Case). c.number) (x.plain.cases ++ cases_of rs x.id)) ≡ true
+-- the reports of a tenant that are there and those that are to come stand in the order of their numbers, and no two have one receipt
+pub record AreToCome (rs : List Report) (x : Place) : Type 0 where
+  pub numbers : ascends_from 0 (map (λ (c : Case). c.number) (x.plain.cases ++ cases_of rs x.id)) ≡ true
+  pub receipts : Apart has_receipt (x.plain.cases ++ cases_of rs x.id)
 
 -- ---- the rows
 

@@ -4,12 +4,13 @@ use Rattle.wb_custody.specs.declared.sealed.SealedItem.{SealedItem}
 use Rattle.wb_custody.specs.SealedAnswers.{answers_of}
 use Rattle.wb_model.specs.Changes.{Change}
 use Rattle.wb_model.specs.Host.{changed}
-use Rattle.wb_model.specs.Tables.{Session, Who, same_who}
+use Rattle.wb_model.specs.Tables.{Plain, Session, Who, same_who}
 use Rattle.wb_plan.specs.declared.plan.Planned.{Planned}
 use Rattle.wb_plan.specs.declared.plan.Planned.TheVariants as planned
 use Rattle.wb_plan.specs.Plans.{change_of, given_of}
 use Rattle.wb_tables.specs.Kept.{place_of, tables_of}
 use Rattle.wb_tables.specs.Logins.{who_seen}
+use Rattle.wb_tables.specs.Receipted.{HasOwnReceipt}
 use Rattle.wb_tables.specs.declared.tenancy.Tenancy.{Tenancy as KeptTenancy}
 
 -- each session that was made at this turn is of this caller
@@ -17,10 +18,11 @@ abbrev pub AreBy : ℕ → Who → List Session → Type 0
 AreBy turn who [] = Unit {0}
 AreBy turn who (s ∷ ss) = ((s.turn == turn) ≡ true → same_who s.who who ≡ true) × AreBy turn who ss
 
--- who logs out ends an own session
-abbrev pub IsOwn : List Session → Planned → Type 0
-IsOwn ss (planned.LogsOut turn who) = AreBy turn (who_seen who) ss
-IsOwn ss _ = Unit {0}
+-- who logs out ends an own session, and a report that begins has a receipt of its own
+abbrev pub IsOwn : Plain → Planned → Type 0
+IsOwn p (planned.LogsOut turn who) = AreBy turn (who_seen who) p.sessions
+IsOwn p (planned.Begins o) = HasOwnReceipt o.case.items p.cases
+IsOwn p _ = Unit {0}
 
 -- what a plan changes of a tenant
 abbrev pub planned_change : KeptTenancy → Planned → Change

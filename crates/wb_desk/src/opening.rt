@@ -4,9 +4,10 @@ ghost use Rattle.std.specs.List.{list_all, list_any};
 ghost use Rattle.std.specs.Option.{option_copied};
 ghost use Rattle.wb_base.specs.declared.rows.Change.TheVariants.{Put};
 ghost use Rattle.wb_model.specs.Legal.{ascends_from};
+ghost use Rattle.wb_model.specs.Opened.{Apart};
 ghost use Rattle.wb_model.specs.Openings.{empty_tables, registry_of};
 ghost use Rattle.wb_model.specs.SetUps.{AreSetUp, has_tenant, tenant_ids};
-ghost use Rattle.wb_model.specs.Tables.{Case};
+ghost use Rattle.wb_model.specs.Tables.{Case, has_receipt};
 ghost use Rattle.wb_rows.specs.Held.{case_report, held_by};
 ghost use Rattle.wb_rows.specs.Openings.{cases_of, numbering_of as numbering_at, time_of, with_setup};
 ghost use Rattle.wb_rows.specs.Puts.{tenant_put};
@@ -204,6 +205,7 @@ pub fn begin(alloc: Global, setup: &Setup, kept: Tables) -> Result<Opened, Memor
     requires setup { AreSetUp setup.now.lists }
     requires lists { AreSetUp kept.registry.lists }
     requires keys { (t : ℕ) → ascends_from 0 (map (λ (c : Case). c.number) (cases_of (map case_report kept.cases) t)) ≡ true }
+    requires receipts { (t : ℕ) → Apart has_receipt (cases_of (map case_report kept.cases) t) }
     requires legal { list_all (is_legal_report kept.registry.lists) (map case_report kept.cases) ≡ true }
     ensures time { IfOk result (λ x. x.time ≡ time_of (held_by kept)) }
     ensures places { IfOk result (λ x. map place_of x.tenancies.items ≡ held_places (with_setup setup.now.lists (held_by kept))) }

@@ -9,6 +9,7 @@ ghost use Rattle.wb_rows.specs.Held.{case_report};
 ghost use Rattle.wb_rows.specs.TrailRule.{is_legal_report};
 ghost use Rattle.wb_tables.specs.Kept.{Place, place_of, plain_of};
 ghost use Rattle.wb_tables.specs.Places.{is_tenant};
+ghost use Rattle.wb_tables.specs.Receipted.{HasOwnReceipt};
 ghost use Rattle.wb_desk.specs.Openings.{AreToCome, with_case, with_report, with_reports};
 
 use std::alloc::Global;
@@ -31,9 +32,10 @@ fn requests_of(alloc: Global, case: &Case) -> Result<AccessDesk, Memory>
     }
 }
 
-// Adds a report to its tenant, whose reports have lower numbers.
+// Adds a report to its tenant, whose reports have lower numbers and other receipts.
 fn add_case(alloc: Global, tenancy: &mut Tenancy, item: CaseItem) -> Result<(), Memory>
     requires above { (last : ℕ) × (AtMost last (plain_of tenancy.old).cases × (last < item.number)) }
+    requires own { HasOwnReceipt item.case.items (plain_of tenancy.old).cases }
     requires legal { (offset : ℤ) × (is_legal offset item.case.items ≡ true) }
     ensures { OnOk result (place_of tenancy.new ≡ with_case (case_report item) (place_of tenancy.old)) }
 {
@@ -51,6 +53,7 @@ fn add_case(alloc: Global, tenancy: &mut Tenancy, item: CaseItem) -> Result<(), 
 fn add_report(alloc: Global, tenancies: &mut [Tenancy], item: CaseItem) -> Result<(), Memory>
     requires ids { ascends_from 0 (map (λ (x : Place). x.id) (map place_of tenancies.old)) ≡ true }
     requires above { (x : Place) → find (is_tenant item.tenant) (map place_of tenancies.old) ≡ Some x → (last : ℕ) × (AtMost last x.plain.cases × (last < item.number)) }
+    requires own { (x : Place) → find (is_tenant item.tenant) (map place_of tenancies.old) ≡ Some x → HasOwnReceipt item.case.items x.plain.cases }
     requires legal { (offset : ℤ) × (is_legal offset item.case.items ≡ true) }
     ensures { OnOk result (map place_of tenancies.new ≡ map (with_report (case_report item)) (map place_of tenancies.old)) }
 {

@@ -1,5 +1,5 @@
 //! The change of a turn. It takes no memory and cannot fail.
-ghost use Rattle.std.specs.Prelude.{◌≡◌, ◌≢◌, ◌<◌, ◌≤◌, ◌+◌, ◌∷◌, [], ℕ, map};
+ghost use Rattle.std.specs.Prelude.{◌≡◌, ◌≢◌, ◌<◌, ◌≤◌, ◌+◌, ◌∷◌, [], ℕ, true, map};
 ghost use Rattle.wb_base.specs.Days.{IsOffset};
 ghost use Rattle.wb_custody.specs.SealedAnswers.{answers_of};
 ghost use Rattle.wb_model.specs.Access.{requests};
@@ -11,6 +11,7 @@ ghost use Rattle.wb_tables.specs.Kept.{case_of, plain_of, place_of, sealed_of};
 ghost use Rattle.wb_tables.specs.Logins.{AreEarlier, login_of, session_of};
 ghost use Rattle.wb_tables.specs.Noted.{IsReady};
 ghost use Rattle.wb_tables.specs.Places.{IsPlace};
+ghost use Rattle.wb_tables.specs.Receipted.{HasOwnReceipt, is_submitted};
 ghost use Rattle.wb_desk.specs.Ready.{AreBy};
 
 use std::alloc::Global;
@@ -45,6 +46,7 @@ pub fn draw_number(settings: &TenantItem, numbering: Numbering, time: Moment) ->
 fn begun(alloc: Global, number: Number, case: Case) -> Report
     requires none { requests case.items ≡ [] }
     ensures case { case_of result ≡ record { number = number; trail = case.items } }
+    ensures trail { result.case.items ≡ case.items }
     ensures requests { result.desk.items ≡ requests result.case.items }
 {
     Report {
@@ -116,6 +118,8 @@ pub fn open_case(
     requires sealed_room { 0 < sealed.old.spare }
     requires begun { (entry : EntryValue) × (opening.case.items ≡ entry ∷ []) }
     requires none { requests opening.case.items ≡ [] }
+    requires submitted { is_submitted opening.case.items ≡ true }
+    requires own { HasOwnReceipt opening.case.items (plain_of tenancy.old).cases }
     ensures id { (place_of tenancy.new).id ≡ (place_of tenancy.old).id }
     ensures plain { (entry : EntryValue) → opening.case.items ≡ entry ∷ [] → plain_of tenancy.new ≡ plain_after time (Begins entry) (plain_of tenancy.old) }
     ensures here { (n : ℕ) → answers_of sealed.new.items (place_of tenancy.old).id n ≡ sealed_under (tenancy.old.numbering.last + 1) opening.secret (sealed_of sealed.old.items (place_of tenancy.old).id) n }

@@ -35,7 +35,7 @@ fn make(
 )
     requires place { (turns : ℕ) × IsPlace turns sealed.old.items (place_of tenancy.old) }
     requires room { IsRoomy time tenancy.old sealed.old.spare change }
-    requires own { IsOwn (plain_of tenancy.old).sessions change }
+    requires own { IsOwn (plain_of tenancy.old) change }
     ensures tables { tables_of sealed.new.items (place_of tenancy.new) ≡ changed time (planned_change tenancy.old change) (given_of change) (tables_of sealed.old.items (place_of tenancy.old)) }
     ensures id { (place_of tenancy.new).id ≡ (place_of tenancy.old).id }
     ensures others { (t n : ℕ) → t ≢ (place_of tenancy.old).id → answers_of sealed.new.items t n ≡ answers_of sealed.old.items t n }
@@ -62,7 +62,7 @@ fn make_at(
     requires places { (turns : ℕ) × ArePlaces turns 0 sealed.old.items (map place_of tenancies.old) }
     requires within { place < length tenancies.old }
     requires room { (d : KeptTenancy) → IsRoomy time (slice_index_or tenancies.old place d) sealed.old.spare change }
-    requires own { (d : KeptTenancy) → IsOwn (plain_of (slice_index_or tenancies.old place d)).sessions change }
+    requires own { (d : KeptTenancy) → IsOwn (plain_of (slice_index_or tenancies.old place d)) change }
     ensures made { IsMadeAt place time change sealed.old.items sealed.new.items tenancies.old tenancies.new }
     ensures set_up { AreSetUpRight 0 (map place_of tenancies.old) → AreSetUpRight 0 (map place_of tenancies.new) }
     // A turn makes one session at most.

@@ -96,16 +96,16 @@ healthy_status : healthy.status ≢ 201
 unfolding healthy
 healthy_status e = absurd (omega (arith, e))
 
-keeper_status : keeper_failed.status ≢ 201
+pub keeper_status : keeper_failed.status ≢ 201
 unfolding keeper_failed
 keeper_status e = absurd (omega (arith, e))
 
-memory_status : no_memory.status ≢ 201
+pub memory_status : no_memory.status ≢ 201
 unfolding no_memory
 memory_status e = absurd (omega (arith, e))
 
 -- what a refusal of a submission answers is not 201
-abbrev Answers : Option Told → Type 0
+abbrev pub Answers : Option Told → Type 0
 Answers None = Unit {0}
 Answers (Some x) = x.status ≢ 201
 
@@ -122,7 +122,7 @@ faulty_answers Unchecked = tt
 faulty_answers (Checked None answers marked) = tt
 faulty_answers (Checked (Some f) answers marked) = faulty_status f
 
-refusal_answers : (g : Registry) (n : Drawing) (o : Outcome) (c : ℕ) → Answers (refusal_alone g n o (in_open Submits c g))
+pub refusal_answers : (g : Registry) (n : Drawing) (o : Outcome) (c : ℕ) → Answers (refusal_alone g n o (in_open Submits c g))
 refusal_answers g n o c = in_open_is (λ e. Answers (refusal_alone g n o e)) Submits c g not_found_status (λ x y is form.
     or_answers (outcome_refusal o) _ (faulty_answers o)
     (or_answers (refuses_where (nat_le 4_294_967_295 n.last) numbers_spent) _ (where_answers (nat_le 4_294_967_295 n.last) numbers_spent spent_status)
@@ -144,7 +144,7 @@ answered_accepted past moment words session close t c answers e =
     judged_answered (refusal_alone p.registry (drawing at p) o does) (change_alone at p.registry None o does) (answer_alone at p None does)
     (tables past at.time).sealed (refusal_answers p.registry (drawing at p) o c) e
 
-no_tenant_status : (t : ℕ) → (without_tenant t).status ≢ 201
+pub no_tenant_status : (t : ℕ) → (without_tenant t).status ≢ 201
 no_tenant_status t = by (eqb t 0)
   where
     by : (b : Bool) → (cond b healthy not_found).status ≢ 201

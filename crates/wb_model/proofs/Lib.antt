@@ -59,7 +59,11 @@ pub mod LegalDoings
 pub mod Callers
 pub mod LegalTurns
 pub mod SoundRegistries
+pub mod TargetsServed
+pub mod RefusalsServed
+pub mod TurnsServed
 pub mod LossesTold
+pub mod Draws
 pub mod KindRows
 pub mod RowLaw
 pub mod PutLaw

@@ -28,6 +28,7 @@ pub mod Rules
 pub mod Host
 pub mod Alike
 pub mod Tenants
+pub mod Drawn
 pub mod Legal
 pub mod Opened
 pub mod Past
@@ -42,6 +43,7 @@ pub mod FrameTexts
 pub mod Heads
 pub mod Routes
 pub mod Bodies
+pub mod RouteBodies
 pub mod Readings
 pub mod Cuts
 pub mod Replies

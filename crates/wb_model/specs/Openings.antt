@@ -1,13 +1,9 @@
 -- The opening that lists of tenants make: no report, no number drawn, no session.
-use Rattle.std.specs.Prelude.{◌≡◌, true, ℕ, ◌==◌, [], find, filter, unwrap_or, None, pos}
+use Rattle.std.specs.Prelude.{ℕ, ◌==◌, [], find, filter, unwrap_or, None, pos}
 use Rattle.wb_model.specs.declared.registry.Lists.{Lists}
 use Rattle.wb_model.specs.declared.registry.TenantItem.{TenantItem}
 use Rattle.wb_model.specs.Tables.{Registry}
 use Rattle.wb_model.specs.Host.{Tables}
-use Rattle.wb_model.specs.Legal.{ascends}
-use Rattle.wb_model.specs.Opened.{AreOpened}
-use Rattle.wb_model.specs.SetUps.{tenant_ids}
-use Rattle.wb_model.specs.Pasts.{AllOpened}
 
 -- settings of a tenant that is not there, which no reply shows
 abbrev pub no_settings : ℕ → TenantItem
@@ -26,13 +22,4 @@ abbrev pub empty_tables : Registry → Tables
 empty_tables g = record {
   plain = record { registry = g; numbering = record { at = 0; drawn = 0; last = 0 }; cases = []; sessions = [] };
   sealed = λ n. None;
-}
-
-abbrev pub opening_of : (lists : Lists) → ascends (tenant_ids lists) ≡ true → ((t : ℕ) → AreOpened 0 (empty_tables (registry_of lists t))) → AllOpened
-opening_of lists ids sound = record {
-  at = 0;
-  tenants = tenant_ids lists;
-  ids = ids;
-  tables = λ t. empty_tables (registry_of lists t);
-  sound = sound;
 }

@@ -10,7 +10,8 @@ use Rattle.wb_model.specs.declared.wire.WireFault.{WireFault}
 use Rattle.wb_model.specs.declared.wire.WireFault.TheVariants as faults
 use Rattle.wb_model.specs.Heads.{Fields, fields_of, path, declared_length, session, closes_by, closes, BeginsWithHead, HasNoHead}
 use Rattle.wb_model.specs.Routes.{Method, Path, number_of_path, path_at, segments, are_numbers, number_under, route}
-use Rattle.wb_model.specs.Bodies.{json, Numbers, bare, shaped}
+use Rattle.wb_model.specs.Bodies.{json}
+use Rattle.wb_model.specs.RouteBodies.{Numbers, bare, shaped}
 
 -- what is asked, or the fault, with whether the connection closes after it
 pub data Reading : Type 0 where

@@ -5,7 +5,8 @@ use Rattle.wb_base.specs.declared.faults.AnswerFault.{AnswerFault}
 use Rattle.wb_base.specs.declared.faults.FormFault.{FormFault}
 use Rattle.wb_base.specs.declared.faults.TheConstants.FormFault as form_codes
 use Rattle.wb_base.specs.declared.faults.TheConstants.AnswerFault.{UNKNOWN, MISSING, HIDDEN, WRONG_KIND, TOO_LONG}
-use Rattle.std.specs.Prelude.{◌==◌, if◌then◌else◌}
+use Rattle.std.specs.Prelude.{◌==◌, ◌&&◌, if◌then◌else◌, Bool}
+use Rattle.wb_base.specs.AnswerList.{is_text}
 use Rattle.wb_model.specs.declared.body.Told.{Told}
 use Rattle.wb_model.specs.Json.{told, object_of, whole, date}
 
@@ -70,6 +71,10 @@ receipt_taken = refused 409 (codes "receipt_taken") Null
 -- the host's last turn is made: what a step answers then in place of a turn, and changes nothing
 unfoldable pub turns_spent : Told
 turns_spent = refused 429 (codes "turns_spent") (Whole 1_000_000_000_000_000)
+
+-- a reply is that
+abbrev pub is_turns_spent : Told → Bool
+is_turns_spent told = (told.status == 429) && is_text told.body turns_spent.body
 
 abbrev pub answer_code : ℕ → List ℕ
 answer_code code =

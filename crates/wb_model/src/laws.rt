@@ -1,5 +1,5 @@
 //! Laws of the definitions, each a function with no body.
-ghost use Rattle.std.specs.Prelude.{◌≡◌, ◌+◌, ◌≤◌, ◌<◌, filter, map, ℕ, List, false, true, Some, option_and_then};
+ghost use Rattle.std.specs.Prelude.{◌≡◌, ◌+◌, ◌≤◌, ◌<◌, if◌then◌else◌, filter, map, ℕ, List, false, true, Some, option_and_then};
 ghost use Rattle.serde_json.specs.Read.{read};
 ghost use Rattle.std.specs.Prelude.{Bool, is_some, length, ℤ, None, ◌++◌, ◌∷◌, []};
 ghost use Rattle.wb_model.specs.declared.entry.Actor.{Actor};
@@ -39,7 +39,9 @@ ghost use Rattle.wb_model.specs.Alike.{HostsAlike, LaterAlike, SubmissionsAlike,
 ghost use Rattle.wb_model.specs.Rows.{rows, rows_but};
 ghost use Rattle.wb_model.specs.declared.wire.ScriptFrame.{ScriptFrame};
 ghost use Rattle.wb_model.specs.Playing.{ArePlacesOf, AreLossesTold};
-ghost use Rattle.wb_model.specs.Scripts.{play, Place, ArePossible, script_replies, past_after};
+ghost use Rattle.wb_model.specs.Drawn.{numbers_of, is_accepted};
+ghost use Rattle.wb_model.specs.Refusals.{turns_spent, is_turns_spent};
+ghost use Rattle.wb_model.specs.Scripts.{play, play_asked, Loss, Place, ArePossible, script_replies, past_after};
 ghost use Rattle.wb_model.specs.declared.registry.Lists.{Lists};
 ghost use Rattle.wb_model.specs.SetUps.{AreSetUp, tenant_ids};
 ghost use Rattle.wb_model.specs.KeptRules.{AreKept};
@@ -223,4 +225,15 @@ pub fn a_dialogue_stands_at_its_places()
 /// A reply to a frame is 503 or 507 exactly where something was lost there.
 pub fn losses_are_told()
     ensures { (past : Past AllOpened) (frames : List ScriptFrame) (places : List Place) → ArePlacesOf frames places → ArePossible past places → AreLossesTold past places }
+{}
+
+/// A turn draws one number where it is an accepted submission, and else none.
+pub fn an_accepted_submission_draws_a_number()
+    ensures { (past : Past AllOpened) (f : Frame) (loss : Loss) → numbers_of (standing_hosts (play_asked past f loss).past) ≡ numbers_of (standing_hosts past) + (if is_accepted f.asked.command (play_asked past f loss).reply.told then 1 else 0) }
+{}
+
+/// No turn, lost or not, is answered as the one that comes after the host's last.
+pub fn a_turn_is_not_answered_as_spent()
+    ensures told { is_turns_spent turns_spent ≡ true }
+    ensures others { (past : Past AllOpened) (f : Frame) (loss : Loss) → is_turns_spent (play_asked past f loss).reply.told ≡ false }
 {}

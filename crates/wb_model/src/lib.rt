@@ -26,9 +26,10 @@ pub use event::{Event, What};
 pub use laws::{
     a_dialogue_stands_at_its_places, a_gapped_past_lacks_the_report, a_host_opens_again,
     a_numbering_is_left_by_draws, a_submission_begins_a_report, a_submission_makes_hosts_alike,
-    a_turn_is_a_step_on_the_tables, a_turn_is_told_by_the_tables, a_turn_keeps_all_hosts_alike,
-    a_turn_keeps_hosts_alike, a_turn_keeps_trails_legal, absence_on_one_past, absence_over_scripts,
-    alike_scripts_get_the_same_replies, hosts_stand_for_their_past,
+    a_turn_is_a_step_on_the_tables, a_turn_is_not_answered_as_spent, a_turn_is_told_by_the_tables,
+    a_turn_keeps_all_hosts_alike, a_turn_keeps_hosts_alike, a_turn_keeps_trails_legal,
+    absence_on_one_past, absence_over_scripts, alike_scripts_get_the_same_replies,
+    an_accepted_submission_draws_a_number, hosts_stand_for_their_past,
     identity_answers_stand_where_the_trail_says_so, losses_are_told, sessions_stand_turn_by_turn,
     setups_and_kept_rows_make_openings, the_starter_form_is_good, verdicts_keep_trails_legal,
     what_is_not_refused_is_legal, what_is_set_stands_in_order,

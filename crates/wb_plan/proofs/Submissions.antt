@@ -23,6 +23,7 @@ use Rattle.wb_model.specs.ShortViews.{submission_view}
 use Rattle.wb_model.specs.Submissions.{Drawing, drawing, submission_entry}
 use Rattle.wb_model.specs.Tables.{Registry, Plain, Who, context, newest_form}
 use Rattle.wb_tables.specs.Places.{AreGoodForms}
+use Rattle.wb_tables.specs.Receipted.{is_submitted}
 use Rattle.wb_plan.specs.Plans.{submission_verdict, drawing_refusal, PlansSubmission, IsPlan, IsBegun, IsFitAtOnce, Gives, begins, change_of, IsAsking}
 use Rattle.wb_plan.specs.declared.plan.Planned.{Planned}
 use Rattle.wb_model.specs.declared.entry.Entry.{Entry}
@@ -111,17 +112,21 @@ gives_it (planned.LogsOut turn who) e given secret is same = absurd is
 gives_it (planned.Configures c) e given secret is same = absurd is
 
 -- a report has a number where nothing stands in the way of a draw
-pub fit_begun : (x : KeptTenancy) (c : Planned) (e : Entry) (given : Option Answered) → x.numbering.last < 4_294_967_295 → requests (e ∷ []) ≡ [] → IsBegun c e given → IsFitAtOnce x c
-fit_begun x (planned.Begins o) e given lt none is = (lt, (e, is.0), ap requests is.0 ∙ none)
-fit_begun x planned.Nothing e given lt none is = absurd is
-fit_begun x (planned.Notes n) e given lt none is = absurd is
-fit_begun x (planned.LogsIn l) e given lt none is = absurd is
-fit_begun x (planned.LogsOut turn who) e given lt none is = absurd is
-fit_begun x (planned.Configures c) e given lt none is = absurd is
+pub fit_begun : (x : KeptTenancy) (c : Planned) (e : Entry) (given : Option Answered) → x.numbering.last < 4_294_967_295 → requests (e ∷ []) ≡ [] → is_submitted (e ∷ []) ≡ true → IsBegun c e given → IsFitAtOnce x c
+fit_begun x (planned.Begins o) e given lt none first is = (lt, (e, is.0), ap requests is.0 ∙ none, ap is_submitted is.0 ∙ first)
+fit_begun x planned.Nothing e given lt none first is = absurd is
+fit_begun x (planned.Notes n) e given lt none first is = absurd is
+fit_begun x (planned.LogsIn l) e given lt none first is = absurd is
+fit_begun x (planned.LogsOut turn who) e given lt none first is = absurd is
+fit_begun x (planned.Configures c) e given lt none first is = absurd is
 
 pub asks_none : (at : At) (g : Registry) (o : Outcome) (c : ContextItem) (item : FormItem) → requests (submission_entry at g o c item ∷ []) ≡ []
 unfolding submission_entry
 asks_none at g o c item = refl
+
+pub submits : (at : At) (g : Registry) (o : Outcome) (c : ContextItem) (item : FormItem) → is_submitted (submission_entry at g o c item ∷ []) ≡ true
+unfolding submission_entry
+submits at g o c item = refl
 
 pub begun : (t : ℕ) (p : Plain) (at : At) (id : ℕ) (answers : Answered) (c : ContextItem) (item : FormItem) (given sealed : Answered) (m : Bool)
     → IsAsking p.registry id c item → submission_fault item.form answers ≡ None → drawing_refusal p.registry.settings.quota (drawing at p) ≡ None

@@ -26,6 +26,7 @@ use Rattle.wb_tables.specs.Configured.{IsReady as IsReadyToSet, row_of, setting_
 use Rattle.wb_tables.specs.Kept.{plain_of, live_plain}
 use Rattle.wb_tables.specs.Logins.{AreEarlier, login_of, session_of, who_seen}
 use Rattle.wb_tables.specs.Noted.{IsReady}
+use Rattle.wb_tables.specs.Receipted.{is_submitted}
 use Rattle.wb_plan.specs.declared.plan.At.{At as KeptAt}
 use Rattle.wb_plan.specs.declared.plan.Plan.{Plan}
 use Rattle.wb_plan.specs.declared.plan.Planned.{Planned}
@@ -86,11 +87,11 @@ IsLogin (planned.Configures c) session = ⊥
 
 -- ---- room
 
--- what a change that is planned at once asks of a tenant's tables but for room: a report that begins has a number and one entry,
--- which asks for no identity; and a login is made at a later turn than all others
+-- what a change that is planned at once asks of a tenant's tables but for room: a report that begins has a number and one entry, a
+-- submission, which asks for no identity; and a login is made at a later turn than all others
 abbrev pub IsFitAtOnce : KeptTenancy → Planned → Type 0
 IsFitAtOnce x planned.Nothing = Unit {0}
-IsFitAtOnce x (planned.Begins o) = (x.numbering.last < 4_294_967_295) × ((e : Entry) × (o.case.items ≡ e ∷ [])) × (requests o.case.items ≡ [])
+IsFitAtOnce x (planned.Begins o) = (x.numbering.last < 4_294_967_295) × ((e : Entry) × (o.case.items ≡ e ∷ [])) × (requests o.case.items ≡ []) × (is_submitted o.case.items ≡ true)
 IsFitAtOnce x (planned.LogsIn login) = AreEarlier login.turn (map session_of x.sessions.items)
 IsFitAtOnce x (planned.LogsOut turn who) = Unit {0}
 IsFitAtOnce x (planned.Notes n) = ⊥

@@ -1,5 +1,5 @@
 //! What is shown that is no single report: a tenant, a context, and to users lists and what the tenant is set up with.
-ghost use Rattle.std.specs.Prelude.{◌≡◌, ◌≤◌, ◌++◌, [], Some, None, true, is_some, length, map, filter, IfOk, OnOk};
+ghost use Rattle.std.specs.Prelude.{◌≡◌, ◌≤◌, ◌++◌, ◌&&◌, [], Some, None, true, is_some, length, map, filter, IfOk, OnOk};
 ghost use Rattle.wb_base.specs.Days.{day_of as day_at};
 ghost use Rattle.wb_base.specs.declared.callers.Presented.{Presented as Shown};
 ghost use Rattle.wb_model.specs.Access.{requests as asked_on};
@@ -9,6 +9,7 @@ ghost use Rattle.wb_model.specs.ListViews as lists;
 ghost use Rattle.wb_model.specs.Requests.{open_form, outline};
 ghost use Rattle.wb_model.specs.Tables.{TheUser, context as context_by};
 ghost use Rattle.wb_model.specs.TenantViews as tenants;
+ghost use Rattle.wb_model.specs.Trails.{reads as reads_by};
 ghost use Rattle.wb_model.specs.ViewRows as rows_of;
 ghost use Rattle.wb_plan.specs.Plans.{at_of};
 ghost use Rattle.wb_plan.specs.Steps.{IsLook, ShowsOpen, seen};
@@ -84,6 +85,13 @@ fn admin(alloc: Global, tenancy: &Tenancy) -> Result<Told, Memory>
     Ok(ok(text))
 }
 
+// Whether a report lives on a day and a user reads it.
+fn is_listed(report: &Report, today: Day, user: UserId) -> bool
+    ensures { result ≡ (lives_on today (case_of report.now) && reads_by user report.now.case.items) }
+{
+    lives(report, today) && reads(report, user)
+}
+
 // The rows of the live reports that a user reads.
 fn listed_rows(
     alloc: Global,
@@ -95,7 +103,7 @@ fn listed_rows(
 {
     let mut rows = Vec::new(alloc);
     for report in cases {
-        if lives(report, today) && reads(report, user) {
+        if is_listed(report, today, user) {
             rows.push(listed(alloc, report.number, &report.case)?)?;
         }
     }
@@ -118,7 +126,7 @@ fn dues_of(alloc: Global, cases: &[Report], today: Day, user: UserId) -> Result<
 {
     let mut rows = Vec::new(alloc);
     for report in cases {
-        if lives(report, today) && reads(report, user) {
+        if is_listed(report, today, user) {
             push_dues(&mut rows, report.number, &report.case)?;
         }
     }

@@ -7,4 +7,5 @@ pub mod Lookups
 pub mod NotedReports
 pub mod PlacesAt
 pub mod Purges
+pub mod ReceiptTables
 pub mod SessionLists

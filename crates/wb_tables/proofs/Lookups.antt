@@ -1,7 +1,9 @@
 -- What is found among what passes a test: what was found, where that passes.
-use Rattle.std.proofs.Common.{◌≡◌, ℕ, ℤ, Bor, Bool, true, false, cond, List, [], ◌∷◌, map, find, Option, Some, None, refl, sym, ap, ◌∙◌}
-use Rattle.std.specs.Prelude.{filter, ◌&&◌, ◌||◌, option_map, is_some, if◌then◌else◌}
-use Rattle.wb_model.specs.Tables.{Case, has_number, report, is_there, is_live}
+use Rattle.std.proofs.Common.{◌≡◌, ℕ, ℤ, Bor, Bool, true, false, cond, List, [], ◌∷◌, map, find, Option, Some, None, refl, sym, ap, ◌∙◌, subst}
+use Rattle.std.specs.Prelude.{filter, ◌&&◌, ◌||◌, option_and_then, option_map, is_some, if◌then◌else◌, IfSome}
+use Rattle.wb_base.specs.declared.words.Digest.{Digest}
+use Rattle.wb_model.specs.Access.{requests}
+use Rattle.wb_model.specs.Tables.{Case, has_number, has_receipt, report, with_receipt, is_there, is_live}
 use Rattle.wb_model.specs.Opened.{Apart}
 use Rattle.wb_tables.specs.Kept.{case_of, plain_of, live_plain, lives_on}
 use Rattle.wb_base.specs.Days.{day_of}
@@ -38,11 +40,48 @@ find_kept {K} {X} P k Q (x ∷ xs) o = by (find_kept P k Q xs o.1) (P k x) (Q x)
 
 -- ---- reports
 
--- what the code found
+-- what the code found, of the reports with a key, of which there is one at most
+kept_live : {K : Type 0} (P : K → Case → Bool) (k : K) (x : KeptTenancy) (time : ℕ) (today : ℤ) (o : Option KeptCase) → Apart P (plain_of x).cases → today ≡ day_of time x.configuration.registry.settings.offset → option_map case_of o ≡ find (P k) (map case_of x.cases.items)
+    → kept (lives_on today) (option_map case_of o) ≡ find (P k) (live_plain time (plain_of x)).cases
+kept_live P k x time today o apart day found =
+    ap (λ d. kept (lives_on d) (option_map case_of o)) day ∙ (ap (kept (is_live x.configuration.registry.settings time)) found ∙ sym (find_kept P k (is_live x.configuration.registry.settings time) (map case_of x.cases.items) apart))
+
 pub report_kept : (x : KeptTenancy) (time n : ℕ) (today : ℤ) (o : Option KeptCase) → Apart has_number (plain_of x).cases → today ≡ day_of time x.configuration.registry.settings.offset → option_map case_of o ≡ report n (map case_of x.cases.items)
     → kept (lives_on today) (option_map case_of o) ≡ report n (live_plain time (plain_of x)).cases
-report_kept x time n today o apart day found =
-    ap (λ d. kept (lives_on d) (option_map case_of o)) day ∙ (ap (kept (is_live x.configuration.registry.settings time)) found ∙ sym (find_kept has_number n (is_live x.configuration.registry.settings time) (map case_of x.cases.items) apart))
+report_kept x time n today o apart day found = kept_live has_number n x time today o apart day found
+
+pub receipt_kept : (x : KeptTenancy) (time : ℕ) (d : Digest) (today : ℤ) (o : Option KeptCase) → Apart has_receipt (plain_of x).cases → today ≡ day_of time x.configuration.registry.settings.offset → option_map case_of o ≡ with_receipt d (map case_of x.cases.items)
+    → kept (lives_on today) (option_map case_of o) ≡ with_receipt d (live_plain time (plain_of x)).cases
+receipt_kept x time d today o apart day found = kept_live has_receipt d x time today o apart day found
+
+-- what was found, where it lives
+abbrev Living : ℤ → Option (Bor KeptCase) → Option (Bor KeptCase) → Type 0
+Living today found o = o ≡ option_and_then (λ (r : Bor KeptCase). if lives_on today (case_of r.now) then Some r else None) found
+
+living_kept : (today : ℤ) (found : Option (Bor KeptCase)) → option_map case_of (option_copied (option_and_then (λ (r : Bor KeptCase). if lives_on today (case_of r.now) then Some r else None) found)) ≡ kept (lives_on today) (option_map case_of (option_copied found))
+living_kept today None = refl
+living_kept today (Some r) = by (lives_on today (case_of r.now))
+  where
+    by : (b : Bool) → option_map case_of (option_copied (cond b (Some r) None)) ≡ cond b (Some (case_of r.now)) None
+    by true = refl
+    by false = refl
+
+pub living_found : (today : ℤ) (found o : Option (Bor KeptCase)) → Living today found o → {w : Option Case} → kept (lives_on today) (option_map case_of (option_copied found)) ≡ w → option_map case_of (option_copied o) ≡ w
+living_found today found o is e = ap (λ p. option_map case_of (option_copied p)) is ∙ (living_kept today found ∙ e)
+
+abbrev Custodied : Option (Bor KeptCase) → Type 0
+Custodied o = IfSome o (λ (r : Bor KeptCase). r.now.desk.items ≡ requests r.now.case.items)
+
+living_still : (today : ℤ) (found : Option (Bor KeptCase)) → Custodied found → Custodied (option_and_then (λ (r : Bor KeptCase). if lives_on today (case_of r.now) then Some r else None) found)
+living_still today None all = tt
+living_still today (Some r) all = by (lives_on today (case_of r.now))
+  where
+    by : (b : Bool) → Custodied (cond b (Some r) None)
+    by true = all
+    by false = tt
+
+pub living_custodied : (today : ℤ) (found o : Option (Bor KeptCase)) → Living today found o → Custodied found → Custodied o
+living_custodied today found o is all = subst Custodied (sym is) (living_still today found all)
 
 pub there-found : (n : ℕ) (cs : List Case) → is_there n cs ≡ is_some (report n cs)
 there-found n [] = refl

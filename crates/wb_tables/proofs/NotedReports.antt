@@ -30,7 +30,7 @@ use Rattle.wb_model.specs.Access.{requests}
 use Rattle.wb_model.specs.Host.{noted}
 use Rattle.wb_model.specs.Opened.{Apart}
 use Rattle.wb_model.specs.Tables.{Case, has_number, is_there, report}
-use Rattle.wb_model.specs.Trails.{expires, has_identity}
+use Rattle.wb_model.specs.Trails.{expires, has_identity, submission_in}
 use Rattle.wb_model.proofs.Found.{find_true}
 use Rattle.wb_model.proofs.Leaving.{apart_map}
 use Rattle.wb_terms.specs.Index.{same_term}
@@ -41,6 +41,7 @@ use Rattle.wb_tables.specs.Noted.{IsActed, IsMoved, IsNoted, IsReady}
 use Rattle.wb_tables.specs.declared.tenancy.Report.{Report as KeptCase}
 use Rattle.wb_tables.proofs.CaseLists.{number_of, report-found}
 use Rattle.wb_tables.proofs.Indexes.{any_filter, any_found, some_none, term_is, term_self}
+use Rattle.wb_tables.proofs.ReceiptTables.{act_later, move_later}
 
 -- ---- which one is found
 
@@ -432,6 +433,7 @@ acted_ready n at by act cs x y (Ok e) found number acted = λ actor.
       report = y;
       found = changed_found n cs x y found number;
       roomy = record { room = acted.room; few = acted.few; desk = subst (HasRoom y.desk) (sym deed) (act_room y.desk x.case.items act); actor = actor };
+      later = ap submission_in deed ∙ act_later x.case.items act;
     }
 
 pub acted_custodied : (n at : ℕ) (by : Actor) (act : Act) (cs : List KeptCase) (x y : KeptCase) (answer : Result Entry CaseFault) → AreCustodied cs → find (has_key nat_cmp number_of n) cs ≡ Some x → IsActed at by act x y answer → AreCustodied (insert_item nat_cmp number_of cs y)
@@ -441,7 +443,12 @@ acted_custodied n at by act cs x y answer all found acted =
 pub moved_ready : (n at : ℕ) (by : Actor) (move : Move) (cs : List KeptCase) (x y : KeptCase) (answer : Result Entry CustodyFault) → find (has_key nat_cmp number_of n) cs ≡ Some x → y.number ≡ x.number → IsMoved at by move x y answer
     → IfOk answer (λ e. IsReady n e (insert_item nat_cmp number_of cs y))
 moved_ready n at by move cs x y (Err fault) found number made = tt
-moved_ready n at by move cs x y (Ok e) found number made = record { report = y; found = changed_found n cs x y found number; roomy = made.roomy }
+moved_ready n at by move cs x y (Ok e) found number made = record {
+  report = y;
+  found = changed_found n cs x y found number;
+  roomy = made.roomy;
+  later = ap (λ (z : Entry). submission_in z.deed) made.plan.1 ∙ move_later at move;
+}
 
 pub moved_custodied : (n at : ℕ) (by : Actor) (move : Move) (cs : List KeptCase) (x y : KeptCase) (answer : Result Entry CustodyFault) → AreCustodied cs → find (has_key nat_cmp number_of n) cs ≡ Some x → IsMoved at by move x y answer → AreCustodied (insert_item nat_cmp number_of cs y)
 moved_custodied n at by move cs x y answer all found made =

@@ -6,4 +6,5 @@ pub mod Lives
 pub mod Logins
 pub mod Noted
 pub mod Places
+pub mod Receipted
 pub mod Standing

@@ -1,5 +1,5 @@
 -- What is planned and done on a report in its place in the table.
-use Rattle.std.specs.Prelude.{◌≡◌, ◌<◌, ◌≤◌, ◌++◌, ◌∷◌, [], ℕ, ℤ, true, List, length, find, Some, Result, IfOk, OnOk}
+use Rattle.std.specs.Prelude.{◌≡◌, ◌<◌, ◌≤◌, ◌++◌, ◌∷◌, [], ℕ, ℤ, true, List, length, find, None, Some, Result, IfOk, OnOk}
 use Rattle.std.specs.Ordering.{nat_cmp}
 use Rattle.wb_list.specs.Keyed.{has_key}
 use Rattle.wb_case.specs.Plans.{GivesPlan}
@@ -14,7 +14,7 @@ use Rattle.wb_model.specs.declared.entry.Actor.{Actor}
 use Rattle.wb_model.specs.declared.entry.Entry.{Entry}
 use Rattle.wb_model.specs.Access.{requests}
 use Rattle.wb_model.specs.Legal.{right_actor}
-use Rattle.wb_model.specs.Trails.{has_identity, expires}
+use Rattle.wb_model.specs.Trails.{has_identity, expires, submission_in}
 use Rattle.wb_tables.specs.declared.tenancy.Report.{Report}
 
 -- there is room on a report for an entry, which is by whom it may be
@@ -24,11 +24,12 @@ pub record IsRoomy (e : Entry) (r : Report) : Type 0 where
   pub desk : HasRoom r.desk e.deed
   pub actor : right_actor e.deed e.by ≡ true
 
--- the report of a number is there, with room for an entry
+-- the report of a number is there, with room for an entry, which is no submission
 pub record IsReady (n : ℕ) (e : Entry) (reports : List Report) : Type 0 where
   pub report : Report
   pub found : find (has_key nat_cmp (λ (r : Report). r.number) n) reports ≡ Some report
   pub roomy : IsRoomy e report
+  pub later : submission_in e.deed ≡ None
 
 -- an act was planned: the report is as it was, but for its room
 pub record IsActed (at : ℕ) (by : Actor) (act : Act) (old new : Report) (answer : Result Entry CaseFault) : Type 0 where

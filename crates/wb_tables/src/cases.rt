@@ -1,5 +1,5 @@
-//! The reports of a tenant, and the days on which they expire.
-ghost use Rattle.std.specs.Prelude.{◌≡◌, ◌+◌, ◌<◌, ◌≤◌, ◌++◌, ◌∷◌, [], ℕ, true, false, not, length, map, filter, List, Some, IfOk, OnOk, OnErr, IfSome, OnSome, IfNone, option_map};
+//! The reports of a tenant, the days on which they expire, and their receipts.
+ghost use Rattle.std.specs.Prelude.{◌≡◌, ◌+◌, ◌<◌, ◌≤◌, ◌++◌, ◌∷◌, [], ℕ, true, false, not, length, map, filter, List, None, Some, IfOk, OnOk, OnErr, IfSome, OnSome, IfNone, option_map};
 ghost use Rattle.std.specs.List.{list_any};
 ghost use Rattle.std.specs.Option.{option_copied};
 ghost use Rattle.std.specs.Ordering.{int_eq, nat_cmp};
@@ -10,12 +10,13 @@ ghost use Rattle.wb_model.specs.Access.{requests};
 ghost use Rattle.wb_model.specs.Host.{noted};
 ghost use Rattle.wb_model.specs.Legal.{is_reporter, right_actor};
 ghost use Rattle.wb_model.specs.Opened.{AtMost};
-ghost use Rattle.wb_model.specs.Tables.{is_there, report as report_by};
-ghost use Rattle.wb_model.specs.Trails.{has_identity};
+ghost use Rattle.wb_model.specs.Tables.{is_there, report as report_by, with_receipt as with_receipt_by};
+ghost use Rattle.wb_model.specs.Trails.{has_identity, submitted};
 ghost use Rattle.wb_model.specs.declared.entry.Entry.{Entry as EntryData};
-ghost use Rattle.wb_tables.specs.Indexed.{AreCustodied, AreExpired, AreFewRequests, IsTakenOut, is_begun, expiry_of, moved};
+ghost use Rattle.wb_tables.specs.Indexed.{AreCustodied, AreExpired, AreFewRequests, IsTakenOut, expiry_of, moved};
 ghost use Rattle.wb_tables.specs.Lives.{case_of, lives_on};
 ghost use Rattle.wb_tables.specs.Noted.{IsReady};
+ghost use Rattle.wb_tables.specs.Receipted.{HasOwnReceipt, is_submitted};
 ghost use Rattle.wb_terms.specs.Index.{same_term};
 ghost use Rattle.wb_terms.specs.declared.term_index.Term.{Term as TermData};
 
@@ -23,30 +24,33 @@ use crate::noting::{Acting, Moving, Noting, expires};
 use crate::tenancy::Report;
 use std::alloc::Global;
 use std::marker::Model;
-use wb_base::{Day, Kind, Memory, Moment, Number, Tenant};
+use wb_access::ReceiptBox;
+use wb_base::{Day, Digest, Kind, Memory, Moment, Number, Tenant};
 use wb_list::Sorted;
-use wb_model::{Act, Actor, CaseFault, CustodyFault, Entry, Move};
+use wb_model::{Act, Actor, CaseFault, CustodyFault, Deed, Entry, Move};
 use wb_terms::{Term, TermIndex};
 
-/// The reports of a tenant, in the order of their numbers. Those that do not live on a day are found without a walk
-/// over the others.
+/// The reports of a tenant, in the order of their numbers. Those that do not live on a day, and that with a receipt, are
+/// found without a walk over the others.
 #[derive(Drop)]
 pub struct Cases {
     tenant: Tenant,
     cases: Sorted<Report>,
     terms: TermIndex,
+    receipts: ReceiptBox,
 }
 
 impl Model for Cases {
     ghost use Rattle.std.specs.Prelude.{map, min};
     ghost use Rattle.wb_tables.specs.Indexed.{Reports, IsIndexed, AreCustodied};
     ghost use Rattle.wb_tables.specs.Lives.{case_of};
+    ghost use Rattle.wb_tables.specs.Receipted.{AreReceipted};
 
     ghost Value = { Reports };
 
-    ghost view = { λ c. record { tenant = c.tenant; items = c.cases.items; spare = min c.cases.spare c.terms.spare } };
+    ghost view = { λ c. record { tenant = c.tenant; items = c.cases.items; spare = min c.cases.spare (min c.terms.spare c.receipts.spare) } };
 
-    ghost invariant = { λ c. IsIndexed c.tenant (map case_of c.cases.items) c.terms.items × AreCustodied c.cases.items };
+    ghost invariant = { λ c. IsIndexed c.tenant (map case_of c.cases.items) c.terms.items × AreCustodied c.cases.items × AreReceipted c.tenant (map case_of c.cases.items) c.receipts.items };
 }
 
 // The day on which a report expires, as a term.
@@ -59,6 +63,19 @@ fn expiry(tenant: Tenant, report: &Report) -> Term
         number: report.number,
         kind: Kind::Expiry,
     }
+}
+
+// The digest of the receipt that a trail's submission has, where there is one.
+fn receipt(trail: &[Entry]) -> Option<Digest>
+    ensures { option_map (λ digest. digest.0) result ≡ submitted (λ s. Some s.receipt) None trail.now }
+{
+    let mut found = None;
+    for entry in trail {
+        if let Deed::Submitted { receipt, .. } = &entry.deed {
+            found = Some(*receipt);
+        }
+    }
+    found
 }
 
 // Moves a term to a day, into room that was made. On another day it is not there yet.
@@ -84,6 +101,7 @@ impl Cases {
             tenant,
             cases: Sorted::new(alloc),
             terms: TermIndex::new(alloc),
+            receipts: ReceiptBox::new(alloc),
         }
     }
 
@@ -104,6 +122,15 @@ impl Cases {
         self.cases.find(&number)
     }
 
+    /// The report whose receipt has a digest, found by two binary searches.
+    pub fn with_receipt(&self, digest: &Digest) -> Option<&Report>
+        ensures found { option_map case_of (option_copied result) ≡ with_receipt_by digest.now (map case_of self.now.items) }
+        ensures custodied { IfSome result (λ report. report.now.desk.items ≡ requests report.now.case.items) }
+    {
+        let number = self.receipts.find(self.tenant, digest)?;
+        self.cases.find(&number.get())
+    }
+
     /// Makes room for one more report, or one more entry of one.
     pub fn reserve(&mut self) -> Result<(), Memory>
         ensures tenant { self.new.tenant ≡ self.old.tenant }
@@ -112,22 +139,31 @@ impl Cases {
         ensures kept { self.old.spare ≤ self.new.spare }
     {
         self.terms.reserve(1)?;
+        if self.receipts.reserve().is_err() {
+            return Err(Memory);
+        }
         self.cases.reserve(1)
     }
 
-    /// Adds a report with the greatest number, into room that was made. It takes no memory.
+    /// Adds a report with the greatest number and a receipt of its own, into room that was made. It takes no memory.
     pub fn add(&mut self, report: Report)
         requires room { 0 < self.old.spare }
         requires above { (last : ℕ) × (AtMost last (map case_of self.old.items) × (last < report.number)) }
-        requires begun { is_begun (case_of report) ≡ true }
+        requires submitted { is_submitted report.case.items ≡ true }
+        requires own { HasOwnReceipt report.case.items (map case_of self.old.items) }
         requires custodied { report.desk.items ≡ requests report.case.items }
         ensures tenant { self.new.tenant ≡ self.old.tenant }
         ensures items { self.new.items ≡ self.old.items ++ report ∷ [] }
         ensures room { self.old.spare ≤ self.new.spare + 1 }
     {
+        let Some(digest) = receipt(report.case.trail().as_slice()) else {
+            unreachable!();
+        };
         let term = expiry(self.tenant, &report);
+        let number = report.number;
         self.cases.add(report);
         self.terms.add(term);
+        self.receipts.add(self.tenant, digest, number);
     }
 
     /// The entry of an act on the report of a number, with room for it there, or the first rule that refuses it.
@@ -205,6 +241,7 @@ impl Cases {
         let term = self.terms.first_up_to(self.tenant, today, Kind::Expiry)?;
         self.cases.take(&term.number.get());
         self.terms.remove(&term);
+        self.receipts.remove(self.tenant, term.number);
         Some(term.number)
     }
 }

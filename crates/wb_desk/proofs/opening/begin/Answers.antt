@@ -29,7 +29,7 @@ pub add_reports-requires-clause-to_come : goal.add_reports-requires-clause-to_co
 add_reports-requires-clause-to_come c =
     let h = with_setup c.args.setup.now.lists (held_by c.args.kept) in
     let places = c.in_ok-tenancies.ensures ∙ (λ i. held_places (bare (c.in_ok-registry.ensures i) (c.as_slice-3.ensures i))) in
-    subst (AllByRecursion (AreToCome h.reports)) (sym (ap (λ (ks : List KeptTenancy). map place_of ks) c.deref_mut.ensures.value ∙ places)) (none_come_yet h c.requires.keys (tenant_ids h.lists))
+    subst (AllByRecursion (AreToCome h.reports)) (sym (ap (λ (ks : List KeptTenancy). map place_of ks) c.deref_mut.ensures.value ∙ places)) (none_come_yet h c.requires.keys c.requires.receipts (tenant_ids h.lists))
 
 pub returns-clause-places : goal.returns-clause-places
 returns-clause-places c =

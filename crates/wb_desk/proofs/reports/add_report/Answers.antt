@@ -12,6 +12,12 @@ add_case-requires-clause-above c =
     let at = c.in-Some.ensures in
     c.requires.above (place_of (slice_index_or c.args.tenancies.now c.in-Some.at d)) (place_found 0 c.args.item.tenant c.in-Some.at c.args.tenancies.now d c.requires.ids at.within (at.id d ∙ c.id.ensures.value))
 
+pub add_case-requires-clause-own : goal.add_case-requires-clause-own
+add_case-requires-clause-own c =
+    let d = c.index-tenancies-at.result in
+    let at = c.in-Some.ensures in
+    c.requires.own (place_of (slice_index_or c.args.tenancies.now c.in-Some.at d)) (place_found 0 c.args.item.tenant c.in-Some.at c.args.tenancies.now d c.requires.ids at.within (at.id d ∙ c.id.ensures.value))
+
 pub returns-in-Some : goal.returns-in-Some
 returns-in-Some c =
     let d = c.index-tenancies-at.result in

@@ -4,7 +4,7 @@ use Rattle.wb_rows.specs.Held.{Report, case_report}
 use Rattle.wb_rows.specs.TrailRule.{is_legal_report}
 use Rattle.wb_tables.specs.Kept.{place_of}
 use Rattle.wb_desk.specs.Openings.{AreToCome, with_reports}
-use Rattle.wb_desk.proofs.KeptReports.{Rise, still_rise, all_still_come, found_below, legal_left, reports_step, none_left, none_of}
+use Rattle.wb_desk.proofs.KeptReports.{Rise, still_rise, all_still_come, found_below, found_own, legal_left, reports_step, none_left, none_of}
 use Rattle.wb_desk.proofs.reports.add_reports.Goals as goal
 
 pub add_report-requires-clause-above : goal.add_report-requires-clause-above
@@ -13,6 +13,13 @@ add_report-requires-clause-above c = λ x found.
     let rest = map case_report c.next.new.self.rest.items in
     let split = ap (map case_report) c.in-Some.ensures.steps.0 in
     found_below (case_report c.in-Some.item) rest ps x (subst (λ (l : List Report). AllByRecursion (AreToCome l) ps) split c.loop-item.invariant.to_come) found
+
+pub add_report-requires-clause-own : goal.add_report-requires-clause-own
+add_report-requires-clause-own c = λ x found.
+    let ps = map place_of c.loop-item.tenancies in
+    let rest = map case_report c.next.new.self.rest.items in
+    let split = ap (map case_report) c.in-Some.ensures.steps.0 in
+    found_own (case_report c.in-Some.item) rest ps x (subst (λ (l : List Report). AllByRecursion (AreToCome l) ps) split c.loop-item.invariant.to_come) found
 
 pub loop-item-preserved : goal.loop-item-preserved
 loop-item-preserved c =

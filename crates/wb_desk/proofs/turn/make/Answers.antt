@@ -20,6 +20,12 @@ open_case-requires-clause-begun c = (subst (IsFit c.args.time c.args.tenancy.now
 pub open_case-requires-clause-none : goal.open_case-requires-clause-none
 open_case-requires-clause-none c = (subst (IsFit c.args.time c.args.tenancy.now) c.in-Begins.is c.requires.room.fit).2
 
+pub open_case-requires-clause-submitted : goal.open_case-requires-clause-submitted
+open_case-requires-clause-submitted c = (subst (IsFit c.args.time c.args.tenancy.now) c.in-Begins.is c.requires.room.fit).3
+
+pub open_case-requires-clause-own : goal.open_case-requires-clause-own
+open_case-requires-clause-own c = subst (IsOwn (plain_of c.args.tenancy.now)) c.in-Begins.is c.requires.own
+
 pub open_case-requires-clause-room : goal.open_case-requires-clause-room
 open_case-requires-clause-room c = (subst (HasRoom c.args.tenancy.now c.args.sealed.now.spare) c.in-Begins.is c.requires.room.room).0
 
@@ -68,7 +74,7 @@ pub returns-in-LogsOut-clause-tables : goal.returns-in-LogsOut-clause-tables
 returns-in-LogsOut-clause-tables c =
     subst (λ change. tables_of c.args.sealed.now.items (place_of c.log_out.new.tenancy) ≡ changed c.args.time (planned_change c.args.tenancy.now change) (given_of change) (tables_of c.args.sealed.now.items (place_of c.args.tenancy.now))) (sym c.in-LogsOut.is)
     (tables_made c.args.sealed.now.items c.args.sealed.now.items (place_of c.args.tenancy.now) (place_of c.log_out.new.tenancy) c.args.time (LogsOut c.in-LogsOut.turn (who_seen c.in-LogsOut.field-1)) (given_of c.args.change) c.log_out.ensures.id
-    (c.log_out.ensures.plain c.args.time (who_seen c.in-LogsOut.field-1) (subst (IsOwn (plain_of c.args.tenancy.now).sessions) c.in-LogsOut.is c.requires.own)) (λ k. refl))
+    (c.log_out.ensures.plain c.args.time (who_seen c.in-LogsOut.field-1) (subst (IsOwn (plain_of c.args.tenancy.now)) c.in-LogsOut.is c.requires.own)) (λ k. refl))
 
 -- ---- a setting is put in
 

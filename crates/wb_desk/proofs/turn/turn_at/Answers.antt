@@ -40,8 +40,8 @@ make_at-requires-clause-room g c =
 
 pub make_at-requires-clause-own : goal.make_at-requires-clause-own
 make_at-requires-clause-own g c = λ d.
-    own_at c.requires.places.0 c.args.place c.args.at.now c.args.asked.now c.in-Ok.batched.plan c.args.sealed.now.items c.args.tenancies.now c.purge_all.new.tenancies d c.requires.places.2
-    (c.purge_all.ensures.places ∙ ap (map (live_place c.args.at.now.time)) c.prepare_at.ensures.tenants_left) c.requires.place.within (c.in-Ok.ensures.plan d)
+    own_at c.requires.places.0 c.args.place c.args.at.now c.args.asked.now c.in-Ok.batched.plan c.args.sealed.now.items c.args.tenancies.now c.purge_all.new.tenancies d (slice_index_or c.prepare_at.new.tenancies c.args.place d) c.requires.places.2
+    (c.purge_all.ensures.places ∙ ap (map (live_place c.args.at.now.time)) c.prepare_at.ensures.tenants_left) c.requires.place.within (c.in-Ok.ensures.room d).fit (c.in-Ok.ensures.plan d)
 
 pub returns-clause-turn : goal.returns-clause-turn
 returns-clause-turn g c =

@@ -7,7 +7,7 @@ use Rattle.wb_plan.specs.Targeted.{told_of}
 use Rattle.wb_tables.specs.Kept.{plain_of, live_plain}
 use Rattle.wb_plan.proofs.Results.{ok_both}
 use Rattle.wb_plan.proofs.Steps.{refused_plan}
-use Rattle.wb_plan.proofs.Submissions.{sound_context, hindered, begun, fit_begun, asks_none, number_left}
+use Rattle.wb_plan.proofs.Submissions.{sound_context, hindered, begun, fit_begun, asks_none, number_left, submits}
 use Rattle.wb_plan.proofs.submission.draw_number.Goals as goal
 
 pub begin-requires-clause-low : goal.begin-requires-clause-low
@@ -35,4 +35,4 @@ returns-in-None-clause-plan c =
     c.begin.ensures.told c.begin.ensures.change
 
 pub returns-in-None-clause-fit : goal.returns-in-None-clause-fit
-returns-in-None-clause-fit c = IfOk-weaker c.begin.result _ _ (λ plan begun. fit_begun c.args.tenancy.now plan.change _ _ (number_left c.args.tenancy.now.configuration.registry.settings.quota _ (sym c.hindrance.ensures ∙ ap (option_map told_of) c.in-None.is)) (asks_none _ _ _ _ _) begun) c.begin.ensures.change
+returns-in-None-clause-fit c = IfOk-weaker c.begin.result _ _ (λ plan begun. fit_begun c.args.tenancy.now plan.change _ _ (number_left c.args.tenancy.now.configuration.registry.settings.quota _ (sym c.hindrance.ensures ∙ ap (option_map told_of) c.in-None.is)) (asks_none _ _ _ _ _) (submits _ _ _ _ _) begun) c.begin.ensures.change

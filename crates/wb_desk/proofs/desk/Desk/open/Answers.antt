@@ -7,7 +7,7 @@ use Rattle.wb_model.specs.Legal.{ascends}
 use Rattle.wb_model.specs.SetUps.{has_tenant, tenant_ids}
 use Rattle.wb_model.specs.Tenants.{Hosts}
 use Rattle.wb_rows.specs.Held.{held_by}
-use Rattle.wb_rows.specs.Openings.{tenancies_of, time_of, with_setup}
+use Rattle.wb_rows.specs.Openings.{tables_of, tenancies_of, time_of, with_setup}
 use Rattle.wb_tables.specs.Kept.{place_of, tenancy_of}
 use Rattle.wb_tables.specs.Standing.{hosts_of}
 use Rattle.wb_desk.specs.Desks.{IsDesk}
@@ -21,6 +21,11 @@ pub keep-requires : goal.keep-requires
 keep-requires g c =
     let setup = c.args.setup.now.lists in
     subst (λ (changes : List Change). All IsGoodChange changes) (sym (c.as_slice.ensures.value ∙ c.in_ok-time.ensures.batch)) (setup_puts_good setup c.in_ok-kept.kept.registry.lists)
+
+pub begin-requires-clause-receipts : goal.begin-requires-clause-receipts
+begin-requires-clause-receipts g c = λ t.
+    let h = held_by c.in_ok-kept.kept in
+    (c.setups_and_kept_rows_make_openings.ensures.kept_rows (time_of h) h.lists t (tables_of h t) (c.in_ok-kept.ensures.kept t)).receipts
 
 pub invariant_of-result : goal.invariant_of-result
 invariant_of-result g c =

@@ -5,6 +5,7 @@ use Rattle.wb_list.specs.Keyed.{has_key}
 use Rattle.wb_model.specs.declared.entry.Entry.{Entry}
 use Rattle.wb_tables.specs.Indexed.{Reports, IsIndexed, AreCustodied}
 use Rattle.wb_tables.specs.Lives.{case_of}
+use Rattle.wb_tables.specs.Receipted.{AreReceipted}
 use Rattle.wb_tables.proofs.CaseLists.{number_of}
 use Rattle.wb_tables.proofs.NotedReports.{found_there, trail_is, kept_cases, acted_ready, acted_custodied}
 use Rattle.wb_tables.proofs.cases.Cases.act.Goals as goal
@@ -21,6 +22,7 @@ invariant_of-self c =
     let same = ap (map case_of) made.5 ∙ kept_cases c.args.number c.self.inside.cases.items made.0 made.1 c.change.ensures.ascending found made.3 made.4.items in (
       subst (λ cs. IsIndexed c.self.inside.tenant cs c.self.inside.terms.items) (sym same) c.self.invariant.0,
       subst AreCustodied (sym made.5) (acted_custodied c.args.number c.args.at c.args.by c.args.act c.self.inside.cases.items made.0 made.1 c.change.result c.self.invariant.1 found made.4),
+      subst (λ cs. AreReceipted c.self.inside.tenant cs c.self.inside.receipts.items) (sym same) c.self.invariant.2,
     )
 
 pub returns-clause-cases : goal.returns-clause-cases

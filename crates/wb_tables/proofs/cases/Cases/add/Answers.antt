@@ -2,10 +2,15 @@ use Rattle.std.proofs.Common.{◌≡◌, ◌<◌, ◌++◌, ◌∷◌, [], ℕ, 
 use Rattle.wb_model.specs.Opened.{AtMost}
 use Rattle.wb_tables.specs.Indexed.{Reports, IsIndexed, AreCustodied}
 use Rattle.wb_tables.specs.Lives.{case_of}
+use Rattle.wb_tables.specs.Receipted.{AreReceipted, HasOwnReceipt}
 use Rattle.wb_tables.proofs.CaseLists.{absent_above, insert_above, map_push}
 use Rattle.wb_tables.proofs.Indexes.{free_term, indexed_more}
 use Rattle.wb_tables.proofs.NotedReports.{custodied_pushed}
+use Rattle.wb_tables.proofs.ReceiptTables.{begun_by, free_receipt, given_is, given_some, receipted_more}
 use Rattle.wb_tables.proofs.cases.Cases.add.Goals as goal
+
+pub unreachable-requires : goal.unreachable-requires
+unreachable-requires c = given_some c.as_slice.result.now c.args.report.case.items (c.as_slice.ensures ∙ c.trail.ensures) c.requires.submitted c.in_default.ensures
 
 above : (c : goal.After-add-arg-1) → (last : ℕ) × (AtMost last (map case_of c.self.inside.cases.items) × (last < c.args.report.number))
 above c = rw (← ap (λ (r : Reports). r.items) c.self.view_is) at c.requires.above
@@ -18,13 +23,21 @@ add-requires-2-clause-free c =
     let a : (last : ℕ) × (AtMost last (map case_of c.self.inside.cases.items) × (last < c.args.report.number)) = rw (← ap (λ (r : Reports). r.items) c.self.view_is) at c.requires.above in
     rw c.expiry-term.ensures (free_term c.self.inside.tenant a.0 (map case_of c.self.inside.cases.items) c.self.inside.terms.items (case_of c.args.report) c.self.invariant.0 a.1.0 a.1.1)
 
+pub add-requires-3-clause-free : goal.add-requires-3-clause-free
+add-requires-3-clause-free c =
+    let own : HasOwnReceipt c.args.report.case.items (map case_of c.self.inside.cases.items) = rw (← ap (λ (r : Reports). r.items) c.self.view_is) at c.requires.own in
+    free_receipt c.self.inside.tenant (map case_of c.self.inside.cases.items) c.self.inside.receipts.items c.in-Some.digest c.args.report.case.items c.self.invariant.2 (given_is c.as_slice.result.now c.args.report.case.items c.in-Some.digest (c.as_slice.ensures ∙ c.trail.ensures) c.requires.submitted c.in-Some.ensures) own
+
 pub invariant_of-self : goal.invariant_of-self
 invariant_of-self c =
     let a : (last : ℕ) × (AtMost last (map case_of c.self.inside.cases.items) × (last < c.args.report.number)) = rw (← ap (λ (r : Reports). r.items) c.self.view_is) at c.requires.above in
+    let own : HasOwnReceipt c.args.report.case.items (map case_of c.self.inside.cases.items) = rw (← ap (λ (r : Reports). r.items) c.self.view_is) at c.requires.own in
     let more : c.add.new.self.items ≡ c.self.inside.cases.items ++ c.args.report ∷ [] = c.add.ensures.items ∙ insert_above a.0 c.self.inside.cases.items c.args.report a.1.0 a.1.1 in (
       subst (λ (cs : List _). IsIndexed c.self.inside.tenant cs c.add-2.new.self.items) (sym (ap (map case_of) more ∙ map_push c.self.inside.cases.items c.args.report))
-          (indexed_more c.self.inside.tenant a.0 (map case_of c.self.inside.cases.items) c.self.inside.terms.items c.add-2.new.self.items (case_of c.args.report) c.self.invariant.0 a.1.0 a.1.1 c.requires.begun (rw c.expiry-term.ensures at c.add-2.ensures.found)),
+          (indexed_more c.self.inside.tenant a.0 (map case_of c.self.inside.cases.items) c.self.inside.terms.items c.add-2.new.self.items (case_of c.args.report) c.self.invariant.0 a.1.0 a.1.1 (begun_by c.args.report.case.items c.requires.submitted) (rw c.expiry-term.ensures at c.add-2.ensures.found)),
       subst AreCustodied (sym more) (custodied_pushed c.self.inside.cases.items c.args.report c.self.invariant.1 c.requires.custodied),
+      subst (λ (cs : List _). AreReceipted c.self.inside.tenant cs c.add-3.new.self.items) (sym (ap (map case_of) more ∙ map_push c.self.inside.cases.items c.args.report))
+          (receipted_more c.self.inside.tenant (map case_of c.self.inside.cases.items) c.self.inside.receipts.items c.add-3.new.self.items (case_of c.args.report) c.in-Some.digest c.self.invariant.2 (given_is c.as_slice.result.now c.args.report.case.items c.in-Some.digest (c.as_slice.ensures ∙ c.trail.ensures) c.requires.submitted c.in-Some.ensures) own c.add-3.ensures.items c.add-3.ensures.found),
     )
 
 pub returns-clause-items : goal.returns-clause-items

@@ -3,8 +3,10 @@ use Rattle.std.specs.Ordering.{nat_cmp}
 use Rattle.wb_list.specs.Keyed.{has_key}
 use Rattle.wb_tables.specs.Indexed.{Reports, IsIndexed, AreCustodied}
 use Rattle.wb_tables.specs.Lives.{case_of}
+use Rattle.wb_tables.specs.Receipted.{AreReceipted}
 use Rattle.wb_tables.proofs.CaseLists.{number_of}
 use Rattle.wb_tables.proofs.NotedReports.{before_there, after_free, noted_cases, noted_index, noted_custodied}
+use Rattle.wb_tables.proofs.ReceiptTables.{receipted_noted}
 use Rattle.wb_tables.proofs.cases.Cases.note.Goals as goal
 
 pub move_term-requires-clause-there : goal.move_term-requires-clause-there
@@ -26,6 +28,8 @@ invariant_of-self c =
       subst (λ cs. IsIndexed c.self.inside.tenant (map case_of cs) c.move_term.new.terms.items) (sym made.5)
           (noted_index c.self.inside.tenant c.args.number c.args.entry c.self.inside.cases.items c.self.inside.terms.items c.move_term.new.terms.items made.0 made.1 c.change-expiry.result.before c.change-expiry.result.after c.self.invariant.0 c.change-expiry.ensures.ascending found made.3 made.4 c.move_term.ensures),
       subst AreCustodied (sym made.5) (noted_custodied c.args.number c.args.entry c.self.inside.cases.items made.0 made.1 c.change-expiry.result.before c.change-expiry.result.after c.self.invariant.1 found made.4),
+      subst (λ cs. AreReceipted c.self.inside.tenant cs c.self.inside.receipts.items) (sym (ap (map case_of) made.5 ∙ noted_cases c.args.number c.args.entry c.self.inside.cases.items made.0 made.1 c.change-expiry.ensures.ascending found made.3 made.4.items))
+          (receipted_noted c.self.inside.tenant c.args.number c.args.entry (map case_of c.self.inside.cases.items) c.self.inside.receipts.items c.requires.ready.later c.self.invariant.2),
     )
 
 pub returns-clause-cases : goal.returns-clause-cases

@@ -2,6 +2,7 @@ use Rattle.std.proofs.Common.{map, ap, sym, ◌∙◌, subst}
 use Rattle.wb_tables.specs.Indexed.{Reports, IsTakenOut}
 use Rattle.wb_tables.specs.Lives.{case_of}
 use Rattle.wb_tables.proofs.Indexes.{taken, all_live, left_cases, left_reports, left_custodied}
+use Rattle.wb_tables.proofs.ReceiptTables.{receipted_left}
 use Rattle.wb_tables.proofs.cases.Cases.take_expired.Goals as goal
 
 pub returns-in_err-term-clause-none : goal.returns-in_err-term-clause-none
@@ -13,8 +14,11 @@ invariant_of-self c =
     let t = c.in_ok-term.term in
     let gone = taken c.self.inside.tenant c.args.today (map case_of c.self.inside.cases.items) c.self.inside.terms.items c.self.invariant.0 t (sym c.in_ok-term.was ∙ c.first_up_to.ensures) in
     let left = rw c.get.ensures.value at c.take.ensures.others in
-    let cases = left_cases t.number c.self.inside.cases.items c.take.new.self.items left in
-    (rw (cases, c.remove.ensures.items) gone.1, left_custodied t.number c.self.inside.cases.items c.take.new.self.items left c.self.invariant.1)
+    let cases = left_cases t.number c.self.inside.cases.items c.take.new.self.items left in (
+      rw (cases, c.remove.ensures.items) gone.1,
+      left_custodied t.number c.self.inside.cases.items c.take.new.self.items left c.self.invariant.1,
+      rw (cases, c.remove-2.ensures.items) (receipted_left c.self.inside.tenant t.number (map case_of c.self.inside.cases.items) c.self.inside.receipts.items c.self.invariant.2),
+    )
 
 pub returns-clause-taken : goal.returns-clause-taken
 returns-clause-taken c =
