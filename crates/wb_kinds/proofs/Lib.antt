@@ -1,2 +1,9 @@
 pub mod PlainRows
 pub mod Puts
+mod Canonical
+mod CanonicalForms
+mod RoundTrip
+mod BackValues
+mod BackAnswers
+mod BackEntries
+pub mod GoodRows

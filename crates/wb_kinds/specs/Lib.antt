@@ -1,4 +1,5 @@
 pub mod Gives
+pub mod Good
 pub mod Items
 pub mod Members
 pub mod SaidDeeds

@@ -8,6 +8,7 @@ mod deeds_in;
 mod entries;
 mod item;
 mod later_deeds;
+mod laws;
 mod members;
 mod numberings;
 mod reading;
@@ -17,5 +18,6 @@ mod settings;
 mod users;
 
 pub use item::{EntryItem, Item, NumberingItem};
+pub use laws::good_rows_are_read_as_their_items;
 pub use reading::{item_row, read_item};
 pub use rows::{entry_row, numbering_row, sealed_row};

@@ -21,13 +21,13 @@ use Rattle.wb_model.specs.Trails.{submission_in}
 use Rattle.wb_model.proofs.Found.{Held, find_passing, held_filter}
 use Rattle.wb_model.proofs.TurnRows.{map_held}
 use Rattle.wb_rows.specs.Held.{Report}
+use Rattle.wb_rows.specs.HeldItems.{entry_items, report_items, trail_items}
 use Rattle.wb_rows.specs.Openings.{case_of, cases_of}
 use Rattle.wb_rows.specs.Places.{pair_cmp, report_place}
 use Rattle.wb_rows.specs.ReportRules.{is_report}
 use Rattle.wb_rows.specs.TrailRule.{is_legal_report, offset}
 use Rattle.wb_rows.proofs.Lookups.{find-map}
 use Rattle.wb_rows.proofs.SealedRows.{other_place}
-use Rattle.wb_rows.proofs.TrailRows.{items_of, report_items, trail_items}
 use Rattle.wb_rows.proofs.WholeTrails.{AreSilent, begins_so}
 
 -- ---- what is in a list
@@ -48,13 +48,13 @@ all-at P f (y ∷ ys) all x (inr held) = all-at P f ys all.1 x held
 
 -- ---- the entries of a report
 
-pub items-held : (test : EntryItem → Bool) (rs : List Report) → list_all test (items_of rs) ≡ true → (r : Report) → Held r rs → list_all test (report_items r) ≡ true
+pub items-held : (test : EntryItem → Bool) (rs : List Report) → list_all test (entry_items rs) ≡ true → (r : Report) → Held r rs → list_all test (report_items r) ≡ true
 items-held test [] all r held = absurd held
 items-held test (x ∷ xs) all r (inl is) =
-    let parts = and_parts (list_all test (report_items x)) (list_all test (items_of xs)) (sym (list_all-append test (report_items x) (items_of xs)) ∙ all) in
+    let parts = and_parts (list_all test (report_items x)) (list_all test (entry_items xs)) (sym (list_all-append test (report_items x) (entry_items xs)) ∙ all) in
     subst (λ y. list_all test (report_items y) ≡ true) (sym is) parts.0
 items-held test (x ∷ xs) all r (inr held) =
-    let parts = and_parts (list_all test (report_items x)) (list_all test (items_of xs)) (sym (list_all-append test (report_items x) (items_of xs)) ∙ all) in
+    let parts = and_parts (list_all test (report_items x)) (list_all test (entry_items xs)) (sym (list_all-append test (report_items x) (entry_items xs)) ∙ all) in
     items-held test xs parts.1 r held
 
 pub trail-all : (given : EntryItem → Bool) (test : Entry → Bool) (t n : ℕ) → ((place : ℕ) (e : Entry) → given (record { tenant = t; number = n; place = place; entry = e }) ≡ true → test e ≡ true) → (place : ℕ) (es : List Entry) → list_all given (trail_items t n place es) ≡ true → list_all test es ≡ true
@@ -90,7 +90,7 @@ cases-all lists t rs legal test so = all-true test (cases_of rs t) (λ c held. o
         ap test found.1.1 ∙ at r.number r.trail (subst (λ x. Held x rs) (λ i. record { tenant = here i; number = r.number; trail = r.trail }) parts.0)
 
 -- what is so of the tenant and number of each entry is so of those of each report
-pub firsts-all : (lists : Lists) (rs : List Report) → list_all (is_legal_report lists) rs ≡ true → (test : ℕ → ℕ → Bool) → list_all (λ (x : EntryItem). test x.tenant x.number) (items_of rs) ≡ true → list_all (λ (r : Report). test r.tenant r.number) rs ≡ true
+pub firsts-all : (lists : Lists) (rs : List Report) → list_all (is_legal_report lists) rs ≡ true → (test : ℕ → ℕ → Bool) → list_all (λ (x : EntryItem). test x.tenant x.number) (entry_items rs) ≡ true → list_all (λ (r : Report). test r.tenant r.number) rs ≡ true
 firsts-all lists rs legal test all = all-true (λ (r : Report). test r.tenant r.number) rs (λ r held. by r.tenant r.number r.trail held)
   where
     by : (t n : ℕ) (trail : List Entry) → Held (report_with t n trail) rs → test t n ≡ true

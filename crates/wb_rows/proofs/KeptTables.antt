@@ -25,6 +25,7 @@ use Rattle.wb_model.specs.Trails.{has_identity, is_marked, submission_in}
 use Rattle.wb_model.proofs.Found.{Held as In, find_held, find_true}
 use Rattle.wb_rows.specs.declared.items.Kept.{Kept}
 use Rattle.wb_rows.specs.Held.{Report}
+use Rattle.wb_rows.specs.HeldItems.{report_items, trail_items}
 use Rattle.wb_rows.specs.Judged.{held as tables_read}
 use Rattle.wb_rows.specs.Openings.{case_of, cases_of, numbering_of, tables_of, time_of}
 use Rattle.wb_rows.specs.Places.{pair_cmp, report_place}
@@ -36,7 +37,7 @@ use Rattle.wb_rows.proofs.KeptReceipts.{receipts-apart}
 use Rattle.wb_rows.proofs.LegalReports.{reports-legal}
 use Rattle.wb_rows.proofs.RowsBack.{is_there}
 use Rattle.wb_rows.proofs.RulesHold.{RulesHold, drawn_entry}
-use Rattle.wb_rows.proofs.TrailRows.{entries-back, report_items, trail_items}
+use Rattle.wb_rows.proofs.TrailRows.{entries-back}
 use Rattle.wb_rows.proofs.WholeTrails.{AreSilent, late-first, public-first}
 
 -- ---- one entry

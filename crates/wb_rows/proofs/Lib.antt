@@ -31,3 +31,10 @@ pub mod NoTenant
 pub mod TenantParts
 pub mod RowsByTenant
 pub mod OpenedTables
+mod ItemsBack
+mod TrailsBack
+mod ListsBack
+mod SealsBack
+mod ReceiptsBack
+mod ReportsBack
+pub mod TablesBack

@@ -64,7 +64,7 @@ map_each : {X : Type 0} (f : X → Row) (xs : List X) → map f xs ≡ each (λ 
 map_each f [] = refl
 map_each f (x ∷ xs) = ap (λ l. f x ∷ l) (map_each f xs)
 
-any_found : {X : Type 0} (test : X → Bool) (xs : List X) → list_any test xs ≡ true → is_some (find test xs) ≡ true
+pub any_found : {X : Type 0} (test : X → Bool) (xs : List X) → list_any test xs ≡ true → is_some (find test xs) ≡ true
 any_found test [] any = any
 any_found {X} test (x ∷ xs) any = by (test x) any (any_found test xs)
   where

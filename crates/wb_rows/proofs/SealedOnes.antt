@@ -1,52 +1,40 @@
--- Identity answers that are put one after another, the last first.
-use Rattle.std.proofs.Common.{◌≡◌, ◌≢◌, ◌⊎◌, inl, inr, ℕ, Bool, true, false, cond, List, [], ◌∷◌, ◌++◌, find, Option, Some, None, refl, sym, ◌∙◌}
+-- Identity answers that are put one after another, in the order of tenant and number.
+use Rattle.std.proofs.Common.{◌≡◌, ◌≢◌, ◌⊎◌, inl, inr, ℕ, Bool, true, false, List, ◌∷◌, Some, None, refl, sym, ◌∙◌}
 use Rattle.std.proofs.lemmas.Bool.Decides.{eqb_tells}
-use Rattle.std.specs.Option.{option_map, option_or}
+use Rattle.std.specs.Option.{option_or}
 use Rattle.std.specs.Prelude.{◌==◌, ◌&&◌}
-use Rattle.wb_base.specs.AnswerList.{Answered}
+use Rattle.std.specs.List.Sorted.{IsStrictlySortedBy}
 use Rattle.wb_custody.specs.declared.sealed.SealedItem.{SealedItem}
 use Rattle.wb_custody.specs.SealedAnswers.{answers_of, is_of}
+use Rattle.wb_list.specs.Keyed.{IsAscending}
+use Rattle.wb_rows.specs.Places.{pair_cmp, sealed_place}
+use Rattle.wb_rows.proofs.SealedRows.{none_there}
 
--- an item's answers, where it is the report's
-abbrev own : Bool → SealedItem → Option Answered
-own b x = cond b (Some x.answers) None
+-- those that are left have none of the first one's place
+alone : (x : SealedItem) (rest : List SealedItem) → IsAscending pair_cmp sealed_place (x ∷ rest) → answers_of rest x.tenant x.number ≡ None
+unfolding IsStrictlySortedBy
+alone x rest order = none_there (sealed_place x) rest order.0
 
-appended : (rest : List SealedItem) (x : SealedItem) (t n : ℕ) → answers_of (rest ++ x ∷ []) t n ≡ option_or (answers_of rest t n) (own (is_of t n x) x)
-appended [] x t n = by (is_of t n x)
+pub rest-order : (x : SealedItem) (rest : List SealedItem) → IsAscending pair_cmp sealed_place (x ∷ rest) → IsAscending pair_cmp sealed_place rest
+unfolding IsStrictlySortedBy
+rest-order x rest order = order.1
+
+-- what is left and what is put find together what they found before the first was put
+pub one-put : (x : SealedItem) (rest old new : List SealedItem) → IsAscending pair_cmp sealed_place (x ∷ rest) → answers_of new x.tenant x.number ≡ Some x.answers → ((t n : ℕ) → (t ≢ x.tenant) ⊎ (n ≢ x.number) → answers_of new t n ≡ answers_of old t n)
+    → (t n : ℕ) → option_or (answers_of rest t n) (answers_of new t n) ≡ option_or (answers_of (x ∷ rest) t n) (answers_of old t n)
+one-put x rest old new order own others t n = by (eqb_tells x.tenant t) (eqb_tells x.number n)
   where
-    by : (b : Bool) → option_map (λ (y : SealedItem). y.answers) (cond b (Some x) None) ≡ own b x
-    by true = refl
-    by false = refl
-appended (y ∷ ys) x t n = by (is_of t n y) (appended ys x t n)
-  where
-    by : (b : Bool) → answers_of (ys ++ x ∷ []) t n ≡ option_or (answers_of ys t n) (own (is_of t n x) x)
-        → option_map (λ (z : SealedItem). z.answers) (cond b (Some y) (find (is_of t n) (ys ++ x ∷ []))) ≡ option_or (option_map (λ (z : SealedItem). z.answers) (cond b (Some y) (find (is_of t n) ys))) (own (is_of t n x) x)
-    by true more = refl
-    by false more = more
-
-here : (a old : Option Answered) (x : Answered) → option_or a (Some x) ≡ option_or (option_or a (Some x)) old
-here None old x = refl
-here (Some y) old x = refl
-
-away : (a old : Option Answered) → option_or a old ≡ option_or (option_or a None) old
-away None old = refl
-away (Some y) old = refl
-
--- what is left and what is put find together what they found before one more was put
-pub one-put : (rest : List SealedItem) (x : SealedItem) (old new : List SealedItem) → answers_of new x.tenant x.number ≡ Some x.answers → ((t n : ℕ) → (t ≢ x.tenant) ⊎ (n ≢ x.number) → answers_of new t n ≡ answers_of old t n)
-    → (t n : ℕ) → option_or (answers_of rest t n) (answers_of new t n) ≡ option_or (answers_of (rest ++ x ∷ []) t n) (answers_of old t n)
-one-put rest x old new own-one others t n = by (eqb_tells x.tenant t) (eqb_tells x.number n)
-  where
-    apart : (b : Bool) → is_of t n x ≡ b → b ≡ false → (t ≢ x.tenant) ⊎ (n ≢ x.number) → option_or (answers_of rest t n) (answers_of new t n) ≡ option_or (answers_of (rest ++ x ∷ []) t n) (answers_of old t n)
-    apart b is none other = rw (appended rest x t n, is, none, others t n other) (away (answers_of rest t n) (answers_of old t n))
+    apart : (b : Bool) → is_of t n x ≡ b → b ≡ false → (t ≢ x.tenant) ⊎ (n ≢ x.number) → option_or (answers_of rest t n) (answers_of new t n) ≡ option_or (answers_of (x ∷ rest) t n) (answers_of old t n)
+    apart b is none other = rw (is, none, others t n other) refl
 
     off : (b : Bool) → (b && false) ≡ false
     off true = refl
     off false = refl
 
-    by : (((x.tenant == t) ≡ true) × (x.tenant ≡ t)) ⊎ (((x.tenant == t) ≡ false) × (x.tenant ≢ t)) → (((x.number == n) ≡ true) × (x.number ≡ n)) ⊎ (((x.number == n) ≡ false) × (x.number ≢ n)) → option_or (answers_of rest t n) (answers_of new t n) ≡ option_or (answers_of (rest ++ x ∷ []) t n) (answers_of old t n)
+    by : (((x.tenant == t) ≡ true) × (x.tenant ≡ t)) ⊎ (((x.tenant == t) ≡ false) × (x.tenant ≢ t)) → (((x.number == n) ≡ true) × (x.number ≡ n)) ⊎ (((x.number == n) ≡ false) × (x.number ≢ n)) → option_or (answers_of rest t n) (answers_of new t n) ≡ option_or (answers_of (x ∷ rest) t n) (answers_of old t n)
     by (inl p) (inl q) =
-        let found : answers_of new t n ≡ Some x.answers = (λ i. answers_of new (sym p.1 i) (sym q.1 i)) ∙ own-one in
-        rw (found, appended rest x t n, p.0, q.0) (here (answers_of rest t n) (answers_of old t n) x.answers)
+        let found : answers_of new t n ≡ Some x.answers = (λ i. answers_of new (sym p.1 i) (sym q.1 i)) ∙ own in
+        let none : answers_of rest t n ≡ None = (λ i. answers_of rest (sym p.1 i) (sym q.1 i)) ∙ alone x rest order in
+        rw (found, none, p.0, q.0) refl
     by (inr p) q = apart (is_of t n x) refl (rw p.0 refl) (inl (λ e. p.1 (sym e)))
     by (inl p) (inr q) = apart (is_of t n x) refl (rw q.0 (off (x.tenant == t))) (inr (λ e. q.1 (sym e)))

@@ -50,7 +50,7 @@ AreAfter p ss = AllByRecursion (λ q. pair_cmp p q ≡ Less) (map sealed_place s
 abbrev ReportsAfter : ℕ × ℕ → List Report → Type 0
 ReportsAfter p rs = AllByRecursion (λ q. pair_cmp p q ≡ Less) (map report_place rs)
 
-none_there : (p : ℕ × ℕ) (ss : List SealedItem) → AreAfter p ss → answers_of ss p.0 p.1 ≡ None
+pub none_there : (p : ℕ × ℕ) (ss : List SealedItem) → AreAfter p ss → answers_of ss p.0 p.1 ≡ None
 none_there p [] above = refl
 none_there p (s ∷ ss) above = rw (other_back p (sealed_place s) above.0) (none_there p ss above.1)
 

@@ -9,24 +9,13 @@ use Rattle.wb_model.specs.declared.registry.Lists.{Lists}
 use Rattle.wb_model.specs.Legal.{is_first, is_next, last_at}
 use Rattle.wb_model.specs.Rows.{row, entry_data, entries_from}
 use Rattle.wb_rows.specs.Held.{Report}
+use Rattle.wb_rows.specs.HeldItems.{trail_items, report_items, entry_items}
 use Rattle.wb_rows.specs.HeldRows.{trail_rows}
 use Rattle.wb_rows.specs.TrailRule.{offset, begun, continued, is_of, begins, goes_on, reports_after, reports_of}
 use Rattle.wb_rows.proofs.ItemKinds.{entry_row}
 use Rattle.wb_rows.proofs.ReportOrder.{on_entry, on_first}
 
 -- ---- the entries of trails
-
--- those of a trail, from a place on
-abbrev pub trail_items : ℕ → ℕ → ℕ → List Entry → List EntryItem
-trail_items t n place [] = []
-trail_items t n place (e ∷ es) = record { tenant = t; number = n; place = place; entry = e } ∷ trail_items t n (place + 1) es
-
-abbrev pub report_items : Report → List EntryItem
-report_items r = trail_items r.tenant r.number 1 r.trail
-
-abbrev pub items_of : List Report → List EntryItem
-items_of [] = []
-items_of (r ∷ rs) = report_items r ++ items_of rs
 
 one_more : (t n place last : ℕ) (es : List Entry) (e : Entry) → last ≡ place + length es → trail_items t n place (es ++ e ∷ []) ≡ trail_items t n place es ++ record { tenant = t; number = n; place = last; entry = e } ∷ []
 one_more t n place last [] e is = ap (λ (k : ℕ). record { tenant = t; number = n; place = k; entry = e } ∷ []) (omega (arith, is))
@@ -50,24 +39,24 @@ begun_items lists x first =
     let parts = and_parts (x.place == 1) (is_first (offset lists x.tenant) x.entry) first in
     ap (λ (k : ℕ). record { tenant = x.tenant; number = x.number; place = k; entry = x.entry } ∷ []) (sym (eqb-true x.place 1 parts.0))
 
-after_items : (lists : Lists) (r : Report) (xs : List EntryItem) (rs : List Report) → reports_after lists r xs ≡ Ok rs → report_items r ++ xs ≡ items_of rs
-after_items lists r [] rs is = let whole : r ∷ [] ≡ rs = cc (is) in subst (λ l. report_items r ++ [] ≡ items_of l) whole refl
+after_items : (lists : Lists) (r : Report) (xs : List EntryItem) (rs : List Report) → reports_after lists r xs ≡ Ok rs → report_items r ++ xs ≡ entry_items rs
+after_items lists r [] rs is = let whole : r ∷ [] ≡ rs = cc (is) in subst (λ l. report_items r ++ [] ≡ entry_items l) whole refl
 after_items lists r (x ∷ xs) rs is = by (on_entry lists r x xs rs is) (λ next. after_items lists (continued r x) xs rs next) (λ more other. after_items lists (begun x) xs more other)
   where
     by : ((is_of r x ≡ true) × (goes_on lists r x ≡ true) × (reports_after lists (continued r x) xs ≡ Ok rs)) ⊎ ((is_of r x ≡ false) × (begins lists x ≡ true) × ((more : List Report) × (reports_after lists (begun x) xs ≡ Ok more) × (rs ≡ r ∷ more)))
-        → (reports_after lists (continued r x) xs ≡ Ok rs → report_items (continued r x) ++ xs ≡ items_of rs)
-        → ((more : List Report) → reports_after lists (begun x) xs ≡ Ok more → report_items (begun x) ++ xs ≡ items_of more)
-        → report_items r ++ x ∷ xs ≡ items_of rs
+        → (reports_after lists (continued r x) xs ≡ Ok rs → report_items (continued r x) ++ xs ≡ entry_items rs)
+        → ((more : List Report) → reports_after lists (begun x) xs ≡ Ok more → report_items (begun x) ++ xs ≡ entry_items more)
+        → report_items r ++ x ∷ xs ≡ entry_items rs
     by (inl h) same other =
         sym (append_assoc (report_items r) (x ∷ []) xs)
         ∙ (ap (λ l. l ++ xs) (sym (continued_items lists r x h.0 h.1)) ∙ same h.2)
     by (inr h) same other =
         ap (λ l. report_items r ++ l) (ap (λ l. l ++ xs) (sym (begun_items lists x h.1)) ∙ other h.2.0 h.2.1)
-        ∙ ap items_of (sym h.2.2)
+        ∙ ap entry_items (sym h.2.2)
 
 -- the entries are those of the trails
-pub entries-back : (lists : Lists) (xs : List EntryItem) (rs : List Report) → reports_of lists xs ≡ Ok rs → xs ≡ items_of rs
-entries-back lists [] rs is = let none : [] ≡ rs = cc (is) in subst (λ l. [] ≡ items_of l) none refl
+pub entries-back : (lists : Lists) (xs : List EntryItem) (rs : List Report) → reports_of lists xs ≡ Ok rs → xs ≡ entry_items rs
+entries-back lists [] rs is = let none : [] ≡ rs = cc (is) in subst (λ l. [] ≡ entry_items l) none refl
 entries-back lists (x ∷ xs) rs is =
     let first = on_first lists x xs rs is in
     ap (λ l. l ++ xs) (sym (begun_items lists x first.0)) ∙ after_items lists (begun x) xs rs first.1
@@ -78,9 +67,9 @@ trail_row : (t n place : ℕ) (es : List Entry) → map entry_row (trail_items t
 trail_row t n place [] = refl
 trail_row t n place (e ∷ es) = ap (λ l. row 6 t n place (entry_data e) ∷ l) (trail_row t n (place + 1) es)
 
-rows_of_items : (rs : List Report) → map entry_row (items_of rs) ≡ trail_rows rs
+pub rows_of_items : (rs : List Report) → map entry_row (entry_items rs) ≡ trail_rows rs
 rows_of_items [] = refl
-rows_of_items (r ∷ rs) = map-append entry_row (report_items r) (items_of rs) ∙ (λ i. trail_row r.tenant r.number 1 r.trail i ++ rows_of_items rs i)
+rows_of_items (r ∷ rs) = map-append entry_row (report_items r) (entry_items rs) ∙ (λ i. trail_row r.tenant r.number 1 r.trail i ++ rows_of_items rs i)
 
 -- the rows of entries are those of the trails
 pub trails-back : (lists : Lists) (xs : List EntryItem) (rs : List Report) → reports_of lists xs ≡ Ok rs → map entry_row xs ≡ trail_rows rs

@@ -16,3 +16,5 @@ pub mod ReportRules
 pub mod Judged
 pub mod ReceiptTies
 pub mod Openings
+pub mod HeldItems
+pub mod Good

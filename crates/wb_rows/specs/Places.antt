@@ -31,10 +31,6 @@ context_key x = key 5 x.tenant x.id 0
 abbrev pub entry_key : EntryItem → Key
 entry_key x = key 6 x.tenant x.number x.place
 
--- of a report's first entry
-abbrev pub report_key : Report → Key
-report_key r = key 6 r.tenant r.number 1
-
 abbrev pub sealed_key : SealedItem → Key
 sealed_key x = key 7 x.tenant x.number 0
 

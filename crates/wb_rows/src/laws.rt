@@ -1,5 +1,6 @@
-//! Laws of rows, each a function with no body: what the rows that a change puts make of the rows of a host.
-ghost use Rattle.std.specs.Prelude.{◌≡◌, ◌+◌, ◌<◌, ℕ, List, [], ◌∷◌, ◌++◌, length, filter, map, not, All, Bool, true, false, Option, Some};
+//! Laws of rows, each a function with no body: that what is written is read, and what the rows that a change puts make of
+//! the rows of a host.
+ghost use Rattle.std.specs.Prelude.{◌≡◌, ◌+◌, ◌<◌, ℕ, List, [], ◌∷◌, ◌++◌, length, filter, map, not, All, Bool, true, false, Option, Some, Ok};
 ghost use Rattle.wb_base.specs.AnswerList.{Answered};
 ghost use Rattle.wb_base.specs.KeptRows.{all_changed};
 ghost use Rattle.wb_base.specs.declared.rows.Change.TheVariants.{Put};
@@ -12,7 +13,16 @@ ghost use Rattle.wb_model.specs.Rows.{row, rows_of, entry_data};
 ghost use Rattle.wb_model.specs.Settings.{Setting};
 ghost use Rattle.wb_model.specs.Tables.{Case, report};
 ghost use Rattle.wb_model.specs.Tenants.{Tenancy};
+ghost use Rattle.wb_rows.specs.Good.{AreGood};
+ghost use Rattle.wb_rows.specs.Held.{Held};
+ghost use Rattle.wb_rows.specs.HeldRows.{rows_of as rows_held};
+ghost use Rattle.wb_rows.specs.Judged.{judged};
 ghost use Rattle.wb_rows.specs.Puts.{sealed_put, setting_row, tenant_puts, IsVersion};
+
+/// The rows of tables that keep the rules, with each value in its range, are refused by no rule, and are read as these tables.
+pub fn what_is_written_is_read()
+    ensures { (at : ℕ) (h : Held) → AreGood at h → judged (rows_held h) ≡ Ok h }
+{}
 
 /// One more entry on a report puts its row, and that of the identity answers that come with it. The rows after these are
 /// those of the changed tables.

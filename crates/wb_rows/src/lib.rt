@@ -22,7 +22,10 @@ mod writing;
 
 pub use cases::CaseItem;
 pub use faults::RowFault;
-pub use laws::{a_setting_puts_its_row, an_entry_puts_its_rows, new_tenants_put_their_rows};
+pub use laws::{
+    a_setting_puts_its_row, an_entry_puts_its_rows, new_tenants_put_their_rows,
+    what_is_written_is_read,
+};
 pub use reading::read;
 pub use tables::Tables;
 pub use wb_kinds::{NumberingItem, entry_row, numbering_row, sealed_row};

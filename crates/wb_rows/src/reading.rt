@@ -12,7 +12,8 @@ ghost use Rattle.wb_model.specs.SetUps.{AreSetUp, has_tenant, is_tenant_item, is
 ghost use Rattle.wb_rows.specs.declared.faults.RowFault.TheVariants as faults;
 ghost use Rattle.wb_rows.specs.declared.items.Kept.{Kept as KeptData};
 ghost use Rattle.wb_rows.specs.Growing.{IsTrailFault};
-ghost use Rattle.wb_rows.specs.Held.{case_report, held_by};
+ghost use Rattle.wb_rows.specs.Good.{AreGood};
+ghost use Rattle.wb_rows.specs.Held.{Held, case_report, held_by};
 ghost use Rattle.wb_rows.specs.HeldRows.{rows_of};
 ghost use Rattle.wb_rows.specs.Judged.{AreBlames, judged, judged_kept, judged_reports};
 ghost use Rattle.wb_rows.specs.Openings.{tables_of, tenancies_of, time_of};
@@ -34,13 +35,12 @@ use wb_kinds::{EntryItem, NumberingItem};
 use wb_list::{Items, Sorted};
 use wb_tenants::Registry;
 
-// The table of identity answers.
-fn sealed_table(alloc: Global, sealed: Vec<SealedItem>) -> Result<SealedTable, Memory>
+// The table of identity answers, each put behind all that are there.
+fn sealed_table(alloc: Global, sealed: Sorted<SealedItem>) -> Result<SealedTable, Memory>
     ensures { IfOk result (λ table. (t n : ℕ) → answers_of table.items t n ≡ answers_of sealed.items t n) }
 {
-    let mut rest = sealed;
     let mut table = SealedTable::new(alloc);
-    while let Some(item) = rest.pop() {
+    for item in sealed.into_vec() {
         table.reserve()?;
         table.put(item.tenant, item.number, item.answers);
     }
@@ -57,7 +57,7 @@ fn tables(
 ) -> Result<Tables, Memory>
     ensures { IfOk result (λ tables. held_by tables ≡ record { lists = registry.lists; numberings = numberings; reports = map case_report cases.items; sealed = answers_of sealed.items }) }
 {
-    let sealed = sealed_table(alloc, sealed.into_vec())?;
+    let sealed = sealed_table(alloc, sealed)?;
     Ok(Tables {
         registry,
         numberings,
@@ -161,6 +161,9 @@ pub fn read(alloc: Global, rows: Vec<Row>) -> Result<Tables, RowFault>
     requires { IsStrictlySortedBy key_cmp (map key_of rows.items) }
     ensures ok { IfOk result (λ tables. judged rows.items ≡ Ok (held_by tables)) }
     ensures err { IfErr result (λ fault. fault ≢ faults.Memory → judged rows.items ≡ Err fault) }
+    // The rows of tables that keep the rules are read as these tables, and are refused for want of memory alone.
+    ensures back { (at : ℕ) (h : Held) → AreGood at h → rows_of h ≡ rows.items → IfOk result (λ tables. held_by tables ≡ h) }
+    ensures unrefused { (at : ℕ) (h : Held) → AreGood at h → rows_of h ≡ rows.items → IfErr result (λ fault. fault ≡ faults.Memory) }
     // What is read is all that the rows say.
     ensures rows { IfOk result (λ tables. rows_of (held_by tables) ≡ rows.items) }
     // What tenants are set up with is such as an opening asks for.

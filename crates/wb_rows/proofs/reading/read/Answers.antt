@@ -1,4 +1,4 @@
-use Rattle.std.proofs.Common.{◌≡◌, true, Ok, map, sym, ap, ◌∙◌, subst, List}
+use Rattle.std.proofs.Common.{rules, ◌≡◌, ◌≢◌, true, Ok, Err, IfErr, map, sym, ap, ◌∙◌, subst, List}
 use Rattle.std.specs.List.{list_all}
 use Rattle.std.specs.List.Sorted.{IsStrictlySortedBy}
 use Rattle.wb_base.specs.KeptRows.{key_cmp}
@@ -10,14 +10,17 @@ use Rattle.wb_rows.specs.ReadItems.{items_in}
 use Rattle.wb_kinds.specs.declared.item.Item.{Item}
 use Rattle.wb_kinds.specs.Items.{is_in_range}
 use Rattle.wb_base.specs.declared.rows.Row.{Row}
+use Rattle.wb_rows.specs.declared.faults.RowFault.{RowFault}
+use Rattle.wb_rows.specs.declared.faults.RowFault.TheVariants as faults
 use Rattle.wb_rows.specs.Held.{Held, held_by}
 use Rattle.wb_rows.specs.KeptItems.{kept_of}
 use Rattle.wb_rows.proofs.KeptSetUp.{read-set-up}
 use Rattle.wb_rows.proofs.LegalReports.{read-legal}
 use Rattle.wb_rows.specs.Judged.{judged, judged_items, judged_kept}
-use Rattle.wb_rows.proofs.Judging.{ok-then}
+use Rattle.wb_rows.proofs.Judging.{err-then, ok-then}
 use Rattle.wb_rows.proofs.OpenedTables.{read-kept, read-others, read-whole}
 use Rattle.wb_rows.proofs.RowsBack.{rows-back}
+use Rattle.wb_rows.proofs.TablesBack.{not-refused, same-read}
 use Rattle.wb_rows.proofs.FitItems.{tenants-fit, forms-fit}
 use Rattle.wb_rows.proofs.ItemOrder.{items_ascend, lists-order, entries-order, sealed-order}
 use Rattle.wb_tenants.specs.Keys.{AreInOrder}
@@ -52,6 +55,10 @@ module _ (rows : List Row) (own : List Item) (read : items_in rows ≡ Ok own) (
   -- and the tables that are judged of them are those of the rows
   of_rows : (seen : List Row) (kept : Kept) (h : Held) → seen ≡ rows → kept ≡ kept_of own → judged_kept seen kept ≡ Ok h → judged rows ≡ Ok h
   of_rows seen kept h same sorted is = ap (judged_items rows) read ∙ ((λ i. judged_kept (sym same i) (sym sorted i)) ∙ is)
+
+  -- and a fault that is judged is theirs
+  fault_of_rows : (seen : List Row) (kept : Kept) (fault : RowFault) → seen ≡ rows → kept ≡ kept_of own → judged_kept seen kept ≡ Err fault → judged rows ≡ Err fault
+  fault_of_rows seen kept fault same sorted is = ap (judged_items rows) read ∙ ((λ i. judged_kept (sym same i) (sym sorted i)) ∙ is)
 
 pub returns-clause-rows : goal.returns-clause-rows
 returns-clause-rows c =
@@ -100,3 +107,24 @@ returns-clause-whole c =
     let read : items_in rows ≡ Ok own = sym (ap items_in c.as_slice.ensures.value) ∙ c.in_ok-items.ensures.ok in
     let fit = c.in_ok-items.ensures.fits in
     ok-then c.judge.result c.judge.ensures.ok (λ tables is. read-whole rows (held_by tables) c.requires (fits rows own read fit) (of_rows rows own read fit _ _ (held_by tables) c.as_slice-2.ensures.value c.in_ok-kept.ensures is))
+
+pub returns-clause-back : goal.returns-clause-back
+returns-clause-back c = λ at h good same.
+    let rows = c.args.rows.items in
+    let own = c.in_ok-items.items.items in
+    let read : items_in rows ≡ Ok own = sym (ap items_in c.as_slice.ensures.value) ∙ c.in_ok-items.ensures.ok in
+    let fit = c.in_ok-items.ensures.fits in
+    ok-then c.judge.result c.judge.ensures.ok (λ tables is. same-read at h good rows (held_by tables) same (of_rows rows own read fit _ _ (held_by tables) c.as_slice-2.ensures.value c.in_ok-kept.ensures is))
+
+pub returns-clause-unrefused : goal.returns-clause-unrefused
+returns-clause-unrefused c = λ at h good same.
+    let rows = c.args.rows.items in
+    let own = c.in_ok-items.items.items in
+    let read : items_in rows ≡ Ok own = sym (ap items_in c.as_slice.ensures.value) ∙ c.in_ok-items.ensures.ok in
+    let fit = c.in_ok-items.ensures.fits in
+    err-then c.judge.result c.judge.ensures.err (λ fault is. not-refused at h good rows fault same (λ known. fault_of_rows rows own read fit _ _ fault c.as_slice-2.ensures.value c.in_ok-kept.ensures (is known)))
+
+pub returns-in_err-items-clause-unrefused : goal.returns-in_err-items-clause-unrefused
+returns-in_err-items-clause-unrefused c = λ at h good same.
+    let err : IfErr c.from_residual.result (λ fault. fault ≢ faults.Memory → judged c.args.rows.items ≡ Err fault) = search rules in
+    err-then c.from_residual.result err (λ fault is. not-refused at h good c.args.rows.items fault same is)
