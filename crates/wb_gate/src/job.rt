@@ -1,0 +1,70 @@
+//! Jobs on a host.
+ghost use Rattle.std.specs.Prelude.{◌≡◌, ◌≤◌, true};
+ghost use Rattle.wb_model.specs.Fits.{fits};
+ghost use Rattle.wb_kept.specs.Hosted.{Hosted, Hand};
+ghost use Rattle.wb_kept.specs.Turned.{Turned};
+
+use std::marker::Model;
+use std::sync::ledger::Ledger;
+use wb_base::{Keeper, Moment, Words};
+use wb_kept::{Kept, Pass};
+use wb_model::{Asked, Told};
+
+/// What is done with a host, and a pass to it, in one go.
+pub trait Job<K: Keeper, A: Ledger, B: Ledger> {
+    /// Its answer.
+    type Told;
+
+    /// What it makes of the host and the pass before it, with those after it, and its answer.
+    ghost does: { Self → Hosted → Hand → Hosted → Hand → Self.Told → Type 0 };
+
+    /// Does it. The pass keeps its parts, and no turn is taken out of the book.
+    fn run(self, kept: &mut Kept<K, A, B>, pass: &mut Pass<A, B>) -> Self::Told
+        ensures does { does self kept.old pass.old kept.new pass.new result }
+        ensures parts { pass.new.parts ≡ pass.old.parts }
+        ensures book { kept.old.turns ≤ kept.new.turns };
+}
+
+/// One turn: a request that keeps the ranges of its fields, its moment and its random words.
+#[derive(Drop)]
+pub struct Turn {
+    asked: Asked,
+    moment: Moment,
+    words: Words,
+}
+
+impl Model for Turn {
+    ghost use Rattle.std.specs.Prelude.{◌≡◌, true};
+    ghost use Rattle.wb_model.specs.Fits.{fits};
+    ghost use Rattle.wb_model.specs.Requests.{Frame};
+
+    ghost Value = { Frame };
+
+    ghost view = { λ t. record { moment = t.moment; words = t.words; asked = t.asked } };
+
+    ghost invariant = { λ t. fits t.asked ≡ true };
+}
+
+impl Turn {
+    /// The turn of a request.
+    pub fn new(asked: Asked, moment: Moment, words: Words) -> Turn
+        requires { fits asked ≡ true }
+        ensures { result ≡ record { moment = moment; words = words; asked = asked } }
+    {
+        Turn {
+            asked,
+            moment,
+            words,
+        }
+    }
+}
+
+impl<K: Keeper, A: Ledger, B: Ledger> Job<K, A, B> for Turn {
+    type Told = Told;
+
+    ghost does = { λ job host pass host' pass' told. Turned job host pass host' pass' told };
+
+    fn run(self, kept: &mut Kept<K, A, B>, pass: &mut Pass<A, B>) -> Told {
+        kept.turn(pass, &self.asked, self.moment, &self.words)
+    }
+}

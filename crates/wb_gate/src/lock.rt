@@ -1,0 +1,80 @@
+//! A gate that is a lock.
+ghost use Rattle.std.specs.Prelude.{◌≡◌, ◌≢◌, IfOk, IfErr, IsOk};
+ghost use Rattle.wb_kept.specs.Hosted.{Hosted, Hand, parts_of, turns_of, numbers_drawn};
+ghost use Rattle.wb_model.specs.Rows.{rows_of};
+ghost use Rattle.wb_tables.specs.Standing.{hosts_of};
+
+use crate::gate::Gate;
+use crate::job::Job;
+use std::sync::ledger::Ledger;
+use std::sync::{Mutex, Wait};
+use wb_base::Keeper;
+use wb_kept::{Closed, Kept, KeptBack, Pass, Tally};
+
+/// A host under a lock: one job at a time is in.
+#[derive(Drop)]
+pub struct LockGate<K: Keeper, A: Ledger, B: Ledger> {
+    host: Mutex<Kept<K, A, B>>,
+}
+
+impl<K: Keeper, A: Ledger, B: Ledger> LockGate<K, A, B> {
+    /// Puts a host under a lock.
+    pub fn over(kept: Kept<K, A, B>) -> LockGate<K, A, B> {
+        LockGate {
+            host: Mutex::new(kept),
+        }
+    }
+}
+
+impl<K: Keeper, A: Ledger, B: Ledger, J: Job<K, A, B>> Gate<K, A, B, J> for LockGate<K, A, B> {
+    ghost ran = { λ share job told. (host : Hosted) × (pass : Hand) × (host' : Hosted) × (pass' : Hand) × (pass.turns ≡ share) × J.does job host pass host' pass' told };
+
+    fn enter<R: Wait>(&self, rt: &R, pass: &mut Pass<A, B>, job: J) -> J::Told {
+        let mut kept = self.host.lock(rt);
+        job.run(&mut *kept, pass)
+    }
+}
+
+/// A host and passes to it, which do not add up to its books.
+#[derive(Drop)]
+pub struct NotAll<K: Keeper, A: Ledger, B: Ledger> {
+    pub gate: LockGate<K, A, B>,
+    pub passes: Vec<Pass<A, B>>,
+    /// The two books.
+    pub book: Tally,
+    /// The sums of the passes' shares.
+    pub sum: Tally,
+}
+
+/// Takes the host out of its lock and apart where the passes' shares add up to its books, and else gives all back. They do where the
+/// passes have all the parts of the ledgers.
+pub fn close<K: Keeper, A: Ledger, B: Ledger>(
+    gate: LockGate<K, A, B>,
+    passes: Vec<Pass<A, B>>,
+) -> Result<Closed<K>, NotAll<K, A, B>>
+    ensures ok { IfOk result (λ c. (c.turns ≡ turns_of passes.items) × (c.numbers ≡ numbers_drawn passes.items)) }
+    ensures kept { IfOk result (λ c. K.honest c.keeper → K.holds c.keeper (rows_of (hosts_of c.desk).list)) }
+    ensures back { IfErr result (λ k. k.passes.items ≡ passes.items) }
+    ensures sums { IfErr result (λ k. (k.sum.turns ≡ turns_of passes.items) × (k.sum.numbers ≡ numbers_drawn passes.items)) }
+    ensures differ { IfErr result (λ k. k.sum.turns ≡ k.book.turns → k.sum.numbers ≢ k.book.numbers) }
+    ensures all { parts_of passes.items ≡ A.parts → parts_of passes.items ≡ B.parts → IsOk result }
+{
+    let LockGate { host } = gate;
+    match host.into_inner().close(passes) {
+        Ok(closed) => Ok(closed),
+        Err(back) => {
+            let KeptBack {
+                kept,
+                passes,
+                book,
+                sum,
+            } = back;
+            Err(NotAll {
+                gate: LockGate::over(kept),
+                passes,
+                book,
+                sum,
+            })
+        }
+    }
+}
