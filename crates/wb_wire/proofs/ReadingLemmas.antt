@@ -14,7 +14,7 @@ use Rattle.wb_model.specs.declared.command.Command.{Command}
 use Rattle.wb_model.specs.declared.route.Route.{Route}
 use Rattle.wb_model.specs.declared.wire.WireFault.{WireFault}
 use Rattle.wb_model.specs.declared.wire.WireFault.TheVariants as faults
-use Rattle.wb_model.specs.Bodies.{Numbers, bare, shaped}
+use Rattle.wb_model.specs.RouteBodies.{Numbers, bare, shaped}
 use Rattle.wb_model.specs.Fits.{fits, fits_command, fits_session, is_path_number}
 use Rattle.wb_model.specs.Heads.{Fields, BeginsWithHead, closes, closes_by, path, fields_of, values, is_number, is_token, token, presented_by, session}
 use Rattle.wb_model.specs.Readings.{Reading, Asks, Reads, Closes, and_then, sized, Located, located_by, located, located_or_fault, routed, body_by, command_by, command, asks, reading_by, reading_of}

@@ -25,7 +25,8 @@ use Rattle.wb_model.specs.declared.route.Route.{Route}
 use Rattle.wb_model.specs.declared.route.Route.TheVariants as routes
 use Rattle.wb_model.specs.Fits.{fits_command, are_distinct, is_between, has_bytes, is_path_number, is_given, are_given, is_settable, is_staff_role, fits_password, fits_withhold, fits_settings, fits_user, fits_context, fits_form}
 use Rattle.wb_model.specs.Bodies as bodies
-use Rattle.wb_model.specs.Bodies.{Numbers, of_size, of_keys, under, if_under, given_text, file, answer, with_entry, entries, answers, some_answers, form_by, form_if, form, bare, shaped}
+use Rattle.wb_model.specs.Bodies.{of_size, of_keys, under, if_under, given_text, file, answer, with_entry, entries, answers, some_answers, form_by, form_if, form}
+use Rattle.wb_model.specs.RouteBodies.{Numbers, bare, shaped}
 use Rattle.wb_model.specs.Commands.{is_health}
 
 -- ---- options

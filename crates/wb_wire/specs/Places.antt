@@ -1,7 +1,7 @@
 -- A path of the table that a request is on.
 use Rattle.std.specs.Prelude.{ℕ, List}
 use Rattle.wb_model.specs.Routes.{segments, number_under}
-use Rattle.wb_model.specs.Bodies as bodies
+use Rattle.wb_model.specs.RouteBodies as bodies
 use Rattle.wb_model.specs.Readings as readings
 use Rattle.wb_wire.specs.declared.commands.Numbers.{Numbers}
 use Rattle.wb_wire.specs.declared.requests.Located.{Located}

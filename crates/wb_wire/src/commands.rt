@@ -1,7 +1,7 @@
 //! The command of a route.
 ghost use Rattle.std.specs.Prelude.{◌≡◌};
 ghost use Rattle.serde_json.specs.View.{view};
-ghost use Rattle.wb_model.specs.Bodies.{bare as bare_of, shaped as shaped_of};
+ghost use Rattle.wb_model.specs.RouteBodies.{bare as bare_of, shaped as shaped_of};
 ghost use Rattle.wb_bodies.specs.Gives.{Gives};
 ghost use Rattle.wb_wire.specs.Places.{at_place};
 

@@ -2,7 +2,7 @@
 use Rattle.std.proofs.Common.{◌≡◌, Some, None, Result, Ok, Err, option_map, sym, ap, ◌∙◌}
 use Rattle.wb_model.specs.declared.command.Command.{Command}
 use Rattle.wb_model.specs.declared.wire.WireFault.{WireFault}
-use Rattle.wb_model.specs.Bodies.{Numbers, bare}
+use Rattle.wb_model.specs.RouteBodies.{Numbers, bare}
 use Rattle.wb_model.specs.Heads.{path_of}
 use Rattle.wb_model.specs.Readings.{located, sized, command_by, command}
 use Rattle.wb_model.specs.Routes.{route}

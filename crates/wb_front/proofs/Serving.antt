@@ -1,0 +1,99 @@
+-- One more exchange of a connection, and more of its bytes.
+use Rattle.std.proofs.Common.{◌≡◌, ◌+◌, ℕ, false, List, [], ◌∷◌, ◌++◌, length, Option, Some, None, refl, sym, ap, ◌∙◌, subst}
+use Rattle.std.proofs.lemmas.List.{append_assoc, append-nil, length-append}
+use Rattle.std.specs.Io.KnownBytes.{Appends}
+use Rattle.wb_base.specs.Outside.{AppendsFront}
+use Rattle.wb_model.specs.declared.body.Told.{Told}
+use Rattle.wb_model.specs.Requests.{Frame}
+use Rattle.wb_links.specs.Lines.{Tick}
+use Rattle.wb_front.specs.Arrivals.{Flows}
+use Rattle.wb_front.specs.Endings.{IsOpenYet}
+use Rattle.wb_front.specs.Served.{Exchange, IsExchange, AreExchanges, share_after, shares, requests, replies, reply_bytes, tick_of, ticks, StayOpen, Sides, Loses, HasServed}
+
+-- ---- lists of exchanges
+
+shares_more : (xs : List Exchange) (x : Exchange) (s : ℕ) → shares (xs ++ x ∷ []) s ≡ share_after x (shares xs s)
+shares_more [] x s = refl
+shares_more (y ∷ ys) x s = shares_more ys x (share_after y s)
+
+requests_more : (xs : List Exchange) (x : Exchange) → requests (xs ++ x ∷ []) ≡ requests xs ++ x.request
+requests_more [] x = append-nil x.request
+requests_more (y ∷ ys) x = ap (λ bs. y.request ++ bs) (requests_more ys x) ∙ sym (append_assoc y.request (requests ys) x.request)
+
+replies_more : (xs : List Exchange) (x : Exchange) → replies (xs ++ x ∷ []) ≡ replies xs ++ reply_bytes x.reply
+replies_more [] x = append-nil (reply_bytes x.reply)
+replies_more (y ∷ ys) x = ap (λ bs. reply_bytes y.reply ++ bs) (replies_more ys x) ∙ sym (append_assoc (reply_bytes y.reply) (replies ys) (reply_bytes x.reply))
+
+ticks_more : (xs : List Exchange) (x : Exchange) → ticks (xs ++ x ∷ []) ≡ ticks xs ++ tick_of x.tick
+ticks_more [] x = append-nil (tick_of x.tick)
+ticks_more (y ∷ ys) x = ap (λ ts. tick_of y.tick ++ ts) (ticks_more ys x) ∙ sym (append_assoc (tick_of y.tick) (ticks ys) (tick_of x.tick))
+
+exchanges_more : (Ran : ℕ → Frame → Told → Type 0) (s : ℕ) (xs : List Exchange) (x : Exchange) → AreExchanges Ran s xs → IsExchange Ran (shares xs s) x → AreExchanges Ran s (xs ++ x ∷ [])
+exchanges_more Ran s [] x all one = (one, tt)
+exchanges_more Ran s (y ∷ ys) x all one = (all.0, exchanges_more Ran (share_after y s) ys x all.1 one)
+
+pub stay_more : (xs : List Exchange) (x : Exchange) → StayOpen xs → x.reply.close ≡ false → StayOpen (xs ++ x ∷ [])
+stay_more [] x all one = (one, tt)
+stay_more (y ∷ ys) x all one = (all.0, stay_more ys x all.1 one)
+
+pub length_more : (xs : List Exchange) (x : Exchange) → length (xs ++ x ∷ []) ≡ length xs + 1
+length_more xs x = length-append xs (x ∷ [])
+
+-- ---- what is told
+
+loses_on : {X : Type 0} (a b c : Option (List X)) (front more : List X) → Loses a b front → Loses b c more → Loses a c (front ++ more)
+loses_on a b c front more first then = λ xs is. let one = first xs is in let two = then one.0 one.1 in (two.0, two.1, one.2 ∙ (ap (λ zs. front ++ zs) two.2 ∙ sym (append_assoc front more two.0)))
+
+appends_on : (a b c : Option (List ℕ)) (front more : List ℕ) → Appends a b front → Appends b c more → Appends a c (front ++ more)
+appends_on None b c front more first then = tt
+appends_on (Some xs) None c front more first then = absurd first
+appends_on (Some xs) (Some ys) None front more first then = absurd then
+appends_on (Some xs) (Some ys) (Some zs) front more first then = then ∙ (ap (λ bs. bs ++ more) first ∙ append_assoc xs front more)
+
+front_on : (a b c : Option (List ℕ)) (front more : List ℕ) → Appends a b front → AppendsFront b c more → AppendsFront a c (front ++ more)
+front_on a b c front more first sent = (front ++ sent.0, sent.1, ap (λ bs. front ++ bs) sent.2 ∙ sym (append_assoc front sent.0 sent.1), appends_on a b c front sent.0 first sent.3)
+
+-- ---- a connection
+
+-- more bytes were read
+pub read_on : (Ran : ℕ → Frame → Told → Type 0) (a b : Sides) (xs : List Exchange) (held held' : List ℕ) (left' : Option (List ℕ)) → HasServed Ran a b xs held → Flows held b.left held' left' → HasServed Ran a (record b { left = left' }) xs held'
+read_on Ran a b xs held held' left' h flows = record {
+  exchanges = h.exchanges;
+  share_is = h.share_is;
+  bytes = λ l is. let one = h.bytes l is in let two = flows one.0 one.1 in
+      (two.0, two.1, one.2 ∙ (append_assoc (requests xs) held one.0 ∙ (ap (λ bs. requests xs ++ bs) two.2 ∙ sym (append_assoc (requests xs) held' two.0))));
+  turns = h.turns;
+}
+
+-- one more exchange was made
+pub served_more : (Ran : ℕ → Frame → Told → Type 0) (a b : Sides) (xs : List Exchange) (held rest : List ℕ) (x : Exchange) (got' : Option (List ℕ)) (moments' : Option (List Tick)) (share' : ℕ) → HasServed Ran a b xs held → held ≡ x.request ++ rest →
+    IsExchange Ran b.share x → share' ≡ share_after x b.share → Loses b.moments moments' (tick_of x.tick) → HasServed Ran a (record { left = b.left; got = got'; moments = moments'; share = share' }) (xs ++ x ∷ []) rest
+served_more Ran a b xs held rest x got' moments' share' h parts one rises loses = record {
+  exchanges = exchanges_more Ran a.share xs x h.exchanges (subst (λ s. IsExchange Ran s x) h.share_is one);
+  share_is = rises ∙ (ap (share_after x) h.share_is ∙ sym (shares_more xs x a.share));
+  bytes = subst (Loses a.left b.left) (ap (λ bs. requests xs ++ bs) parts ∙ (sym (append_assoc (requests xs) x.request rest) ∙ ap (λ bs. bs ++ rest) (sym (requests_more xs x)))) h.bytes;
+  turns = subst (Loses a.moments moments') (sym (ticks_more xs x)) (loses_on a.moments b.moments moments' (ticks xs) (tick_of x.tick) h.turns loses);
+}
+
+pub sent_more : (a b : Sides) (xs : List Exchange) (x : Exchange) (got' : Option (List ℕ)) → Appends a.got b.got (replies xs) → Appends b.got got' (reply_bytes x.reply) → Appends a.got got' (replies (xs ++ x ∷ []))
+sent_more a b xs x got' first then = subst (Appends a.got got') (sym (replies_more xs x)) (appends_on a.got b.got got' (replies xs) (reply_bytes x.reply) first then)
+
+pub cut_more : (a b : Sides) (xs : List Exchange) (x : Exchange) (got' : Option (List ℕ)) → Appends a.got b.got (replies xs) → AppendsFront b.got got' (reply_bytes x.reply) → AppendsFront a.got got' (replies (xs ++ x ∷ []))
+cut_more a b xs x got' first sent = subst (AppendsFront a.got got') (sym (replies_more xs x)) (front_on a.got b.got got' (replies xs) (reply_bytes x.reply) first sent)
+
+pub refused_more : (a b : Sides) (xs : List Exchange) (bytes : List ℕ) (got' : Option (List ℕ)) → Appends a.got b.got (replies xs) → Appends b.got got' bytes → Appends a.got got' (replies xs ++ bytes)
+refused_more a b xs bytes got' first then = appends_on a.got b.got got' (replies xs) bytes first then
+
+pub refused_cut : (a b : Sides) (xs : List Exchange) (bytes : List ℕ) (got' : Option (List ℕ)) → Appends a.got b.got (replies xs) → AppendsFront b.got got' bytes → AppendsFront a.got got' (replies xs ++ bytes)
+refused_cut a b xs bytes got' first sent = front_on a.got b.got got' (replies xs) bytes first sent
+
+-- none was made yet
+pub nothing_yet : (Ran : ℕ → Frame → Told → Type 0) (a : Sides) → IsOpenYet Ran a a [] []
+nothing_yet Ran a = record {
+  replied = record { served = record { exchanges = tt; share_is = refl; bytes = λ l is. (l, is, refl); turns = λ ts is. (ts, is, refl) }; sent = nothing a.got };
+  stay = tt;
+}
+  where
+    nothing : (o : Option (List ℕ)) → Appends o o []
+    nothing None = tt
+    nothing (Some xs) = sym (append-nil xs)

@@ -1,0 +1,103 @@
+-- Links that are attended one after another.
+use Rattle.std.proofs.Common.{◌≡◌, ◌≤◌, ◌<◌, ◌+◌, ◌-◌, ◌^◌, inl, inr, ℕ, nat_le, Bool, true, false, List, [], ◌∷◌, ◌++◌, Option, Some, None, refl, sym, ap, ◌∙◌, subst, arith}
+use Rattle.std.proofs.lemmas.List.{append_assoc, append-nil}
+use Rattle.std.proofs.lemmas.Bool.Decides.{nat_tests}
+use Rattle.std.specs.Io.KnownBytes.{Appends}
+use Rattle.wb_base.specs.Outside.{Rose}
+use Rattle.wb_model.specs.declared.body.Told.{Told}
+use Rattle.wb_model.specs.Requests.{Frame}
+use Rattle.wb_links.specs.Lines.{Line, Lines, Tick}
+use Rattle.wb_front.specs.declared.connection.Ended.{Ended}
+use Rattle.wb_front.specs.declared.connection.Ended.TheVariants as ended
+use Rattle.wb_front.specs.Attended.{sides_of, IsAttended, AreAttended, HasWorked, RoseOften}
+use Rattle.wb_front.specs.Endings.{EndsSo, IsEnded}
+use Rattle.wb_front.specs.Served.{Exchange, Sides, HasServed}
+
+-- a link that tells goes on telling
+grown : (old new : Option (List ℕ)) (g : List ℕ) (bytes : List ℕ) → old ≡ Some g → Appends old new bytes → (g' : List ℕ) × (new ≡ Some g')
+grown None new g bytes is h = absurd cc
+grown (Some xs) None g bytes is h = absurd h
+grown (Some xs) (Some ys) g bytes is h = (ys, refl)
+
+still_left : (Ran : ℕ → Frame → Told → Type 0) (a b : Sides) (xs : List Exchange) (held l : List ℕ) → a.left ≡ Some l → HasServed Ran a b xs held → (l' : List ℕ) × (b.left ≡ Some l')
+still_left Ran a b xs held l is h = let lost = h.bytes l is in (lost.0, lost.1)
+
+abbrev StillTells : Sides → Type 0
+StillTells b = (l : List ℕ) × (g : List ℕ) × (b.left ≡ Some l) × (b.got ≡ Some g)
+
+tells_by : (Ran : ℕ → Frame → Told → Type 0) (a b : Sides) (xs : List Exchange) (held l g bytes : List ℕ) → a.left ≡ Some l → a.got ≡ Some g → HasServed Ran a b xs held → Appends a.got b.got bytes → StillTells b
+tells_by Ran a b xs held l g bytes left got h sent = let one = still_left Ran a b xs held l left h in let two = grown a.got b.got g bytes got sent in (one.0, two.0, one.1, two.1)
+
+tells_so : (Ran : ℕ → Frame → Told → Type 0) (a b : Sides) (xs : List Exchange) (held l g : List ℕ) (how : Ended) → a.left ≡ Some l → a.got ≡ Some g → EndsSo Ran a b xs held how → StillTells b
+tells_so Ran a b xs held l g ended.Closed left got (inl h) = tells_by Ran a b xs held l g _ left got h.0.replied.served h.0.replied.sent
+tells_so Ran a b xs held l g ended.Closed left got (inr h) = tells_by Ran a b xs held l g _ left got h.0.served h.0.sent
+tells_so Ran a b xs held l g ended.CutShort left got h = tells_by Ran a b xs held l g _ left got h.0.replied.served h.0.replied.sent
+tells_so Ran a b xs held l g ended.ReadFault left got h = tells_by Ran a b xs held l g _ left got h.0.replied.served h.0.replied.sent
+tells_so Ran a b xs held l g ended.WriteFault left got h = tells_by Ran a b xs held l g _ left got h.0 h.1.2.3
+tells_so Ran a b xs held l g ended.ClockFault left got h = tells_by Ran a b xs held l g _ left got h.0.replied.served h.0.replied.sent
+tells_so Ran a b xs held l g ended.Spent left got h = tells_by Ran a b xs held l g _ left got h.0.replied.served h.0.replied.sent
+tells_so Ran a b xs held l g (ended.Refused fault) left got (inl h) = tells_by Ran a b xs held l g _ left got h.served h.sent
+tells_so Ran a b xs held l g (ended.Refused fault) left got (inr h) = tells_by Ran a b xs held l g _ left got h.0.served h.0.sent
+tells_so Ran a b xs held l g ended.Memory left got h = (l, g, ap (λ (s : Sides). s.left) h ∙ left, ap (λ (s : Sides). s.got) h ∙ got)
+
+pub still_tells : (Ran : ℕ → Frame → Told → Type 0) (a b : Sides) (l g : List ℕ) (how : Ended) → a.left ≡ Some l → a.got ≡ Some g → IsEnded Ran a b how → StillTells b
+still_tells Ran a b l g how left got h = tells_so Ran a b h.0 h.1 l g how left got h.2
+
+-- one more link was attended
+attended_more : (Ran : ℕ → Frame → Told → Type 0) (gave came : List Line) (a b : Line) (share s share' : ℕ) (moments m moments' : Option (List Tick)) → AreAttended Ran gave came share s moments m → IsAttended Ran a b s share' m moments' →
+    AreAttended Ran (gave ++ a ∷ []) (came ++ b ∷ []) share share' moments moments'
+attended_more Ran [] [] a b share s share' moments m moments' all one =
+    (share', moments', subst (λ n. IsAttended Ran a b n share' moments moments') all.0 (subst (λ o. IsAttended Ran a b s share' o moments') all.1 one), (refl, refl))
+attended_more Ran [] (y ∷ ys) a b share s share' moments m moments' all one = absurd all
+attended_more Ran (x ∷ xs) [] a b share s share' moments m moments' all one = absurd all
+attended_more Ran (x ∷ xs) (y ∷ ys) a b share s share' moments m moments' all one = (all.0, all.1, all.2, attended_more Ran xs ys a b all.0 s share' all.1 m moments' all.3 one)
+
+pub worked_more : (Ran : ℕ → Frame → Told → Type 0) (x y : Lines) (a b : Line) (rest : List Line) (share s share' : ℕ) (moments m moments' : Option (List Tick)) → HasWorked Ran x y share s moments m → y.left ≡ a ∷ rest → IsAttended Ran a b s share' m moments' →
+    HasWorked Ran x (record { left = rest; out = y.out; came = y.came ++ b ∷ [] }) share share' moments moments'
+worked_more Ran x y a b rest share s share' moments m moments' h left one = record {
+  gave = h.gave ++ a ∷ [];
+  came = h.came ++ b ∷ [];
+  left_is = h.left_is ∙ (ap (λ ls. h.gave ++ ls) left ∙ sym (append_assoc h.gave (a ∷ []) rest));
+  came_is = ap (λ ls. ls ++ b ∷ []) h.came_is ∙ append_assoc x.came h.came (b ∷ []);
+  out_is = h.out_is;
+  attended = attended_more Ran h.gave h.came a b share s share' moments m moments' h.attended one;
+}
+
+pub nothing_worked : (Ran : ℕ → Frame → Told → Type 0) (x : Lines) (share : ℕ) (moments : Option (List Tick)) → HasWorked Ran x x share share moments moments
+nothing_worked Ran x share moments = record { gave = []; came = []; left_is = refl; came_is = sym (append-nil x.came); out_is = refl; attended = (refl, refl) }
+
+pub ended_at : (Ran : ℕ → Frame → Told → Type 0) (left got left' got' : Option (List ℕ)) (a b : Line) (moments moments' : Option (List Tick)) (share share' : ℕ) (how : Ended) → left ≡ Some a.left → got ≡ Some a.got → left' ≡ Some b.left → got' ≡ Some b.got →
+    IsEnded Ran (record { left = left; got = got; moments = moments; share = share }) (record { left = left'; got = got'; moments = moments'; share = share' }) how → IsEnded Ran (sides_of a moments share) (sides_of b moments' share') how
+ended_at Ran left got left' got' a b moments moments' share share' how l g l' g' h =
+    subst (λ (s : Sides). IsEnded Ran s (sides_of b moments' share') how) (λ i. record { left = l i; got = g i; moments = moments; share = share })
+    (subst (λ (s : Sides). IsEnded Ran (record { left = left; got = got; moments = moments; share = share }) s how) (λ i. record { left = l' i; got = g' i; moments = moments'; share = share' }) h)
+
+-- ---- a listener's calls
+
+-- a link that was given is out
+pub out_given : (o o' : Option Lines) (A : Lines → Line → List Line → Type 0) (B : Line → Type 0) → (o ≡ None → o' ≡ None) → ((x : Lines) → o ≡ Some x → (line : Line) × (rest : List Line) × A x line rest × B line × (o' ≡ Some (record x { left = rest; out = x.out + 1 }))) → (z : Lines) → o' ≡ Some z → 0 < z.out
+out_given None o' A B untold given z is = absurd (let none : o' ≡ None = untold refl in let both : Some z ≡ None = sym is ∙ none in grind (arith, both))
+out_given (Some x) o' A B untold given z is =
+    let one = given x refl in
+    let same : record x { left = one.1; out = x.out + 1 } ≡ z = (let both : Some (record x { left = one.1; out = x.out + 1 }) ≡ Some z = sym one.4 ∙ is in cc) in
+    subst (λ (y : Lines). 0 < y.out) same (omega arith)
+
+pub rose_more : (times before old now : ℕ) → RoseOften times before old → old ≤ now → Rose old now → RoseOften (times + 1) before now
+rose_more times before old now often later rose = by often (nat_le (old + 1) (2 ^ 64 - 1)) refl
+  where
+    by : RoseOften times before old → (b : Bool) → nat_le (old + 1) (2 ^ 64 - 1) ≡ b → RoseOften (times + 1) before now
+    by (inr last) b test = inr (omega (arith, last, later))
+    by (inl enough) true test = inl (let le : old + 1 ≤ 2 ^ 64 - 1 = grind (arith, nat_tests, test) in omega (arith, enough, rose, le))
+    by (inl enough) false test = inr (let lt : 2 ^ 64 - 1 < old + 1 = grind (arith, nat_tests, test) in omega (arith, later, lt))
+
+pub rose_stays : (times before old now : ℕ) → RoseOften times before old → old ≤ now → RoseOften times before now
+rose_stays times before old now (inl enough) later = inl (omega (arith, enough, later))
+rose_stays times before old now (inr last) later = inr (omega (arith, last, later))
+
+-- where no link is left, none is left
+pub none_left : (o o' : Option Lines) → (o ≡ None → o' ≡ None) → ((x : Lines) → o ≡ Some x → (x.left ≡ []) × (o' ≡ Some x)) → (z : Lines) → o' ≡ Some z → z.left ≡ []
+none_left None o' untold none z is = absurd (let gone : o' ≡ None = untold refl in let both : Some z ≡ None = sym is ∙ gone in grind (arith, both))
+none_left (Some x) o' untold none z is =
+    let one = none x refl in
+    let same : x ≡ z = (let both : Some x ≡ Some z = sym one.1 ∙ is in cc) in
+    subst (λ (y : Lines). y.left ≡ []) same one.0

@@ -1,0 +1,19 @@
+use Rattle.std.proofs.Common.{ℕ, refl}
+use Rattle.wb_model.specs.declared.body.Told.{Told}
+use Rattle.wb_model.specs.Requests.{Frame}
+use Rattle.wb_links.specs.Lines.{Line}
+use Rattle.wb_front.specs.Served.{Sides}
+use Rattle.wb_front.proofs.Working.{still_tells, ended_at}
+use Rattle.wb_front.proofs.worker.attend.Goals as goal
+
+pub returns-clause-attended : goal.returns-clause-attended
+returns-clause-attended g c = λ x a told line.
+    let Ran : ℕ → Frame → Told → Type 0 = λ share frame told. g.G.Gate.ran share frame told in
+    let before : Sides = record { left = g.Li.End.Link.left c.args.link; got = g.Li.End.Link.got c.args.link; moments = g.T.Ticker.left c.args.station.now.ticker; share = c.args.pass.now.turns } in
+    let after : Sides = record { left = g.Li.End.Link.left c.serve_connection.new.link; got = g.Li.End.Link.got c.serve_connection.new.link; moments = g.T.Ticker.left c.serve_connection.new.ticker; share = c.serve_connection.new.pass.turns } in
+    let still = still_tells Ran before after a.left a.got c.serve_connection.result line.has_left line.has_got c.serve_connection.ensures.ended in
+    let b : Line = record { left = still.0; got = still.1; count = g.Li.End.Link.count c.serve_connection.new.link } in (
+      b,
+      (c.serve_connection.result, ended_at Ran before.left before.got after.left after.got a b before.moments after.moments before.share after.share c.serve_connection.result line.has_left line.has_got still.2 still.3 c.serve_connection.ensures.ended),
+      c.back.ensures.came x b told (record { has_left = still.2; has_got = still.3; counts = refl }),
+    )

@@ -1,0 +1,52 @@
+-- How a connection ends, and what was answered by then.
+use Rattle.std.specs.Prelude.{◌≡◌, ◌⊎◌, ℕ, true, List, [], ◌++◌, length, Some, None}
+use Rattle.std.specs.Io.KnownBytes.{Appends, IsAtEnd}
+use Rattle.wb_base.specs.Outside.{AppendsFront}
+use Rattle.wb_model.specs.declared.body.Told.{Told}
+use Rattle.wb_model.specs.declared.wire.WireFault.{WireFault}
+use Rattle.wb_model.specs.Cuts.{Part, Ends, IsCut}
+use Rattle.wb_model.specs.Requests.{Frame}
+use Rattle.wb_front.specs.Answers.{IsFatal}
+use Rattle.wb_front.specs.Arrivals.{IsUnfinished}
+use Rattle.wb_front.specs.Served.{Exchange, Sides, HasServed, HasReplied, StayOpen, ClosesLast, AsksNext, IsToSend, replies, reply_bytes, refusal}
+use Rattle.wb_front.specs.declared.connection.Ended.{Ended}
+use Rattle.wb_front.specs.declared.connection.Ended.TheVariants as ended
+
+-- exchanges were made and replied to, none of which closes, and these bytes were read besides
+pub record IsOpenYet (Ran : ℕ → Frame → Told → Type 0) (a b : Sides) (xs : List Exchange) (held : List ℕ) : Type 0 where
+  pub replied : HasReplied Ran a b xs held
+  pub stay : StayOpen xs
+
+-- the last exchange closes, and no fault that ends a connection is the reason
+abbrev pub IsClosed : List Exchange → Type 0
+IsClosed xs = (x : Exchange) × ClosesLast xs x × IsFatal None x.reply x.tick
+
+-- the last exchange is the refusal of a request for a fault that ends a connection
+abbrev pub IsRefusedLast : WireFault → List Exchange → Type 0
+IsRefusedLast fault xs = (x : Exchange) × ClosesLast xs x × IsFatal (Some fault) x.reply x.tick
+
+-- the bytes that follow the exchanges are no request, and were refused
+pub record IsRefusedHead (Ran : ℕ → Frame → Told → Type 0) (a b : Sides) (fault : WireFault) (xs : List Exchange) (held : List ℕ) : Type 0 where
+  pub served : HasServed Ran a b xs held
+  pub stay : StayOpen xs
+  pub cut : IsCut held (Ends fault)
+  pub sent : Appends a.got b.got (replies xs ++ reply_bytes (refusal fault true))
+
+-- some of what was to be sent was sent, from its front on
+abbrev pub IsCutOff : Sides → Sides → List Exchange → List ℕ → Type 0
+IsCutOff a b xs held = (bytes : List ℕ) × IsToSend xs held bytes × AppendsFront a.got b.got bytes
+
+-- by the exchanges that were made and the bytes that were read besides
+abbrev pub EndsSo : (ℕ → Frame → Told → Type 0) → Sides → Sides → List Exchange → List ℕ → Ended → Type 0
+EndsSo Ran a b xs held ended.Closed = (IsOpenYet Ran a b xs held × (held ≡ []) × IsAtEnd b.left) ⊎ (HasReplied Ran a b xs held × IsClosed xs)
+EndsSo Ran a b xs held ended.CutShort = IsOpenYet Ran a b xs held × IsCut held Part × IsAtEnd b.left
+EndsSo Ran a b xs held ended.ReadFault = IsOpenYet Ran a b xs held × IsUnfinished held
+EndsSo Ran a b xs held ended.WriteFault = HasServed Ran a b xs held × IsCutOff a b xs held
+EndsSo Ran a b xs held ended.ClockFault = IsOpenYet Ran a b xs held × AsksNext held
+EndsSo Ran a b xs held ended.Spent = IsOpenYet Ran a b xs held × (length xs ≡ 1000)
+EndsSo Ran a b xs held (ended.Refused fault) = IsRefusedHead Ran a b fault xs held ⊎ (HasReplied Ran a b xs held × IsRefusedLast fault xs)
+EndsSo Ran a b xs held ended.Memory = b ≡ a
+
+-- a connection that stood so is ended so
+abbrev pub IsEnded : (ℕ → Frame → Told → Type 0) → Sides → Sides → Ended → Type 0
+IsEnded Ran a b ended = (xs : List Exchange) × (held : List ℕ) × EndsSo Ran a b xs held ended

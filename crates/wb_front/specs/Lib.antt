@@ -1,0 +1,5 @@
+pub mod Answers
+pub mod Arrivals
+pub mod Attended
+pub mod Endings
+pub mod Served

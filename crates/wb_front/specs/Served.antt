@@ -1,0 +1,132 @@
+-- The requests of a connection, each with its reply.
+use Rattle.std.specs.Prelude.{◌≡◌, ◌≢◌, ◌⊎◌, ℕ, Bool, true, false, List, [], ◌∷◌, ◌++◌, length, Option, Some, None}
+use Rattle.std.specs.Io.KnownBytes.{Appends}
+use Rattle.wb_model.specs.declared.body.Told.{Told}
+use Rattle.wb_model.specs.declared.command.Asked.{Asked}
+use Rattle.wb_model.specs.declared.wire.WireFault.{WireFault}
+use Rattle.wb_model.specs.declared.wire.WireFault.TheVariants as faults
+use Rattle.wb_model.specs.Cuts.{HasHead, Ends, IsCut}
+use Rattle.wb_model.specs.Readings.{Asks, Refuses, Reads, Closes}
+use Rattle.wb_model.specs.Replies.{fault_told, fault_allow, reply_text}
+use Rattle.wb_model.specs.Requests.{Frame}
+use Rattle.wb_model.specs.Scripts.{Reply}
+use Rattle.wb_kept.specs.Turned.{turns_with}
+use Rattle.wb_links.specs.Lines.{Tick}
+
+-- a request's bytes, its reply, and the moment and words of its turn, where it was one
+pub record Exchange : Type 0 where
+  pub request : List ℕ
+  pub reply : Reply
+  pub tick : Option Tick
+
+-- the turn of what is asked at a tick
+abbrev pub frame_at : Tick → Asked → Frame
+frame_at tick asked = record { moment = tick.0; words = tick.1; asked = asked }
+
+-- ---- what a reply is
+
+-- the gate's answer to what the bytes ask: the turn ran, for a pass with this share
+abbrev pub IsTurn : (ℕ → Frame → Told → Type 0) → ℕ → Tick → List ℕ → Reply → Type 0
+IsTurn Ran share tick bytes reply = (asked : Asked) × Reads bytes (Asks asked) × Ran share (frame_at tick asked) reply.told × (reply.allow ≡ None) × (reply.close ≡ asked.close)
+
+abbrev pub refusal : WireFault → Bool → Reply
+refusal fault close = record { told = fault_told fault; allow = fault_allow fault; close = close }
+
+-- why the bytes ask nothing: a fault of theirs, or want of memory
+abbrev pub IsRefused : List ℕ → WireFault → Bool → Type 0
+IsRefused bytes fault close = (fault ≢ faults.Memory → Reads bytes (Refuses fault close)) × (fault ≡ faults.Memory → Closes bytes close)
+
+abbrev pub IsReply : (ℕ → Frame → Told → Type 0) → ℕ → List ℕ → Reply → Option Tick → Type 0
+IsReply Ran share bytes reply (Some tick) = IsTurn Ran share tick bytes reply
+IsReply Ran share bytes reply None = (fault : WireFault) × (close : Bool) × IsRefused bytes fault close × (reply ≡ refusal fault close)
+
+-- a request is a head with its whole body, and has its reply
+pub record IsExchange (Ran : ℕ → Frame → Told → Type 0) (share : ℕ) (x : Exchange) : Type 0 where
+  pub whole : (body : List ℕ) × HasHead x.request body (length body)
+  pub replied : IsReply Ran share x.request x.reply x.tick
+
+-- ---- one after another
+
+-- the pass's share of the turns after an exchange
+abbrev pub share_by : Option Tick → Told → ℕ → ℕ
+share_by None told share = share
+share_by (Some tick) told share = turns_with told share
+
+abbrev pub share_after : Exchange → ℕ → ℕ
+share_after x share = share_by x.tick x.reply.told share
+
+abbrev pub shares : List Exchange → ℕ → ℕ
+shares [] share = share
+shares (x ∷ xs) share = shares xs (share_after x share)
+
+abbrev pub AreExchanges : (ℕ → Frame → Told → Type 0) → ℕ → List Exchange → Type 0
+AreExchanges Ran share [] = Unit {0}
+AreExchanges Ran share (x ∷ xs) = IsExchange Ran share x × AreExchanges Ran (share_after x share) xs
+
+-- the bytes of all requests, and of all replies
+abbrev pub requests : List Exchange → List ℕ
+requests [] = []
+requests (x ∷ xs) = x.request ++ requests xs
+
+abbrev pub reply_bytes : Reply → List ℕ
+reply_bytes reply = reply_text reply.told reply.allow reply.close
+
+abbrev pub replies : List Exchange → List ℕ
+replies [] = []
+replies (x ∷ xs) = reply_bytes x.reply ++ replies xs
+
+-- the ticks of all turns
+abbrev pub tick_of : Option Tick → List Tick
+tick_of None = []
+tick_of (Some tick) = tick ∷ []
+
+abbrev pub ticks : List Exchange → List Tick
+ticks [] = []
+ticks (x ∷ xs) = tick_of x.tick ++ ticks xs
+
+-- none of them closes the connection
+abbrev pub StayOpen : List Exchange → Type 0
+StayOpen [] = Unit {0}
+StayOpen (x ∷ xs) = (x.reply.close ≡ false) × StayOpen xs
+
+-- ---- a connection so far
+
+-- the two ends of a connection: the bytes that its link has left, those that it got, the ticks to come, and the pass's share of the turns
+pub record Sides : Type 0 where
+  pub left : Option (List ℕ)
+  pub got : Option (List ℕ)
+  pub moments : Option (List Tick)
+  pub share : ℕ
+
+-- what told content was, and is now, where this went away in front of it
+abbrev pub Loses : {X : Type 0} → Option (List X) → Option (List X) → List X → Type 0
+Loses {X} old new front = (xs : List X) → old ≡ Some xs → (ys : List X) × (new ≡ Some ys) × (xs ≡ front ++ ys)
+
+-- these exchanges were made, and these bytes were read besides
+pub record HasServed (Ran : ℕ → Frame → Told → Type 0) (a b : Sides) (xs : List Exchange) (held : List ℕ) : Type 0 where
+  pub exchanges : AreExchanges Ran a.share xs
+  pub share_is : b.share ≡ shares xs a.share
+  pub bytes : Loses a.left b.left (requests xs ++ held)
+  pub turns : Loses a.moments b.moments (ticks xs)
+
+-- and all their replies were sent
+pub record HasReplied (Ran : ℕ → Frame → Told → Type 0) (a b : Sides) (xs : List Exchange) (held : List ℕ) : Type 0 where
+  pub served : HasServed Ran a b xs held
+  pub sent : Appends a.got b.got (replies xs)
+
+-- ---- how it ends
+
+-- the last one closes the connection
+pub record ClosesLast (xs : List Exchange) (x : Exchange) : Type 0 where
+  pub front : List Exchange
+  pub parts : xs ≡ front ++ x ∷ []
+  pub stay : StayOpen front
+  pub closes : x.reply.close ≡ true
+
+-- the bytes that were read begin with a request that asks something
+abbrev pub AsksNext : List ℕ → Type 0
+AsksNext held = (request : List ℕ) × (rest : List ℕ) × (held ≡ request ++ rest) × ((asked : Asked) × Reads request (Asks asked))
+
+-- the replies to these exchanges, or these and the refusal of what follows
+abbrev pub IsToSend : List Exchange → List ℕ → List ℕ → Type 0
+IsToSend xs held bytes = (bytes ≡ replies xs) ⊎ ((fault : WireFault) × IsCut held (Ends fault) × (bytes ≡ replies xs ++ reply_bytes (refusal fault true)))

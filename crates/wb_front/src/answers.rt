@@ -1,0 +1,137 @@
+//! The reply to one request: a turn of the host behind the gate, or the refusal of bytes that ask nothing.
+ghost use Rattle.std.specs.Prelude.{◌≡◌, ◌↔◌, ◌++◌, true, false, Some, None, Option, IfOk, OnOk, OnErr, IfSome, length, if◌then◌else◌};
+ghost use Rattle.std.specs.Io.KnownBytes.{Appends};
+ghost use Rattle.wb_base.specs.Outside.{AppendsFront, HasCause};
+ghost use Rattle.wb_model.specs.declared.command.Asked.{Asked as AskedOf};
+ghost use Rattle.wb_model.specs.Readings.{Asks, Reads, closes_always as always_closes};
+ghost use Rattle.wb_model.specs.Replies.{fault_told, fault_allow};
+ghost use Rattle.wb_links.specs.Lines.{Tick};
+ghost use Rattle.wb_front.specs.Served.{IsReply, Loses, refusal as refusal_of, reply_bytes, share_by, tick_of};
+ghost use Rattle.wb_front.specs.Answers.{reply_of, IsAnswered};
+
+use std::alloc::Global;
+use std::sync::Wait;
+use std::sync::ledger::Ledger;
+use wb_base::{Failed, Keeper};
+use wb_gate::{Gate, Turn};
+use wb_kept::Pass;
+use wb_links::{Link, Ticker};
+use wb_model::{Body, Told};
+use wb_wire::{
+    PathNo, Routes, WireFault, WireNo, fault_body, fault_status, read_request, reply_head,
+};
+
+/// A reply: what is told, the path whose methods it lists, whether the connection closes after it, and the fault that ends the
+/// connection, where it is such a fault.
+#[derive(Drop)]
+pub struct Answer {
+    pub told: Told,
+    pub allow: Option<PathNo>,
+    pub close: bool,
+    pub fatal: Option<WireFault>,
+}
+
+// The path whose methods a fault's reply lists.
+fn allow_of(fault: &WireFault) -> Option<PathNo>
+    ensures { result ≡ fault_allow fault.now }
+{
+    match fault {
+        WireFault::BadHead => None,
+        WireFault::BadLength => None,
+        WireFault::NoLength => None,
+        WireFault::TooLarge => None,
+        WireFault::NoRoute => None,
+        WireFault::NoMethod(path) => Some(*path),
+        WireFault::BadJson => None,
+        WireFault::BadShape => None,
+        WireFault::Memory => None,
+    }
+}
+
+// Whether the connection closes after a fault, whatever the head asks for.
+fn closes_always(fault: &WireFault) -> bool
+    ensures { result ≡ always_closes fault.now }
+{
+    match fault {
+        WireFault::BadHead => true,
+        WireFault::BadLength => true,
+        WireFault::NoLength => true,
+        WireFault::TooLarge => true,
+        WireFault::NoRoute => false,
+        WireFault::NoMethod(_) => false,
+        WireFault::BadJson => false,
+        WireFault::BadShape => false,
+        WireFault::Memory => false,
+    }
+}
+
+/// The reply to bytes that ask nothing. It takes no memory.
+pub fn refusal(no: &WireNo) -> Answer
+    ensures reply { reply_of result ≡ refusal_of no.now.fault no.now.close }
+    ensures fatal { result.fatal ≡ (if always_closes no.now.fault then Some no.now.fault else None) }
+{
+    Answer {
+        told: Told {
+            status: fault_status(&no.fault),
+            body: Body::short(fault_body(&no.fault)),
+        },
+        allow: allow_of(&no.fault),
+        close: no.close,
+        fatal: if closes_always(&no.fault) {
+            Some(no.fault)
+        } else {
+            None
+        },
+    }
+}
+
+/// The reply to a request, which is a turn of the host where it asks something. The ticker's failure makes none.
+pub fn reply_to<R: Wait, K: Keeper, A: Ledger, B: Ledger, G: Gate<K, A, B, Turn>, T: Ticker>(
+    rt: &R,
+    alloc: Global,
+    gate: &G,
+    routes: &Routes,
+    pass: &mut Pass<A, B>,
+    ticker: &mut T,
+    bytes: &[u8],
+) -> Result<Answer, Failed>
+    ensures answered { IfOk result (λ a. (tick : Option Tick) × IsAnswered (λ share frame told. G.ran share frame told) pass.old.turns pass.new.turns (T.left ticker.old) (T.left ticker.new) bytes.now a tick) }
+    ensures failed { OnErr result ((pass.new.turns ≡ pass.old.turns) × (T.left ticker.new ≡ T.left ticker.old) × ((asked : AskedOf) × Reads bytes.now (Asks asked))) }
+    ensures parts { pass.new.parts ≡ pass.old.parts }
+    ensures cause { HasCause (T.count ticker.old) (T.count ticker.new) result }
+{
+    match read_request(alloc, routes, bytes) {
+        Ok(asked) => {
+            let Ok(tick) = ticker.tick() else {
+                return Err(Failed);
+            };
+            let close = asked.close;
+            Ok(Answer {
+                told: gate.enter(rt, pass, Turn::new(asked, tick.0, tick.1)),
+                allow: None,
+                close,
+                fatal: None,
+            })
+        }
+        Err(no) => Ok(refusal(&no)),
+    }
+}
+
+/// Sends a reply. It takes no memory.
+pub fn send<L: Link>(link: &mut L, answer: &Answer) -> Result<(), Failed>
+    ensures ok { OnOk result (Appends (L.got link.old) (L.got link.new) (reply_bytes (reply_of answer.now))) }
+    ensures err { OnErr result (AppendsFront (L.got link.old) (L.got link.new) (reply_bytes (reply_of answer.now))) }
+    ensures left { L.left link.new ≡ L.left link.old }
+    ensures cause { HasCause (L.count link.old) (L.count link.new) result }
+{
+    let body = answer.told.body.as_bytes();
+    let head = reply_head(answer.told.status, answer.allow, body.len(), answer.close);
+    match link.write_all(head.as_bytes()) {
+        Ok(()) => {}
+        Err(no) => return Err(no),
+    }
+    match link.write_all(body) {
+        Ok(()) => Ok(()),
+        Err(no) => Err(no),
+    }
+}

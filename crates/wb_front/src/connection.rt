@@ -1,0 +1,117 @@
+//! A connection: request after request is taken from its link, and each has its reply.
+ghost use Rattle.std.specs.Prelude.{◌≡◌, ◌≤◌, ◌⊎◌, true, Some, None, if◌then◌else◌};
+ghost use Rattle.std.specs.Io.KnownBytes.{Appends};
+ghost use Rattle.wb_base.specs.Outside.{AppendsFront, Rose};
+ghost use Rattle.wb_model.specs.declared.wire.WireFault.{WireFault as FaultData};
+ghost use Rattle.wb_front.specs.Served.{refusal as refusal_of, reply_bytes};
+ghost use Rattle.wb_front.specs.Endings.{IsEnded};
+
+use crate::answers::{Answer, refusal, reply_to, send};
+use crate::inbox::{Arrived, Inbox};
+use std::alloc::Global;
+use std::sync::Wait;
+use std::sync::ledger::Ledger;
+use wb_base::Keeper;
+use wb_gate::{Gate, Turn};
+use wb_kept::Pass;
+use wb_links::{Link, Ticker};
+use wb_wire::{Routes, WireFault, WireNo};
+
+/// How a connection ended.
+#[derive(Clone, Copy, Debug, PartialEq, Eq)]
+pub enum Ended {
+    /// Its bytes ended between two requests, or the reply to a request that closes was sent.
+    Closed,
+    /// Its link failed at a read.
+    ReadFault,
+    /// Its link failed at a write.
+    WriteFault,
+    /// The ticker failed.
+    ClockFault,
+    /// Its bytes ended inside a request.
+    CutShort,
+    /// It had as many replies as a connection has.
+    Spent,
+    /// Its bytes were refused, and the refusal was sent.
+    Refused(WireFault),
+    /// There was no memory for its bytes. Nothing was read.
+    Memory,
+}
+
+// How a connection ends after a reply that closes.
+fn closed(answer: &Answer) -> Ended
+    ensures some { (fault : FaultData) → answer.now.fatal ≡ Some fault → result ≡ Ended.Refused fault }
+    ensures none { answer.now.fatal ≡ None → result ≡ Ended.Closed }
+{
+    match answer.fatal {
+        Some(fault) => Ended::Refused(fault),
+        None => Ended::Closed,
+    }
+}
+
+// Sends the refusal of bytes that are no request.
+fn refuse<L: Link>(link: &mut L, no: &WireNo) -> Ended
+    ensures sent { ((result ≡ Ended.Refused no.now.fault) × Appends (L.got link.old) (L.got link.new) (reply_bytes (refusal_of no.now.fault no.now.close))) ⊎ ((result ≡ Ended.WriteFault) × Rose (L.count link.old) (L.count link.new) × AppendsFront (L.got link.old) (L.got link.new) (reply_bytes (refusal_of no.now.fault no.now.close))) }
+    ensures left { L.left link.new ≡ L.left link.old }
+    ensures later { L.count link.old ≤ L.count link.new }
+{
+    let answer = refusal(no);
+    match send(link, &answer) {
+        Ok(()) => Ended::Refused(no.fault),
+        Err(_) => Ended::WriteFault,
+    }
+}
+
+/// Serves one connection: each request that comes over its link has its reply, in order, and bytes that follow one are kept. It takes
+/// memory for its bytes once, before it reads.
+pub fn serve_connection<
+    R: Wait,
+    K: Keeper,
+    A: Ledger,
+    B: Ledger,
+    G: Gate<K, A, B, Turn>,
+    L: Link,
+    T: Ticker,
+>(
+    rt: &R,
+    alloc: Global,
+    gate: &G,
+    routes: &Routes,
+    pass: &mut Pass<A, B>,
+    link: &mut L,
+    ticker: &mut T,
+) -> Ended
+    ensures ended { IsEnded (λ share frame told. G.ran share frame told) (record { left = L.left link.old; got = L.got link.old; moments = T.left ticker.old; share = pass.old.turns }) (record { left = L.left link.new; got = L.got link.new; moments = T.left ticker.new; share = pass.new.turns }) result }
+    ensures parts { pass.new.parts ≡ pass.old.parts }
+    ensures later { (L.count link.old ≤ L.count link.new) × (T.count ticker.old ≤ T.count ticker.new) }
+    ensures read_fault { result ≡ Ended.ReadFault → Rose (L.count link.old) (L.count link.new) }
+    ensures write_fault { result ≡ Ended.WriteFault → Rose (L.count link.old) (L.count link.new) }
+    ensures clock_fault { result ≡ Ended.ClockFault → Rose (T.count ticker.old) (T.count ticker.new) }
+{
+    let Ok(inbox) = Inbox::new(alloc) else {
+        return Ended::Memory;
+    };
+    let mut inbox = inbox;
+    for _ in 0..1000u32 {
+        let Ok(arrived) = inbox.next(link) else {
+            return Ended::ReadFault;
+        };
+        let size = match arrived {
+            Arrived::Request(size) => size,
+            Arrived::End => return Ended::Closed,
+            Arrived::Part => return Ended::CutShort,
+            Arrived::No(fault) => return refuse(link, &WireNo { fault, close: true }),
+        };
+        let Ok(answer) = reply_to(rt, alloc, gate, routes, pass, ticker, inbox.first(size)) else {
+            return Ended::ClockFault;
+        };
+        let Ok(()) = send(link, &answer) else {
+            return Ended::WriteFault;
+        };
+        if answer.close {
+            return closed(&answer);
+        }
+        inbox.drop_first(size);
+    }
+    Ended::Spent
+}

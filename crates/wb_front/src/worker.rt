@@ -1,0 +1,105 @@
+//! A worker: it attends link after link, until its listener has none.
+ghost use Rattle.std.specs.Prelude.{◌≡◌, ◌≤◌, ◌<◌, ◌-◌, ◌++◌, ◌∷◌, [], Some};
+ghost use Rattle.wb_links.specs.Lines.{Line, IsLine, Lines};
+ghost use Rattle.wb_front.specs.Attended.{IsAttended, HasWorked, RoseOften};
+
+use crate::connection::serve_connection;
+use std::alloc::Global;
+use std::sync::Wait;
+use std::sync::ledger::Ledger;
+use wb_base::Keeper;
+use wb_gate::{Gate, Turn};
+use wb_kept::Pass;
+use wb_links::{Listener, Ticker};
+use wb_wire::Routes;
+
+/// What a worker has for itself: what brings its links, and what tells it the time.
+#[derive(Drop)]
+pub struct Station<Li: Listener, T: Ticker> {
+    pub listener: Li,
+    pub ticker: T,
+}
+
+/// How a worker ended.
+#[derive(Clone, Copy, Debug, PartialEq, Eq)]
+pub enum Worked {
+    /// Its listener has no more links.
+    End,
+    /// Its listener failed at 16 calls.
+    ListenFault,
+}
+
+// Attends a link that the listener gave, and hands it back.
+fn attend<
+    R: Wait,
+    K: Keeper,
+    A: Ledger,
+    B: Ledger,
+    G: Gate<K, A, B, Turn>,
+    Li: Listener,
+    T: Ticker,
+>(
+    rt: &R,
+    alloc: Global,
+    gate: &G,
+    routes: &Routes,
+    pass: &mut Pass<A, B>,
+    station: &mut Station<Li, T>,
+    link: Li::End,
+)
+    requires out { (x : Lines) → Li.told station.old.listener ≡ Some x → 0 < x.out }
+    ensures attended { (x : Lines) (a : Line) → Li.told station.old.listener ≡ Some x → IsLine (Li.End.left link) (Li.End.got link) (Li.End.count link) a → (b : Line) × IsAttended (λ share frame told. G.ran share frame told) a b pass.old.turns pass.new.turns (T.left station.old.ticker) (T.left station.new.ticker) × (Li.told station.new.listener ≡ Some (record x { out = x.out - 1; came = x.came ++ b ∷ [] })) }
+    ensures count { Li.count station.new.listener ≡ Li.count station.old.listener }
+    ensures parts { pass.new.parts ≡ pass.old.parts }
+    ensures later { T.count station.old.ticker ≤ T.count station.new.ticker }
+{
+    let mut link = link;
+    serve_connection(
+        rt,
+        alloc,
+        gate,
+        routes,
+        pass,
+        &mut link,
+        &mut station.ticker,
+    );
+    station.listener.back(link);
+}
+
+/// Attends link after link, and hands each back to its listener as it is then. It ends where the listener has no more, or failed often.
+pub fn work<
+    R: Wait,
+    K: Keeper,
+    A: Ledger,
+    B: Ledger,
+    G: Gate<K, A, B, Turn>,
+    Li: Listener,
+    T: Ticker,
+>(
+    rt: &R,
+    alloc: Global,
+    gate: &G,
+    routes: &Routes,
+    pass: &mut Pass<A, B>,
+    station: &mut Station<Li, T>,
+) -> Worked
+    ensures attended { (x : Lines) → Li.told station.old.listener ≡ Some x → (y : Lines) × (Li.told station.new.listener ≡ Some y) × HasWorked (λ share frame told. G.ran share frame told) x y pass.old.turns pass.new.turns (T.left station.old.ticker) (T.left station.new.ticker) }
+    ensures ended { result ≡ Worked.End → (y : Lines) → Li.told station.new.listener ≡ Some y → y.left ≡ [] }
+    ensures failed { result ≡ Worked.ListenFault → RoseOften 16 (Li.count station.old.listener) (Li.count station.new.listener) }
+    ensures parts { pass.new.parts ≡ pass.old.parts }
+{
+    let mut failed = 0u32;
+    for _ in rt.forever() {
+        match station.listener.next() {
+            Err(_) => {
+                failed += 1;
+                if failed == 16 {
+                    return Worked::ListenFault;
+                }
+            }
+            Ok(None) => return Worked::End,
+            Ok(Some(link)) => attend(rt, alloc, gate, routes, pass, station, link),
+        }
+    }
+    unreachable!()
+}

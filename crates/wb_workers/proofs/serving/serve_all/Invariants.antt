@@ -1,0 +1,7 @@
+use Rattle.wb_workers.proofs.serving.serve_all.Given as goal
+
+abbrev pub ghosts-serve_on-A-Ledger : goal.ghosts-serve_on-A-Ledger
+ghosts-serve_on-A-Ledger g a = record { name = a.turns.name; parts = a.turns.parts }
+
+abbrev pub ghosts-serve_on-B-Ledger : goal.ghosts-serve_on-B-Ledger
+ghosts-serve_on-B-Ledger g a = record { name = a.numbers.name; parts = a.numbers.parts }

@@ -1,0 +1,35 @@
+use Rattle.std.proofs.Common.{◌≡◌, ◌+◌, ◌≤◌, vec_len, arith, rules, ap, sym, ◌∙◌, refl}
+use Rattle.wb_kept.specs.Hosted.{parts_of}
+use Rattle.std.proofs.lemmas.List.Elements.{All-pop, All-push, All-same}
+use Rattle.wb_workers.specs.Workers.{HasEnded, HasNone}
+use Rattle.wb_workers.proofs.Parts.{parts_more}
+use Rattle.wb_workers.proofs.serving.unplace.Goals as goal
+
+pub loop-next-preserved : goal.loop-next-preserved
+loop-next-preserved g c =
+    let i = c.loop-next.invariant in
+    let pass = c.push_reserved-in-Some.ensures in
+    let place = c.push_reserved-in-Some-2.ensures in
+    let popped = All-pop (λ w. HasEnded (g.Li.Listener.told w.station.listener) w.worked) _ _ _ c.pop.ensures.items i.5 in (
+      search rules,
+      search rules,
+      ap parts_of pass.items ∙ (parts_more c.loop-next.passes.items c.in-Some.next.pass _ i.2 c.in-Some.next.one_part ∙ sym pass.len),
+      search rules,
+      search rules,
+      popped.0,
+      λ ended. All-same (λ s. HasNone (g.Li.Listener.told s.listener)) _ _ place.items (All-push (λ s. HasNone (g.Li.Listener.told s.listener)) _ _ (i.6 ended) ((rw c.in-Some.is at popped.1) c.in-End.is)),
+    )
+
+pub loop-next-preserved-in_default-worked : goal.loop-next-preserved-in_default-worked
+loop-next-preserved-in_default-worked g c =
+    let i = c.loop-next.invariant in
+    let pass = c.push_reserved.ensures in
+    let popped = All-pop (λ w. HasEnded (g.Li.Listener.told w.station.listener) w.worked) _ _ _ c.pop.ensures.items i.5 in (
+      search rules,
+      search rules,
+      ap parts_of pass.items ∙ (parts_more c.loop-next.passes.items c.in-Some.next.pass _ i.2 c.in-Some.next.one_part ∙ sym pass.len),
+      search rules,
+      search rules,
+      popped.0,
+      λ ended. absurd (grind (arith, ended)),
+    )

@@ -1,0 +1,157 @@
+//! A host is served: its stations are given to workers and come back, and it is taken apart at the end.
+ghost use Rattle.std.specs.Prelude.{◌≡◌, ◌<◌, ◌≤◌, ◌+◌, [], Some, true, All, vec_len, vec_capacity, IfOk, IfErr};
+ghost use Rattle.wb_links.specs.Lines.{Lines};
+ghost use Rattle.wb_model.specs.Rows.{rows_of};
+ghost use Rattle.wb_tables.specs.Standing.{hosts_of};
+ghost use Rattle.wb_kept.specs.Hosted.{parts_of};
+ghost use Rattle.wb_workers.specs.Workers.{HasEnded, HasNone};
+
+use crate::worker::{Worker, attend_all, make_worker};
+use std::alloc::Global;
+use std::marker::Brand;
+use std::sync::Wait;
+use std::sync::ledger::{Blank, Ledger};
+use std::thread::Threads;
+use wb_base::{Keeper, Memory};
+use wb_desk::Desk;
+use wb_front::{Station, Worked};
+use wb_gate::{LockGate, close};
+use wb_kept::{Closed, Kept, Pass};
+use wb_links::{Listener, Ticker};
+use wb_wire::Routes;
+
+/// How a host ended: whether each station had no more links, and what is left of the host.
+#[derive(Drop)]
+pub struct Ended<K: Keeper> {
+    pub all: bool,
+    pub closed: Closed<K>,
+}
+
+// Moves the stations, the last first, into workers with a pass of one part each.
+fn place<Li: Listener, T: Ticker, A: Ledger, B: Ledger>(
+    all: Pass<A, B>,
+    stations: &mut Vec<Station<Li, T>>,
+    workers: &mut Vec<Worker<Li, T, A, B>>,
+)
+    requires parts { (0 < all.parts) × (all.parts ≡ vec_len stations.old) }
+    requires room { (vec_len workers.old ≡ 0) × (vec_len stations.old ≤ vec_capacity workers.old) }
+    ensures workers { vec_len workers.new ≡ vec_len stations.old }
+    ensures stations { (vec_len stations.new ≡ 0) × (vec_capacity stations.new ≡ vec_capacity stations.old) }
+{
+    let mut all = all;
+    while stations.len() > 1 {
+        let Some(station) = stations.pop() else {
+            unreachable!()
+        };
+        workers.push_reserved(make_worker(all.split(), station));
+    }
+    let Some(station) = stations.pop() else {
+        unreachable!()
+    };
+    workers.push_reserved(make_worker(all, station));
+}
+
+// Moves the stations back in their order, and takes the passes. Says whether each had no more links.
+fn unplace<Li: Listener, T: Ticker, A: Ledger, B: Ledger>(
+    mut workers: Vec<Worker<Li, T, A, B>>,
+    stations: &mut Vec<Station<Li, T>>,
+    passes: &mut Vec<Pass<A, B>>,
+) -> bool
+    requires empty { (vec_len stations.old ≡ 0) × (passes.old.items ≡ []) }
+    requires room { (vec_len workers ≤ vec_capacity stations.old) × (vec_len workers ≤ vec_capacity passes.old) }
+    requires ended { All (λ w. HasEnded (Li.told w.station.listener) w.worked) workers.items }
+    ensures stations { vec_len stations.new ≡ vec_len workers }
+    ensures passes { parts_of passes.new.items ≡ vec_len workers }
+    ensures left { result ≡ true → All (λ s. HasNone (Li.told s.listener)) stations.new.items }
+{
+    let mut ended = true;
+    while let Some(next) = workers.pop() {
+        let Worker {
+            pass,
+            station,
+            worked,
+        } = next;
+        let Worked::End = worked else {
+            ended = false;
+            passes.push_reserved(pass);
+            stations.push_reserved(station);
+            continue;
+        };
+        passes.push_reserved(pass);
+        stations.push_reserved(station);
+    }
+    ended
+}
+
+// Serves over two ledgers of as many parts as there are stations. Memory is wanted before the first link is taken.
+fn serve_on<
+    K: Keeper + Send,
+    A: Ledger + Send + Sync,
+    B: Ledger + Send + Sync,
+    Li: Listener + Send,
+    T: Ticker + Send,
+    R: Threads + Wait + Sync,
+>(
+    rt: &R,
+    alloc: Global,
+    routes: &Routes,
+    desk: Desk,
+    keeper: K,
+    turns: Blank,
+    numbers: Blank,
+    stations: &mut Vec<Station<Li, T>>,
+) -> Result<Ended<K>, Memory>
+where
+    Li::End: Send,
+    requires some { 0 < vec_len stations.old }
+    requires kept { K.honest keeper → K.holds keeper (rows_of (hosts_of desk).list) }
+    requires turns { (turns.name ≡ A.name) × (turns.parts ≡ A.parts) × (turns.parts ≡ vec_len stations.old) }
+    requires numbers { (numbers.name ≡ B.name) × (numbers.parts ≡ B.parts) × (numbers.parts ≡ vec_len stations.old) }
+    ensures stations { vec_len stations.new ≡ vec_len stations.old }
+    ensures left { IfOk result (λ e. e.all ≡ true → All (λ s. HasNone (Li.told s.listener)) stations.new.items) }
+    ensures kept { IfOk result (λ e. K.honest e.closed.keeper → K.holds e.closed.keeper (rows_of (hosts_of e.closed.desk).list)) }
+{
+    let count = stations.len();
+    let mut workers = Vec::with_capacity(alloc, count)?;
+    let mut passes = Vec::with_capacity(alloc, count)?;
+    let (kept, all) = Kept::<K, A, B>::new(desk, keeper, count as u64, turns, numbers);
+    place(all, stations, &mut workers);
+    let gate = LockGate::over(kept);
+    attend_all(rt, alloc, &gate, routes, workers.as_mut_slice());
+    let all = unplace(workers, stations, &mut passes);
+    match close(gate, passes) {
+        Ok(closed) => Ok(Ended { all, closed }),
+        Err(_) => unreachable!(),
+    }
+}
+
+/// Serves a host at these stations, each by a worker in a thread of its own, until each worker ends; then the host is taken apart. The
+/// stations come back in their order.
+pub fn serve_all<K: Keeper + Send, Li: Listener + Send, T: Ticker + Send, R: Threads + Wait + Sync>(
+    rt: &R,
+    alloc: Global,
+    routes: &Routes,
+    desk: Desk,
+    keeper: K,
+    stations: &mut Vec<Station<Li, T>>,
+) -> Result<Ended<K>, Memory>
+where
+    Li::End: Send,
+    requires some { 0 < vec_len stations.old }
+    requires kept { K.honest keeper → K.holds keeper (rows_of (hosts_of desk).list) }
+    ensures stations { vec_len stations.new ≡ vec_len stations.old }
+    ensures left { IfOk result (λ e. e.all ≡ true → All (λ s. HasNone (Li.told s.listener)) stations.new.items) }
+    ensures kept { IfOk result (λ e. K.honest e.closed.keeper → K.holds e.closed.keeper (rows_of (hosts_of e.closed.desk).list)) }
+{
+    let parts = stations.len() as u64;
+    serve_on::<K, Brand, Brand, Li, T, R>(
+        rt,
+        alloc,
+        routes,
+        desk,
+        keeper,
+        Blank::new(parts),
+        Blank::new(parts),
+        stations,
+    )
+}

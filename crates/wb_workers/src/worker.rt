@@ -1,0 +1,87 @@
+//! A worker: a station, a pass of one part, and how it ended.
+ghost use Rattle.std.specs.Prelude.{◌≡◌, ◌<◌, ℕ, [], Some, All, length, slice_index_or};
+ghost use Rattle.wb_links.specs.Lines.{Lines};
+ghost use Rattle.wb_front.specs.Attended.{RoseOften};
+ghost use Rattle.wb_workers.specs.Workers.{HasEnded};
+
+use std::alloc::Global;
+use std::sync::Wait;
+use std::sync::ledger::Ledger;
+use std::thread;
+use std::thread::Threads;
+use wb_base::Keeper;
+use wb_front::{Station, Worked, work};
+use wb_gate::{Gate, Turn};
+use wb_kept::Pass;
+use wb_links::{Listener, Ticker};
+use wb_wire::Routes;
+
+#[derive(Drop)]
+pub struct Worker<Li: Listener, T: Ticker, A: Ledger, B: Ledger> {
+    pub pass: Pass<A, B>,
+    pub station: Station<Li, T>,
+    pub worked: Worked,
+    ghost one_part: { pass.parts ≡ 1 },
+}
+
+/// A worker at a station that has not begun.
+pub fn make_worker<Li: Listener, T: Ticker, A: Ledger, B: Ledger>(
+    pass: Pass<A, B>,
+    station: Station<Li, T>,
+) -> Worker<Li, T, A, B>
+    requires { pass.parts ≡ 1 }
+    ensures { result.station ≡ station }
+{
+    Worker {
+        pass,
+        station,
+        worked: Worked::ListenFault,
+    }
+}
+
+// Attends one worker's station.
+fn attend<
+    R: Wait,
+    K: Keeper,
+    A: Ledger,
+    B: Ledger,
+    G: Gate<K, A, B, Turn>,
+    Li: Listener,
+    T: Ticker,
+>(rt: &R, alloc: Global, gate: &G, routes: &Routes, worker: &mut Worker<Li, T, A, B>)
+    ensures ended { HasEnded (Li.told worker.new.station.listener) worker.new.worked }
+    ensures failed { worker.new.worked ≡ Worked.ListenFault → RoseOften 16 (Li.count worker.old.station.listener) (Li.count worker.new.station.listener) }
+{
+    let Worker {
+        pass,
+        station,
+        worked,
+    } = worker;
+    *worked = work(rt, alloc, gate, routes, pass, station);
+}
+
+/// Attends all stations, each in a thread of its own.
+pub fn attend_all<
+    R: Threads + Wait + Sync,
+    K: Keeper + Send,
+    A: Ledger + Send + Sync,
+    B: Ledger + Send + Sync,
+    G: Gate<K, A, B, Turn> + Sync,
+    Li: Listener + Send,
+    T: Ticker + Send,
+>(rt: &R, alloc: Global, gate: &G, routes: &Routes, workers: &mut [Worker<Li, T, A, B>])
+where
+    Li::End: Send,
+    requires some { 0 < length workers.old }
+    ensures len { length workers.new ≡ length workers.old }
+    ensures ended { All (λ w. HasEnded (Li.told w.station.listener) w.worked) workers.new }
+    ensures failed { (i : ℕ) (d : _) → i < length workers.old → (slice_index_or workers.new i d).worked ≡ Worked.ListenFault → RoseOften 16 (Li.count (slice_index_or workers.old i d).station.listener) (Li.count (slice_index_or workers.new i d).station.listener) }
+{
+    let threads = workers.len();
+    thread::for_each_mut(
+        rt,
+        workers,
+        threads,
+        &|_, worker| { attend(rt, alloc, gate, routes, worker) },
+    );
+}
