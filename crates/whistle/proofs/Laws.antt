@@ -13,7 +13,7 @@ use Rattle.wb_model.specs.ScriptsAlike.{PlacesAlike, hidden_replies}
 use Rattle.whistle.specs.Starts.{IsOpenedBy}
 use Rattle.whistle.proofs.Forgetting.{forgets}
 use Rattle.whistle.proofs.Identities.{keeps}
-use Rattle.whistle.proofs.PlayLemmas.{Laws}
+use Rattle.whistle.proofs.TurnLemmas.{Laws}
 
 module _ (one_reading : (bytes : List ℕ) (a b : Reading) → Reads bytes a → Reads bytes b → a ≡ b)
     (told : (past : Past AllOpened) (frames : List ScriptFrame) (places : List Place) → ArePlacesOf frames places → ArePossible past places → AreLossesTold past places)
@@ -24,7 +24,7 @@ module _ (one_reading : (bytes : List ℕ) (a b : Reading) → Reads bytes a →
     (by_hosts : (i t r : ℕ) (past : Past AllOpened) (places : List Place) → AreApart t past → BeginsAt i t r past places → DrawOthersAfter i t r past places → is_purged_after i t r past places ≡ true
     → standing_hosts (past_with past (without_place i t places)) ≡ standing_hosts (past_after past places))
   where
-    pub laws_of : (loaded : List Row) (setup : List ℕ) (start : Past AllOpened) → IsOpenedBy loaded setup start → Laws loaded setup start
+    pub laws_of : (loaded : List Row) (setup : List ℕ) (start : Past AllOpened) → IsOpenedBy loaded setup start → Laws start
     laws_of loaded setup start opened = record {
       losses = told start;
       identities = keeps one_reading alike start;

@@ -1,7 +1,10 @@
 pub mod AnswerLemmas
 pub mod SinkLemmas
 pub mod GeneratedLemmas
+pub mod CountLemmas
+pub mod TallyLemmas
 pub mod SubmissionLemmas
+pub mod TurnLemmas
 pub mod PlayLemmas
 pub mod Completeness
 pub mod Identities
@@ -9,3 +12,5 @@ pub mod Forgetting
 pub mod Laws
 pub mod CommandLineLemmas
 pub mod OpeningLemmas
+pub mod PlayedTurns
+pub mod TallyCompleteness

@@ -9,56 +9,27 @@ use Rattle.wb_model.specs.declared.wire.ScriptFrame.{ScriptFrame}
 use Rattle.wb_model.specs.FrameTexts.{texts, frame_text, line_of, IsFrame, IsBroken}
 use Rattle.wb_model.specs.Past.{Past}
 use Rattle.wb_model.specs.Pasts.{AllOpened}
-use Rattle.wb_model.specs.Playing.{IsPlaceOf, ArePlacesOf, written, output, one_by_keeper, keeper_losses, RoseBy, AreLossesTold}
-use Rattle.wb_model.specs.Scripts.{Place, IsPossible, ArePossible, play, script_replies, past_after}
-use Rattle.wb_model.specs.Rows.{rows}
+use Rattle.wb_model.specs.Playing.{written, output}
+use Rattle.wb_model.specs.Scripts.{Place, script_replies, past_after}
 use Rattle.wb_model.specs.Tenants.{Hosts}
 use Rattle.wb_wire.specs.FrameReading.{Progress, after_next}
 use Rattle.wb_desk.specs.Turns.{StandsFor}
 use Rattle.whistle.specs.declared.answering.Answer.{Answer}
 use Rattle.whistle.specs.Answered.{reply_of, IsAnswer}
-use Rattle.whistle.specs.Submissions.{AreWellAnswered}
-use Rattle.whistle.specs.Headline.{KeepsIdentities, ForgetsReports}
 use Rattle.wb_wire.specs.SetupText.{setup_line, setup_text, IsSetup, NoSetup}
 use Rattle.wb_wire.specs.SetupReading.{after_setup}
 use Rattle.whistle.specs.Starts.{IsOpenedBy, Opens, unread}
+use Rattle.whistle.specs.Played.{HasPlayed}
 use Rattle.whistle.specs.Runs.{script_text, Played, Wrote, BrokeOff}
-use Rattle.whistle.proofs.SubmissionLemmas.{all_well}
-
--- one more at the end
-abbrev pub more : {X : Type 0} → List X → X → List X
-more xs x = xs ++ x ∷ []
+use Rattle.whistle.proofs.TurnLemmas.{Laws, more, output_more, none_played, one_more, stands_more}
 
 pub texts_more : (fs : List ScriptFrame) (f : ScriptFrame) → texts (more fs f) ≡ texts fs ++ frame_text f
 texts_more [] f = append-nil (frame_text f)
 texts_more (g ∷ fs) f = ap (λ l. frame_text g ++ l) (texts_more fs f) ∙ sym (append_assoc (frame_text g) (texts fs) (frame_text f))
 
-pub past_more : (past : Past AllOpened) (ps : List Place) (p : Place) → past_after past (more ps p) ≡ (play (past_after past ps) p).past
-past_more past [] p = refl
-past_more past (q ∷ ps) p = past_more (play past q).past ps p
-
-pub output_more : (past : Past AllOpened) (ps : List Place) (p : Place) → output (script_replies past (more ps p)) ≡ output (script_replies past ps) ++ written (play (past_after past ps) p).reply
-output_more past [] p = append-nil (written (play past p).reply)
-output_more past (q ∷ ps) p =
-    ap (λ l. written (play past q).reply ++ l) (output_more (play past q).past ps p) ∙ sym (append_assoc (written (play past q).reply) (output (script_replies (play past q).past ps)) (written (play (past_after (play past q).past ps) p).reply))
-
 pub good_more : (fs : List ScriptFrame) (f : ScriptFrame) → AllByRecursion IsFrame fs → IsFrame f → AllByRecursion IsFrame (more fs f)
 good_more [] f all one = (one, tt)
 good_more (g ∷ fs) f all one = (all.0, good_more fs f all.1 one)
-
-pub placed_more : (fs : List ScriptFrame) (ps : List Place) (f : ScriptFrame) (p : Place) → ArePlacesOf fs ps → IsPlaceOf f p → ArePlacesOf (more fs f) (more ps p)
-placed_more [] [] f p all one = (one, tt)
-placed_more (g ∷ fs) [] f p all one = absurd all
-placed_more [] (q ∷ ps) f p all one = absurd all
-placed_more (g ∷ fs) (q ∷ ps) f p all one = (all.0, placed_more fs ps f p all.1 one)
-
-pub possible_more : (past : Past AllOpened) (ps : List Place) (p : Place) → ArePossible past ps → IsPossible (past_after past ps) p p.reading p.loss → ArePossible past (more ps p)
-possible_more past [] p all one = (one, tt)
-possible_more past (q ∷ ps) p all one = (all.0, possible_more (play past q).past ps p all.1 one)
-
-pub losses_more : (ps : List Place) (p : Place) → keeper_losses (more ps p) ≡ keeper_losses ps + one_by_keeper p.loss
-losses_more [] p = omega arith
-losses_more (q ∷ ps) p = omega (arith, losses_more ps p)
 
 pub length_more : {X : Type 0} (xs : List X) (x : X) → length (more xs x) ≡ length xs + 1
 length_more [] x = refl
@@ -102,79 +73,52 @@ script_more setup fs f = ap (λ l. setup_text setup ++ l) (texts_more fs f) ∙ 
 
 -- of loaded rows and a setup, and the past that they open
 module _ (loaded : List Row) (setup : List ℕ) (start : Past AllOpened) where
-  -- the laws of scripts, said of what is played from there
-  pub record Laws : Type 0 where
-    pub losses : (frames : List ScriptFrame) (places : List Place) → ArePlacesOf frames places → ArePossible start places → AreLossesTold start places
-    pub identities : (frames : List ScriptFrame) (places : List Place) → ArePlacesOf frames places → KeepsIdentities start frames places
-    pub absence : (frames : List ScriptFrame) (places : List Place) → ArePlacesOf frames places → ForgetsReports start frames places
-
   -- How it stands between two turns: what was before the run, what is now, and the frames and places so far.
   module _ (left held : Option (List ℕ)) (keeper : ℕ) (holds : List Row → Type 0) where
     module _ (left' held' : Option (List ℕ)) (keeper' : ℕ) (honest : Type 0) (holds' : List Row → Type 0) (hosts : Hosts) (reader : Progress) where
       pub record Standing (frames : List ScriptFrame) (places : List Place) : Type 0 where
         pub good : AllByRecursion IsFrame frames
-        pub placed : ArePlacesOf frames places
-        pub possible : ArePossible start places
         pub taken : Consumes left left' (script_text setup frames)
         pub told : Appends held held' (output (script_replies start places))
-        pub counted : RoseBy (keeper_losses places) keeper keeper'
-        pub kept : honest → (before : List Row) → holds before → (before ≡ loaded) × holds' (rows (past_after start places))
-        pub stands : StandsFor hosts (past_after start places)
         pub number : reader.given ≡ length frames
         pub size : reader.taken ≡ length (script_text setup frames)
         pub goes_on : reader.stopped ≡ None
-        pub losses : AreLossesTold start places
-        pub submissions : AreWellAnswered start places
-        pub identities : KeepsIdentities start frames places
-        pub absence : ForgetsReports start frames places
+        pub turns : HasPlayed keeper keeper' honest holds holds' loaded start frames places
+        pub stands : StandsFor hosts (past_after start places)
 
     -- before the first turn
-    pub at_start : Laws → (left' : Option (List ℕ)) (keeper' : ℕ) (honest : Type 0) (holds' : List Row → Type 0) (hosts : Hosts) (reader : Progress) → Consumes left left' (setup_text setup) → Opens keeper keeper' honest holds holds' loaded setup start hosts
+    pub at_start : Laws start → (left' : Option (List ℕ)) (keeper' : ℕ) (honest : Type 0) (holds' : List Row → Type 0) (hosts : Hosts) (reader : Progress) → Consumes left left' (setup_text setup) → Opens keeper keeper' honest holds holds' loaded setup start hosts
         → reader ≡ after_setup unread setup → Standing left' held keeper' honest holds' hosts reader [] []
     at_start laws left' keeper' honest holds' hosts reader taken opens is = record {
       good = tt;
-      placed = tt;
-      possible = tt;
       taken = subst (Consumes left left') (sym (append-nil (setup_text setup))) taken;
       told = Appends-nil held;
-      counted = omega (arith, opens.later);
-      kept = opens.kept;
-      stands = opens.stands;
       number = ap (λ (p : Progress). p.given) is;
       size = omega (arith, ap (λ (p : Progress). p.taken) is, ap length (append-nil (setup_text setup)));
       goes_on = ap (λ (p : Progress). p.stopped) is;
-      losses = tt;
-      submissions = tt;
-      identities = laws.identities [] [] tt;
-      absence = laws.absence [] [] tt;
+      turns = none_played loaded start keeper holds laws keeper' honest holds' opens.later opens.kept;
+      stands = opens.stands;
     }
 
     -- a turn whose reply was written
-    pub advance : Laws → (left' held' : Option (List ℕ)) (keeper' : ℕ) (honest : Type 0) (holds' : List Row → Type 0) (hosts : Hosts) (reader : Progress) (frames : List ScriptFrame) (places : List Place) → Standing left' held' keeper' honest holds' hosts reader frames places
+    pub advance : Laws start → (left' held' : Option (List ℕ)) (keeper' : ℕ) (honest : Type 0) (holds' : List Row → Type 0) (hosts : Hosts) (reader : Progress) (frames : List ScriptFrame) (places : List Place) → Standing left' held' keeper' honest holds' hosts reader frames places
         → (left'' held'' : Option (List ℕ)) (keeper'' : ℕ) (honest' : Type 0) (holds'' : List Row → Type 0) → (honest' → honest) → (after : Hosts) (frame : ScriptFrame) (answer : Answer) (place : Place) → IsFrame frame → Consumes left' left'' (frame_text frame)
         → IsAnswer honest' holds' holds'' (past_after start places) frame answer after keeper' keeper'' place → Appends held' held'' (written (reply_of answer))
         → (reader' : Progress) → reader' ≡ after_next reader (Some frame) → Standing left'' held'' keeper'' honest' holds'' after reader' (more frames frame) (more places place)
     advance laws left' held' keeper' honest holds' hosts reader frames places so_far left'' held'' keeper'' honest' holds'' back after frame answer place is_frame taken is told reader' goes =
         record {
           good = good_more frames frame so_far.good is_frame;
-          placed = placed_more frames places frame place so_far.placed is.of_frame;
-          possible = possible_more start places place so_far.possible is.possible;
           taken = subst (Consumes left left'') (sym (script_more setup frames frame)) (Consumes-trans left left' left'' _ _ so_far.taken taken);
           told = subst (Appends held held'') (sym (output_more start places place)) (Appends-trans held held' held'' _ _ so_far.told (subst (λ r. Appends held' held'' (written r)) is.reply told));
-          counted = omega (arith, so_far.counted, losses_more places place, is.counted);
-          kept = λ h before held. let was = so_far.kept (back h) before held in (was.0, subst (λ past. holds'' (rows past)) (sym (past_more start places place)) (is.kept h was.1));
-          stands = is.stands ∙ ap Rattle.wb_model.specs.Pasts.standing_hosts (sym (past_more start places place));
           number = omega (arith, so_far.number, length_more frames frame, ap (λ (r : Progress). r.given) goes);
           size = omega (arith, so_far.size, ap length (script_more setup frames frame), length-append (script_text setup frames) (frame_text frame), ap (λ (r : Progress). r.taken) goes);
           goes_on = ap (λ (r : Progress). r.stopped) goes ∙ so_far.goes_on;
-          losses = laws.losses (more frames frame) (more places place) (placed_more frames places frame place so_far.placed is.of_frame) (possible_more start places place so_far.possible is.possible);
-          submissions = all_well start (more places place);
-          identities = laws.identities (more frames frame) (more places place) (placed_more frames places frame place so_far.placed is.of_frame);
-          absence = laws.absence (more frames frame) (more places place) (placed_more frames places frame place so_far.placed is.of_frame);
+          turns = one_more loaded start keeper holds laws keeper' honest holds' frames places so_far.turns keeper'' honest' holds'' back after frame answer place is;
+          stands = stands_more start places place after is.stands;
         }
 
     -- a turn whose reply was not wholly written
-    pub stuck : Laws → (left' held' : Option (List ℕ)) (keeper' : ℕ) (honest : Type 0) (holds' : List Row → Type 0) (hosts : Hosts) (reader : Progress) (frames : List ScriptFrame) (places : List Place) → Standing left' held' keeper' honest holds' hosts reader frames places
+    pub stuck : Laws start → (left' held' : Option (List ℕ)) (keeper' : ℕ) (honest : Type 0) (holds' : List Row → Type 0) (hosts : Hosts) (reader : Progress) (frames : List ScriptFrame) (places : List Place) → Standing left' held' keeper' honest holds' hosts reader frames places
         → (left'' held'' : Option (List ℕ)) (keeper'' : ℕ) (honest' : Type 0) (holds'' : List Row → Type 0) → (honest' → honest) → (after : Hosts) (frame : ScriptFrame) (answer : Answer) (place : Place) → IsFrame frame → Consumes left' left'' (frame_text frame)
         → IsAnswer honest' holds' holds'' (past_after start places) frame answer after keeper' keeper'' place → AppendsFront held' held'' (written (reply_of answer)) → (source source' sink sink' : ℕ)
         → Played left left'' held held'' source source' sink sink' keeper keeper'' honest' holds holds'' loaded setup start (more frames frame) (more places place) × Consumes left left'' (script_text setup (more frames frame)) × BrokeOff left left'' held held'' source source' sink sink' keeper keeper'' honest' holds holds'' loaded setup start (more places place)
@@ -182,15 +126,8 @@ module _ (loaded : List Row) (setup : List ℕ) (start : Past AllOpened) where
         let consumed : Consumes left left'' (script_text setup (more frames frame)) = subst (Consumes left left'') (sym (script_more setup frames frame)) (Consumes-trans left left' left'' _ _ so_far.taken taken) in (
           record {
             good = good_more frames frame so_far.good is_frame;
-            placed = placed_more frames places frame place so_far.placed is.of_frame;
-            possible = possible_more start places place so_far.possible is.possible;
             begins = begins_with left left'' _ consumed;
-            counted = omega (arith, so_far.counted, losses_more places place, is.counted);
-            kept = λ h before held. let was = so_far.kept (back h) before held in (was.0, subst (λ past. holds'' (rows past)) (sym (past_more start places place)) (is.kept h was.1));
-            losses = laws.losses (more frames frame) (more places place) (placed_more frames places frame place so_far.placed is.of_frame) (possible_more start places place so_far.possible is.possible);
-            submissions = all_well start (more places place);
-            identities = laws.identities (more frames frame) (more places place) (placed_more frames places frame place so_far.placed is.of_frame);
-            absence = laws.absence (more frames frame) (more places place) (placed_more frames places frame place so_far.placed is.of_frame);
+            turns = one_more loaded start keeper holds laws keeper' honest holds' frames places so_far.turns keeper'' honest' holds'' back after frame answer place is;
           },
           consumed,
           record { before = places; last = place; order = refl; front = told.0; rest = told.1; cut = ap written (sym is.reply) ∙ told.2; told = Appends-trans held held' held'' _ _ so_far.told told.3 },
@@ -200,7 +137,7 @@ module _ (loaded : List Row) (setup : List ℕ) (start : Past AllOpened) where
     pub wrote : (left' held' : Option (List ℕ)) (keeper' : ℕ) (honest : Type 0) (holds' : List Row → Type 0) (hosts : Hosts) (reader : Progress) (frames : List ScriptFrame) (places : List Place) → Standing left' held' keeper' honest holds' hosts reader frames places
         → (left'' : Option (List ℕ)) (part : List ℕ) → Consumes left' left'' part → (source source' sink sink' : ℕ) → Wrote left left'' held held' source source' sink sink' keeper keeper' honest holds holds' loaded setup start frames places
     wrote left' held' keeper' honest holds' hosts reader frames places so_far left'' part taken source source' sink sink' = record {
-      played = record { good = so_far.good; placed = so_far.placed; possible = so_far.possible; begins = begins_with left left' _ so_far.taken; counted = so_far.counted; kept = so_far.kept; losses = so_far.losses; submissions = so_far.submissions; identities = so_far.identities; absence = so_far.absence };
+      played = record { good = so_far.good; begins = begins_with left left' _ so_far.taken; turns = so_far.turns };
       written = so_far.told;
     }
 

@@ -3,12 +3,13 @@ use Rattle.std.specs.Prelude.{ℕ, ◌≡◌, ◌⊎◌, List, Option}
 use Rattle.std.specs.Io.KnownBytes.{Appends, Keeps}
 use Rattle.wb_base.specs.declared.rows.Row.{Row}
 use Rattle.wb_base.specs.Outside.{AppendsFront, Rose}
-use Rattle.whistle.specs.declared.plans.Plan.TheVariants.{Play, Make}
+use Rattle.whistle.specs.declared.plans.Plan.TheVariants.{Play, Make, Tally}
 use Rattle.whistle.specs.declared.status.Status.{Status}
 use Rattle.whistle.specs.declared.status.Status.TheVariants.{Done, Usage, ReadFault, WriteFault, NoMemory, BadFrame, Setup, OpenFault, KeptRows, TooLong}
 use Rattle.whistle.specs.CommandLine.{Asks, IsForm}
 use Rattle.whistle.specs.Generated.{generated}
 use Rattle.whistle.specs.Runs.{Ran}
+use Rattle.whistle.specs.Tallies.{Tallied}
 
 -- what the sink held before and holds now, with its count before and now
 module _ (held held' : Option (List ℕ)) (sink sink' : ℕ) where
@@ -25,21 +26,23 @@ module _ (held held' : Option (List ℕ)) (sink sink' : ℕ) where
   Writes turns (KeptRows fault) = ⊥
   Writes turns TooLong = ⊥
 
--- what the source had left and has left now, what the sink held before and holds now, the counts of both and of the keeper before and now, and
--- the rows that the keeper holds before and now, where it is honest
-module _ (left left' held held' : Option (List ℕ)) (source source' sink sink' keeper keeper' : ℕ) (honest : Type 0) (holds holds' : List Row → Type 0) where
-  -- nothing was read, and what is kept is as it was
-  pub record ReadsNothing : Type 0 where
-    pub left_as_it_was : Keeps left left'
-    pub no_read : source' ≡ source
-    pub no_call : keeper' ≡ keeper
-    pub rows_as_they_were : honest → (before : List Row) → holds before → holds' before
+-- nothing was read: what the source had left and has left now, with its count before and now
+pub record ReadsNothing (left left' : Option (List ℕ)) (source source' : ℕ) : Type 0 where
+  pub left_as_it_was : Keeps left left'
+  pub no_read : source' ≡ source
 
-  -- what a run with these words and this status did
-  pub record Did (words : List (List ℕ)) (status : Status) : Type 0 where
-    -- words are told to be no form only where they are none
-    pub usage : status ≡ Usage → IsForm words → ⊥
-    -- where they are none, that is told, or there was no memory, and nothing is read or written
-    pub no_form : (IsForm words → ⊥) → ((status ≡ Usage) ⊎ (status ≡ NoMemory)) × Keeps held held' × ReadsNothing
-    pub play : (store : Option (List ℕ)) → Asks words (Play store) → Ran left left' held held' source source' sink sink' keeper keeper' honest holds holds' status
-    pub make : (turns : ℕ) → Asks words (Make turns) → Writes held held' sink sink' turns status × ReadsNothing
+-- the keeper was not asked, and what is kept is as it was: its count before and now, and the rows that it holds before and now, where it is honest
+pub record KeepsNothing (keeper keeper' : ℕ) (honest : Type 0) (holds holds' : List Row → Type 0) : Type 0 where
+  pub no_call : keeper' ≡ keeper
+  pub rows_as_they_were : honest → (before : List Row) → holds before → holds' before
+
+-- what the source had left and has left now, what the sink held before and holds now, the counts of both and of the keeper before and now, and
+-- the rows that the keeper holds before and now, where it is honest: what a run with these words and this status did
+pub record Did (left left' held held' : Option (List ℕ)) (source source' sink sink' keeper keeper' : ℕ) (honest : Type 0) (holds holds' : List Row → Type 0) (words : List (List ℕ)) (status : Status) : Type 0 where
+  -- words are told to be no form only where they are none
+  pub usage : status ≡ Usage → IsForm words → ⊥
+  -- where they are none, that is told, or there was no memory, and nothing is read, written or kept
+  pub no_form : (IsForm words → ⊥) → ((status ≡ Usage) ⊎ (status ≡ NoMemory)) × Keeps held held' × ReadsNothing left left' source source' × KeepsNothing keeper keeper' honest holds holds'
+  pub play : (store : Option (List ℕ)) → Asks words (Play store) → Ran left left' held held' source source' sink sink' keeper keeper' honest holds holds' status
+  pub make : (turns : ℕ) → Asks words (Make turns) → Writes held held' sink sink' turns status × ReadsNothing left left' source source' × KeepsNothing keeper keeper' honest holds holds'
+  pub tally : (turns : ℕ) → Asks words (Tally turns) → Tallied keeper keeper' honest holds holds' held held' sink sink' turns status × ReadsNothing left left' source source'

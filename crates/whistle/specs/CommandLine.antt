@@ -7,7 +7,7 @@ use Rattle.clap.specs.Faults.{fault_of}
 use Rattle.clap.specs.Kinds.{Kinds}
 use Rattle.clap.specs.declared.builder.action.ArgAction.TheVariants.{Set}
 use Rattle.whistle.specs.declared.plans.Plan.{Plan}
-use Rattle.whistle.specs.declared.plans.Plan.TheVariants.{Play, Make}
+use Rattle.whistle.specs.declared.plans.Plan.TheVariants.{Play, Make, Tally}
 
 -- an option of one value, and a plain word
 abbrev pub option_rule : Text → Rule
@@ -24,7 +24,7 @@ bare_app name = let a = new_app name in record a { top = record a.top { no_binar
 abbrev pub play_app : App
 play_app = with_rule (bare_app (codes "play")) (option_rule (codes "store"))
 
--- `make`, with one plain word
+-- `make` or `tally`, with one plain word
 abbrev pub turns_app : App
 turns_app = with_rule (bare_app (codes "turns")) (word_rule (codes "turns"))
 
@@ -50,7 +50,7 @@ abbrev pub SaysTurns : Option Text → ℕ → Type 0
 SaysTurns None turns = ⊥
 SaysTurns (Some word) turns = (word ≡ decimal turns) × (1 ≤ turns) × (turns ≤ 20_000)
 
--- the words after `play`, and after `make`
+-- the words after `play`, and after `make` or `tally`
 pub record AsksPlay (words : List Text) (store : Option Text) : Type 0 where
   pub taken : takes_words play_app words ≡ true
   pub named : value_of play_app (codes "store") words ≡ store
@@ -65,6 +65,7 @@ abbrev pub Asks : List Text → Plan → Type 0
 Asks [] plan = ⊥
 Asks (command ∷ rest) (Play store) = (command ≡ codes "play") × AsksPlay rest store
 Asks (command ∷ rest) (Make turns) = (command ≡ codes "make") × AsksTurns rest turns
+Asks (command ∷ rest) (Tally turns) = (command ≡ codes "tally") × AsksTurns rest turns
 
 -- the words are a form of a call
 abbrev pub IsForm : List Text → Type 0

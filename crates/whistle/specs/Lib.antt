@@ -1,9 +1,13 @@
 pub mod Answered
 pub mod Submissions
 pub mod Headline
+pub mod Played
 pub mod Starts
 pub mod Runs
 pub mod Exits
 pub mod CommandLine
 pub mod Generated
+pub mod Counted
+pub mod TallyText
+pub mod Tallies
 pub mod Asked

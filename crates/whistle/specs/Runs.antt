@@ -8,9 +8,8 @@ use Rattle.wb_model.specs.declared.wire.ScriptFrame.{ScriptFrame}
 use Rattle.wb_model.specs.FrameTexts.{texts, IsFrame, IsBroken, NoFrame}
 use Rattle.wb_model.specs.Past.{Past}
 use Rattle.wb_model.specs.Pasts.{AllOpened}
-use Rattle.wb_model.specs.Playing.{ArePlacesOf, written, output, keeper_losses, RoseBy, AreLossesTold}
-use Rattle.wb_model.specs.Scripts.{Place, ArePossible, play, script_replies, past_after}
-use Rattle.wb_model.specs.Rows.{rows}
+use Rattle.wb_model.specs.Playing.{written, output}
+use Rattle.wb_model.specs.Scripts.{Place, play, script_replies, past_after}
 use Rattle.wb_base.specs.declared.rows.Key.{Key}
 use Rattle.wb_rows.specs.declared.faults.RowFault.{RowFault}
 use Rattle.wb_rows.specs.declared.faults.RowFault.TheVariants.{BadRow, BadSet, Memory as RowsMemory}
@@ -18,8 +17,7 @@ use Rattle.wb_tenants.specs.declared.setup.SetupFault.{SetupFault}
 use Rattle.wb_tenants.specs.declared.setup.SetupFault.TheVariants.{Text, Rule, Memory as SetupMemory}
 use Rattle.wb_wire.specs.SetupText.{setup_text, IsSetup}
 use Rattle.whistle.specs.Starts.{IsOpenedBy, OpensNone}
-use Rattle.whistle.specs.Submissions.{AreWellAnswered}
-use Rattle.whistle.specs.Headline.{KeepsIdentities, ForgetsReports}
+use Rattle.whistle.specs.Played.{HasPlayed}
 use Rattle.whistle.specs.declared.status.Status.{Status}
 use Rattle.whistle.specs.declared.status.Status.TheVariants.{Done, Usage, ReadFault, WriteFault, NoMemory, BadFrame, Setup, OpenFault, KeptRows, TooLong}
 
@@ -35,19 +33,8 @@ module _ (left left' held held' : Option (List ℕ)) (source source' sink sink' 
     -- the input begins with the setup and these frames, and the host played them as these places
     pub record Played (frames : List ScriptFrame) (places : List Place) : Type 0 where
       pub good : AllByRecursion IsFrame frames
-      pub placed : ArePlacesOf frames places
-      pub possible : ArePossible start places
       pub begins : IfSome left (λ text. (rest : List ℕ) × (text ≡ script_text setup frames ++ rest))
-      pub counted : RoseBy (keeper_losses places) keeper keeper'
-      -- the keeper held the rows that were loaded, and holds those of the past after the frames
-      pub kept : honest → (before : List Row) → holds before → (before ≡ loaded) × holds' (rows (past_after start places))
-      -- a turn was lost or a request unread exactly where the reply is 503 or 507
-      pub losses : AreLossesTold start places
-      -- and each good submission among them was answered as its sender expects
-      pub submissions : AreWellAnswered start places
-      -- the replies keep identities, and forget reports that are purged
-      pub identities : KeepsIdentities start frames places
-      pub absence : ForgetsReports start frames places
+      pub turns : HasPlayed keeper keeper' honest holds holds' loaded start frames places
 
     -- and wrote each reply
     pub record Wrote (frames : List ScriptFrame) (places : List Place) : Type 0 where

@@ -26,7 +26,7 @@ fn play_command<'a>(alloc: Global) -> Result<Command<'a>, AllocError>
     bare.arg(store)
 }
 
-// What may follow `make`.
+// What may follow `make` or `tally`.
 fn turns_command<'a>(alloc: Global) -> Result<Command<'a>, AllocError>
     ensures { IfOk result (λ command. app_of command ≡ turns_app) }
 {
@@ -116,7 +116,7 @@ fn turns_of(word: &str) -> Option<u32>
     }
 }
 
-// The number of turns that the words after `make` ask.
+// The number of turns that the words after `make` or `tally` ask.
 fn turns(alloc: Global, words: &[&str]) -> Result<u32, PlanFault>
     ensures ok { IfOk result (AsksTurns (map (λ word. word.now) words.now)) }
     ensures usage { result ≡ Err PlanFault.Usage → (turns : ℕ) → AsksTurns (map (λ word. word.now) words.now) turns → ⊥ }
@@ -157,6 +157,8 @@ fn planned(alloc: Global, words: &[Text]) -> Result<Plan, PlanFault>
         play(alloc, &rest)
     } else if is_same(command, "make") {
         Ok(Plan::Make(turns(alloc, &rest)?))
+    } else if is_same(command, "tally") {
+        Ok(Plan::Tally(turns(alloc, &rest)?))
     } else {
         Err(PlanFault::Usage)
     }

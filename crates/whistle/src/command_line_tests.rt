@@ -18,6 +18,9 @@ const FORMS: &[(&[&str], &str)] = &[
     (&["make", "20000"], "make 20000"),
     (&["make", "--", "7"], "make 7"),
     (&["make", "7", "--"], "make 7"),
+    (&["tally", "1"], "tally 1"),
+    (&["tally", "20000"], "tally 20000"),
+    (&["tally", "--", "7"], "tally 7"),
 ];
 
 // Words that ask nothing.
@@ -58,7 +61,14 @@ const NO_FORMS: &[&[&str]] = &[
     &["make", "--", "--"],
     &["make", "--store", "f"],
     &["make", "--turns", "1"],
-    &["tally", "8"],
+    &["tally"],
+    &["tally", "0"],
+    &["tally", "01"],
+    &["tally", "20001"],
+    &["tally", "1", "2"],
+    &["tally", "--store", "f", "8"],
+    &["tally", "8", "--store=f"],
+    &["tallies", "8"],
     &[
         "serve",
         "--setup",
@@ -82,6 +92,7 @@ fn told(alloc: Global, words: &[&str]) -> Result<String, Fail> {
             Ok(format!(in alloc; "play over {}", path.as_str())?)
         }
         Ok(Plan::Make(turns)) => Ok(format!(in alloc; "make {turns}")?),
+        Ok(Plan::Tally(turns)) => Ok(format!(in alloc; "tally {turns}")?),
         Err(PlanFault::Usage) => Ok(String::from_str(alloc, "usage")?),
         Err(PlanFault::Memory) => Err("no memory".into()),
     }

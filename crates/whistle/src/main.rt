@@ -3,6 +3,7 @@
 
 mod answering;
 mod command_line;
+mod counting;
 mod exits;
 mod generated;
 mod harbour;
@@ -11,6 +12,8 @@ mod plans;
 mod playing;
 mod running;
 mod status;
+mod tally_lines;
+mod tallying;
 
 pub use command_line::plan;
 pub use exits::{end, run_to_end, words_of};
@@ -53,12 +56,14 @@ fn run_over<K: Keeper>(rt: &HostRuntime, words: &[Text], keeper: &mut K) -> u8 {
     run_to_end(alloc, words, &mut source, &mut sink, keeper, &mut errors)
 }
 
-// Runs the words. Rows are kept in the file that they name, or else in memory.
+// Runs the words. Rows are kept in the file that they name, or else in memory. Where there is no memory to read the words, nothing is
+// run: rows that were to be kept in a file would be lost.
 fn run_words(rt: &HostRuntime, words: &[Text]) -> u8 {
     match plan(rt.alloc(), words) {
         Ok(plans::Plan::Play { store: Some(path) }) => {
             run_over(rt, words, &mut PathKeeper::new(rt, path))
         }
+        Err(PlanFault::Memory) => end(&Status::NoMemory, &mut StdSink::new(rt.stderr())),
         _ => run_over(rt, words, &mut rows_in_memory(rt.alloc())),
     }
 }
@@ -78,6 +83,8 @@ mod ending_tests;
 mod generated_tests;
 #[cfg(test)]
 mod setup_text;
+#[cfg(test)]
+mod tally_tests;
 #[cfg(test)]
 mod tests;
 #[cfg(test)]

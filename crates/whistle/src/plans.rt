@@ -12,6 +12,8 @@ pub enum Plan {
     Play { store: Option<Text> },
     /// Writes a script of so many turns.
     Make(u32),
+    /// Plays that script, and writes what its replies and its host at the end come to.
+    Tally(u32),
 }
 
 /// Why nothing is asked.

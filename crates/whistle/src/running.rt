@@ -10,7 +10,8 @@ ghost use Rattle.wb_rows.specs.Held.{Held};
 ghost use Rattle.wb_rows.specs.Judged.{judged};
 ghost use Rattle.wb_tenants.specs.Setups.{setup as lists_in};
 ghost use Rattle.wb_wire.specs.SetupText.{IsSetup};
-ghost use Rattle.whistle.specs.declared.plans.Plan.TheVariants.{Play};
+ghost use Rattle.whistle.specs.declared.plans.Plan.TheVariants.{Play, Tally};
+ghost use Rattle.whistle.specs.declared.harbour.TheConstants.{HARBOUR};
 ghost use Rattle.whistle.specs.Asked.{Did, Writes};
 ghost use Rattle.whistle.specs.CommandLine.{Asks};
 ghost use Rattle.whistle.specs.Runs.{script_text};
@@ -20,6 +21,7 @@ use crate::generated::make;
 use crate::plans::{Plan, PlanFault};
 use crate::playing::play_script;
 use crate::status::Status;
+use crate::tallying::tally;
 use std::alloc::Global;
 use wb_base::{Keeper, Sink, Source, Text};
 
@@ -35,7 +37,8 @@ fn make_script<W: Sink>(turns: u32, sink: &mut W) -> Status
 }
 
 /// Does what the words ask: `play` opens the host of the rows that the keeper holds and of the setup with which the source begins, plays
-/// the script on it, and writes each reply before it reads the next frame; `make` writes a script and nothing else. It waits for nobody.
+/// the script on it, and writes each reply before it reads the next frame; `make` writes a script and nothing else; `tally` plays that script on
+/// the host of the rows that the keeper holds and of its setup, and writes what its replies and the host at the end come to. It waits for nobody.
 pub fn run<S: Source, W: Sink, K: Keeper>(
     alloc: Global,
     words: &[Text],
@@ -47,10 +50,13 @@ pub fn run<S: Source, W: Sink, K: Keeper>(
     ensures back { K.honest keeper.new → K.honest keeper.old }
     // A whole script whose setup is accepted is played to its end over rows that are read, where nothing failed, or there was no memory.
     ensures complete { (store : Option (List ℕ)) (setup : List ℕ) (lists : Lists) (frames : List ScriptFrame) (kept : List KeptRow) (held : Held) → Asks words.now (Play store) → IsSetup setup → lists_in setup ≡ Ok lists → AllByRecursion IsFrame frames → S.left source.old ≡ Some (script_text setup frames) → length (script_text setup frames) < 2 ^ 40 → K.honest keeper.new → K.holds keeper.old kept → judged kept ≡ Ok held → (Rose (S.count source.old) (S.count source.new) → ⊥) → (Rose (W.count sink.old) (W.count sink.new) → ⊥) → (Rose (K.count keeper.old) (K.count keeper.new) → ⊥) → (result ≡ Status.Done) ⊎ (result ≡ Status.NoMemory) }
+    // A tally over rows that are read is written, where the generated setup is accepted and the sink did not fail, or there was no memory, or the keeper failed when the host was opened.
+    ensures complete_tally { (turns : ℕ) (lists : Lists) (kept : List KeptRow) (held : Held) → Asks words.now (Tally turns) → lists_in HARBOUR.now ≡ Ok lists → K.honest keeper.new → K.holds keeper.old kept → judged kept ≡ Ok held → (Rose (W.count sink.old) (W.count sink.new) → ⊥) → (result ≡ Status.Done) ⊎ ((result ≡ Status.NoMemory) ⊎ ((result ≡ Status.OpenFault) × Rose (K.count keeper.old) (K.count keeper.new))) }
 {
     match plan(alloc, words) {
         Ok(Plan::Play { .. }) => play_script(alloc, source, sink, keeper),
         Ok(Plan::Make(turns)) => make_script(turns, sink),
+        Ok(Plan::Tally(turns)) => tally(alloc, turns, sink, keeper),
         Err(PlanFault::Usage) => Status::Usage,
         Err(PlanFault::Memory) => Status::NoMemory,
     }

@@ -7,7 +7,8 @@ use Rattle.wb_wire.specs.FrameReading.{Progress}
 use Rattle.wb_tables.specs.Standing.{hosts_of}
 use Rattle.whistle.specs.Runs.{script_text}
 use Rattle.whistle.proofs.Laws.{laws_of}
-use Rattle.whistle.proofs.PlayLemmas.{at_start, advance, stuck, wrote, more, regrouped, some_bytes, at_end, then_broken}
+use Rattle.whistle.proofs.TurnLemmas.{more}
+use Rattle.whistle.proofs.PlayLemmas.{at_start, advance, stuck, wrote, regrouped, some_bytes, at_end, then_broken}
 use Rattle.whistle.proofs.playing.play.Goals as goal
 
 pub loop-frame-init : goal.loop-frame-init

@@ -1,0 +1,139 @@
+-- A generated script, played turn after turn and counted.
+use Rattle.std.proofs.Common.{◌≡◌, ◌≢◌, inl, inr, ℕ, ◌+◌, List, [], ◌∷◌, length, map, Option, refl, sym, ap, ◌∙◌, subst, arith}
+use Rattle.std.specs.List.{sum_by}
+use Rattle.std.specs.Io.KnownBytes.{Keeps}
+use Rattle.std.proofs.lemmas.List.FromFn.{map-range_with_len_more}
+use Rattle.std.proofs.lemmas.List.Sums.{sum_by-cons}
+use Rattle.wb_base.specs.declared.rows.Row.{Row}
+use Rattle.wb_model.specs.declared.wire.ScriptFrame.{ScriptFrame}
+use Rattle.wb_model.specs.Counts.{sum_of, counts_of}
+use Rattle.wb_model.specs.Past.{Past}
+use Rattle.wb_model.specs.Pasts.{AllOpened}
+use Rattle.wb_model.specs.Scripts.{Place, Reply, play, script_replies, past_after}
+use Rattle.wb_model.specs.Tenants.{Tenancy, Hosts}
+use Rattle.std.specs.Ordering.{nat_cmp}
+use Rattle.wb_list.specs.Keyed.{IsAscending}
+use Rattle.wb_tables.specs.declared.counts.Counts.{Counts as DeskCounts}
+use Rattle.wb_tables.specs.Kept.{Place as Kept, tenancy_of}
+use Rattle.wb_tables.specs.Standing.{Standing, hosts_of, counts_of as desk_counts}
+use Rattle.wb_desk.specs.Turns.{StandsFor}
+use Rattle.whistle.specs.declared.answering.Answer.{Answer}
+use Rattle.whistle.specs.declared.counting.StatusCount.{StatusCount}
+use Rattle.whistle.specs.declared.harbour.TheConstants.{HARBOUR}
+use Rattle.whistle.specs.declared.status.Status.{Status}
+use Rattle.whistle.specs.declared.status.Status.TheVariants.{Done, Usage, ReadFault, WriteFault, NoMemory, BadFrame, Setup, OpenFault, KeptRows, TooLong}
+use Rattle.whistle.specs.Answered.{IsAnswer}
+use Rattle.whistle.specs.Counted.{IsCounted}
+use Rattle.whistle.specs.Generated.{frame_at, frames_from}
+use Rattle.whistle.specs.Played.{HasPlayed}
+use Rattle.whistle.specs.Starts.{IsOpenedBy, Opens, Refuses, KeepsRows}
+use Rattle.whistle.specs.TallyText.{counted, tally_text}
+use Rattle.whistle.specs.Tallies.{PlayedTurns, IsTallyOf, Stopped, Tallied}
+use Rattle.whistle.proofs.TurnLemmas.{Laws, more, replies_more, none_played, one_more, stands_more}
+use Rattle.whistle.proofs.PlayLemmas.{length_more}
+
+-- ---- what a desk counts
+
+module _ (d : Standing) (f : Kept → ℕ) (g : Tenancy → ℕ) (same : (x : Kept) → f x ≡ g (tenancy_of d.sealed x)) where
+  sums : (xs : List Kept) → sum_by f xs ≡ sum_of g (map (tenancy_of d.sealed) xs)
+  sums [] = refl
+  sums (x ∷ xs) = sum_by-cons f x xs ∙ (ap (λ n. n + sum_by f xs) (same x) ∙ ap (λ n. g (tenancy_of d.sealed x) + n) (sums xs))
+
+-- is what its hosts count
+pub counts_same : (d : Standing) → counted (desk_counts d) ≡ counts_of (hosts_of d)
+counts_same d = λ i. record {
+  turns = d.turns;
+  live = sums d (λ x. length x.plain.cases) (λ x. length x.tables.plain.cases) (λ x. refl) d.tenants i;
+  numbers = sums d (λ x. x.plain.numbering.last) (λ x. x.tables.plain.numbering.last) (λ x. refl) d.tenants i;
+  sessions = sums d (λ x. length x.plain.sessions) (λ x. length x.tables.plain.sessions) (λ x. refl) d.tenants i;
+}
+
+-- ---- turn after turn
+
+-- what the keeper counted and held before the run
+module _ (keeper : ℕ) (holds : List Row → Type 0) where
+  -- how it stands between two turns
+  pub record SoFar (keeper' : ℕ) (honest : Type 0) (holds' : List Row → Type 0) (hosts : Hosts) (rows : List StatusCount) (turns : ℕ) : Type 0 where
+    pub played : PlayedTurns keeper keeper' honest holds holds' turns
+    pub stands : StandsFor hosts (past_after played.start played.places)
+    pub counts : IsCounted (script_replies played.start played.places) rows
+    pub many : length (script_replies played.start played.places) ≡ turns
+
+  pub at_start : (loaded : List Row) (setup : List ℕ) (start : Past AllOpened) → setup ≡ HARBOUR.now → Laws start → (keeper' : ℕ) (honest : Type 0) (holds' : List Row → Type 0) (hosts : Hosts) → Opens keeper keeper' honest holds holds' loaded setup start hosts
+      → SoFar keeper' honest holds' hosts [] 0
+  at_start loaded setup start same laws keeper' honest holds' hosts opens = record {
+    played = record { loaded = loaded; start = start; opened = subst (λ (text : List ℕ). IsOpenedBy loaded text start) same opens.opened; places = []; played = none_played loaded start keeper holds laws keeper' honest holds' opens.later opens.kept };
+    stands = opens.stands;
+    counts = λ status. refl;
+    many = refl;
+  }
+
+  -- one more turn
+  module _ (keeper' : ℕ) (honest : Type 0) (holds' : List Row → Type 0) (hosts : Hosts) (rows : List StatusCount) (turns : ℕ) (so_far : SoFar keeper' honest holds' hosts rows turns) (laws : Laws so_far.played.start)
+      (keeper'' : ℕ) (honest' : Type 0) (holds'' : List Row → Type 0) (back : honest' → honest) (after : Hosts) (frame : ScriptFrame) (is_frame : frame ≡ frame_at (turns + 1)) (answer : Answer) (place : Place)
+      (is : IsAnswer honest' holds' holds'' (past_after so_far.played.start so_far.played.places) frame answer after keeper' keeper'' place)
+    where
+      frames_are : frames_from 1 (turns + 1) ≡ more (frames_from 1 turns) frame
+      frames_are = map-range_with_len_more frame_at 1 turns (turns + 1) (omega arith) ∙ ap (λ f. more (frames_from 1 turns) f) (sym is_frame)
+
+      pub played_next : PlayedTurns keeper keeper'' honest' holds holds'' (turns + 1)
+      played_next =
+          let was = so_far.played in
+          record {
+            loaded = was.loaded;
+            start = was.start;
+            opened = was.opened;
+            places = more was.places place;
+            played = subst (λ frames. HasPlayed keeper keeper'' honest' holds holds'' was.loaded was.start frames (more was.places place)) (sym frames_are) (one_more was.loaded was.start keeper holds laws keeper' honest holds' (frames_from 1 turns) was.places was.played keeper'' honest' holds'' back after frame answer place is);
+          }
+
+      pub next : (rows' : List StatusCount) → ((replies : List Reply) (reply : Reply) → IsCounted replies rows → reply.told.status ≡ answer.told.status → IsCounted (more replies reply) rows') → SoFar keeper'' honest' holds'' after rows' (turns + 1)
+      unfolding played_next
+      next rows' counting =
+          let was = so_far.played in
+          let replies : List Reply = script_replies was.start was.places in
+          let reply : Reply = (play (past_after was.start was.places) place).reply in
+          record {
+            played = played_next;
+            stands = stands_more was.start was.places place after is.stands;
+            counts = subst (λ rs. IsCounted rs rows') (sym (replies_more was.start was.places place)) (counting replies reply so_far.counts (ap (λ (r : Reply). r.told.status) (sym is.reply)));
+            many = omega (arith, so_far.many, ap length (replies_more was.start was.places place), length_more replies reply);
+          }
+
+  -- ---- a tally
+
+  -- all turns were played, and the desk counts what its hosts count
+  pub told_at_end : (keeper' : ℕ) (honest : Type 0) (holds' : List Row → Type 0) (desk : Standing) (rows listed : List StatusCount) (counts : DeskCounts) (played turns : ℕ) → played ≡ turns → SoFar keeper' honest holds' (hosts_of desk) rows played
+      → IsAscending nat_cmp (λ (row : StatusCount). row.status) rows → listed ≡ rows → counts ≡ desk_counts desk → (p : PlayedTurns keeper keeper' honest holds holds' turns) × IsTallyOf keeper keeper' honest holds holds' turns p (tally_text turns listed (counted counts))
+  told_at_end keeper' honest holds' desk rows listed counts played turns all so_far ascending same is =
+      subst (λ n. (p : PlayedTurns keeper keeper' honest holds holds' n) × IsTallyOf keeper keeper' honest holds holds' n p (tally_text n listed (counted counts))) all (
+        so_far.played,
+        (rows, record { ascending = ascending; counted = so_far.counts }, ap (λ (l : List StatusCount). tally_text played l (counted counts)) same ∙ ap (tally_text played rows) (ap counted is ∙ (counts_same desk ∙ ap counts_of so_far.stands))),
+      )
+
+-- ---- no tally
+
+module _ (keeper keeper' : ℕ) (honest : Type 0) (holds holds' : List Row → Type 0) where
+  -- the generated setup was refused
+  pub not_opened : (turns : ℕ) (setup : List ℕ) (status : Status) → setup ≡ HARBOUR.now → Refuses keeper keeper' honest holds holds' setup status × KeepsRows keeper keeper' honest holds holds' → Stopped keeper keeper' honest holds holds' turns status
+  not_opened turns setup status same both = inl (record { cause = subst (λ (text : List ℕ). Refuses keeper keeper' honest holds holds' text status) same both.0; rows_as_they_were = both.1 })
+
+  -- and not since the words are no form
+  pub not_usage : (turns : ℕ) (status : Status) → Stopped keeper keeper' honest holds holds' turns status → status ≢ Usage
+  not_usage turns status (inl none) e = subst (λ (s : Status). Refuses keeper keeper' honest holds holds' HARBOUR.now s) e none.cause
+  not_usage turns status (inr some) e = grind (arith, some.0, e)
+
+  -- nothing is written then
+  pub none_told : (turns : ℕ) (status : Status) (held held' : Option (List ℕ)) (sink sink' : ℕ) → Stopped keeper keeper' honest holds holds' turns status → Keeps held held' → Tallied keeper keeper' honest holds holds' held held' sink sink' turns status
+  none_told turns Done held held' sink sink' (inl none) keeps = absurd none.cause
+  none_told turns Done held held' sink sink' (inr some) keeps = grind (arith, some.0)
+  none_told turns WriteFault held held' sink sink' (inl none) keeps = absurd none.cause
+  none_told turns WriteFault held held' sink sink' (inr some) keeps = grind (arith, some.0)
+  none_told turns Usage held held' sink sink' stopped keeps = (stopped, keeps)
+  none_told turns ReadFault held held' sink sink' stopped keeps = (stopped, keeps)
+  none_told turns NoMemory held held' sink sink' stopped keeps = (stopped, keeps)
+  none_told turns (BadFrame n) held held' sink sink' stopped keeps = (stopped, keeps)
+  none_told turns (Setup fault) held held' sink sink' stopped keeps = (stopped, keeps)
+  none_told turns OpenFault held held' sink sink' stopped keeps = (stopped, keeps)
+  none_told turns (KeptRows fault) held held' sink sink' stopped keeps = (stopped, keeps)
+  none_told turns TooLong held held' sink sink' stopped keeps = (stopped, keeps)

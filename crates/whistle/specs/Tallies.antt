@@ -1,0 +1,49 @@
+-- What a run did that tallied a generated script.
+use Rattle.std.specs.Prelude.{ℕ, ◌≡◌, ◌≤◌, ◌⊎◌, List, Option}
+use Rattle.std.specs.Io.KnownBytes.{Appends, Keeps}
+use Rattle.wb_base.specs.declared.rows.Row.{Row}
+use Rattle.wb_base.specs.Outside.{AppendsFront, Rose}
+use Rattle.wb_model.specs.Counts.{counts_of}
+use Rattle.wb_model.specs.Past.{Past}
+use Rattle.wb_model.specs.Pasts.{AllOpened, standing_hosts}
+use Rattle.wb_model.specs.Scripts.{Place, script_replies, past_after}
+use Rattle.whistle.specs.declared.counting.StatusCount.{StatusCount}
+use Rattle.whistle.specs.declared.harbour.TheConstants.{HARBOUR}
+use Rattle.whistle.specs.declared.status.Status.{Status}
+use Rattle.whistle.specs.declared.status.Status.TheVariants.{Done, WriteFault, NoMemory}
+use Rattle.whistle.specs.Counted.{AreCountsOf}
+use Rattle.whistle.specs.Generated.{frames_from}
+use Rattle.whistle.specs.Played.{HasPlayed}
+use Rattle.whistle.specs.TallyText.{tally_text}
+use Rattle.whistle.specs.Starts.{IsOpenedBy, KeepsRows, Refuses}
+
+-- what the keeper counted before and counts now, and the rows that it holds before and now, where it is honest
+module _ (keeper keeper' : ℕ) (honest : Type 0) (holds holds' : List Row → Type 0) where
+  -- the generated setup opened a host over the rows that the keeper held, and that host played the generated frames of so many turns
+  pub record PlayedTurns (turns : ℕ) : Type 0 where
+    pub loaded : List Row
+    pub start : Past AllOpened
+    pub opened : IsOpenedBy loaded HARBOUR.now start
+    pub places : List Place
+    pub played : HasPlayed keeper keeper' honest holds holds' loaded start (frames_from 1 turns) places
+
+  -- the text is their tally: how often each status is among the replies, and what the host counts at the end
+  abbrev pub IsTallyOf : (turns : ℕ) → PlayedTurns turns → List ℕ → Type 0
+  IsTallyOf turns p text = (rows : List StatusCount) × AreCountsOf (script_replies p.start p.places) rows × (text ≡ tally_text turns rows (counts_of (standing_hosts (past_after p.start p.places))))
+
+  -- the generated setup opened no host, and what is kept is as it was
+  pub record OpenedNone (status : Status) : Type 0 where
+    pub cause : Refuses keeper keeper' honest holds holds' HARBOUR.now status
+    pub rows_as_they_were : KeepsRows keeper keeper' honest holds holds'
+
+  -- why there is no tally: no host was opened, or there was no memory after some of the turns
+  abbrev pub Stopped : ℕ → Status → Type 0
+  Stopped turns status = OpenedNone status ⊎ ((status ≡ NoMemory) × ((played : ℕ) × (played ≤ turns) × PlayedTurns played))
+
+  -- what the sink held before and holds now, with its count before and now
+  module _ (held held' : Option (List ℕ)) (sink sink' : ℕ) where
+    -- what a run did that tallied so many turns, by its status: it wrote their tally, or a front of it where the sink failed, or nothing
+    abbrev pub Tallied : ℕ → Status → Type 0
+    Tallied turns Done = (p : PlayedTurns turns) × ((text : List ℕ) × IsTallyOf turns p text × Appends held held' text)
+    Tallied turns WriteFault = (p : PlayedTurns turns) × ((text : List ℕ) × IsTallyOf turns p text × AppendsFront held held' text) × Rose sink sink'
+    Tallied turns status = Stopped turns status × Keeps held held'
