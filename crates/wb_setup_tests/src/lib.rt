@@ -3,6 +3,10 @@
 #![tactic(auto)]
 
 #[cfg(test)]
+mod connections;
+#[cfg(test)]
+mod gates;
+#[cfg(test)]
 mod hosts;
 #[cfg(test)]
 mod kept_rows;
@@ -15,9 +19,13 @@ mod reopenings;
 #[cfg(test)]
 mod report_turns;
 #[cfg(test)]
+mod row_texts;
+#[cfg(test)]
 mod setup_frames;
 #[cfg(test)]
 mod setups;
+#[cfg(test)]
+mod side_by_side;
 #[cfg(test)]
 mod texts;
 #[cfg(test)]

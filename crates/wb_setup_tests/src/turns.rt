@@ -44,10 +44,9 @@ pub struct Host {
 }
 
 impl Host {
-    /// A host over a setup, whose keeper fails at these calls.
-    pub fn open(alloc: Global, setup: &str, fail: &[u64]) -> Result<Host, Fail> {
-        let routes = Routes::new(alloc)?;
-        let mut keeper = keeper(alloc, fail)?;
+    // A host over a setup and the rows of a keeper.
+    fn over(alloc: Global, routes: Routes, keeper: MemKeeper, setup: &str) -> Result<Host, Fail> {
+        let mut keeper = keeper;
         let Ok(setup) = Setup::read(alloc, setup.as_bytes()) else {
             return Err("a setup".into());
         };
@@ -62,6 +61,11 @@ impl Host {
         }
     }
 
+    /// A host over a setup, whose keeper fails at these calls.
+    pub fn open(alloc: Global, setup: &str, fail: &[u64]) -> Result<Host, Fail> {
+        Host::over(alloc, Routes::new(alloc)?, keeper(alloc, fail)?, setup)
+    }
+
     /// The host that is opened over a setup and the rows that this one leaves.
     pub fn reopened(self, setup: &str) -> Result<Host, Fail> {
         let Host {
@@ -70,19 +74,7 @@ impl Host {
             desk: _,
             keeper,
         } = self;
-        let mut keeper = keeper;
-        let Ok(setup) = Setup::read(alloc, setup.as_bytes()) else {
-            return Err("a setup".into());
-        };
-        match Desk::open(alloc, &mut keeper, &setup) {
-            Ok(desk) => Ok(Host {
-                alloc,
-                routes,
-                desk,
-                keeper,
-            }),
-            Err(_) => Err("a host again".into()),
-        }
+        Host::over(alloc, routes, keeper, setup)
     }
 
     /// Makes a turn with the words 0, k, 0, k, and says whether its reply is the wanted one.
