@@ -1,10 +1,10 @@
 //! A host is served: its stations are given to workers and come back, and it is taken apart at the end.
-ghost use Rattle.std.specs.Prelude.{◌≡◌, ◌<◌, ◌≤◌, ◌+◌, [], Some, true, All, vec_len, vec_capacity, IfOk, IfErr};
-ghost use Rattle.wb_links.specs.Lines.{Lines};
+ghost use Rattle.std.specs.Prelude.{◌≡◌, ◌<◌, ◌≤◌, ◌-◌, ℕ, [], true, false, All, vec_len, vec_capacity, slice_index_or, IfOk, IfErr};
 ghost use Rattle.wb_model.specs.Rows.{rows_of};
 ghost use Rattle.wb_tables.specs.Standing.{hosts_of};
 ghost use Rattle.wb_kept.specs.Hosted.{parts_of};
-ghost use Rattle.wb_workers.specs.Workers.{HasEnded, HasNone};
+ghost use Rattle.wb_front.specs.Attended.{RoseOften};
+ghost use Rattle.wb_workers.specs.Workers.{HasEnded, HasNone, WasServed};
 
 use crate::worker::{Worker, attend_all, make_worker};
 use std::alloc::Global;
@@ -35,8 +35,11 @@ fn place<Li: Listener, T: Ticker, A: Ledger, B: Ledger>(
 )
     requires parts { (0 < all.parts) × (all.parts ≡ vec_len stations.old) }
     requires room { (vec_len workers.old ≡ 0) × (vec_len stations.old ≤ vec_capacity workers.old) }
+    requires share { all.turns ≡ 0 }
     ensures workers { vec_len workers.new ≡ vec_len stations.old }
     ensures stations { (vec_len stations.new ≡ 0) × (vec_capacity stations.new ≡ vec_capacity stations.old) }
+    ensures order { (k : ℕ) (d : _) (e : _) → k < vec_len stations.old → (slice_index_or workers.new.items k d).station ≡ slice_index_or stations.old.items (vec_len stations.old - 1 - k) e }
+    ensures shares { (k : ℕ) (d : _) → k < vec_len stations.old → (slice_index_or workers.new.items k d).pass.turns ≡ 0 }
 {
     let mut all = all;
     while stations.len() > 1 {
@@ -62,7 +65,9 @@ fn unplace<Li: Listener, T: Ticker, A: Ledger, B: Ledger>(
     requires ended { All (λ w. HasEnded (Li.told w.station.listener) w.worked) workers.items }
     ensures stations { vec_len stations.new ≡ vec_len workers }
     ensures passes { parts_of passes.new.items ≡ vec_len workers }
+    ensures order { (k : ℕ) (d : _) (e : _) → k < vec_len workers → slice_index_or stations.new.items k e ≡ (slice_index_or workers.items (vec_len workers - 1 - k) d).station }
     ensures left { result ≡ true → All (λ s. HasNone (Li.told s.listener)) stations.new.items }
+    ensures failed { result ≡ false → (k : ℕ) × (k < vec_len workers) × ((d : _) → (slice_index_or workers.items k d).worked ≡ Worked.ListenFault) }
 {
     let mut ended = true;
     while let Some(next) = workers.pop() {
@@ -108,7 +113,10 @@ where
     requires turns { (turns.name ≡ A.name) × (turns.parts ≡ A.parts) × (turns.parts ≡ vec_len stations.old) }
     requires numbers { (numbers.name ≡ B.name) × (numbers.parts ≡ B.parts) × (numbers.parts ≡ vec_len stations.old) }
     ensures stations { vec_len stations.new ≡ vec_len stations.old }
+    ensures served { IfOk result (λ _. (i : ℕ) (d : _) (e : _) → i < vec_len stations.old → WasServed (Li.told (slice_index_or stations.old.items i d).listener) (Li.told (slice_index_or stations.new.items i e).listener) (T.left (slice_index_or stations.old.items i d).ticker) (T.left (slice_index_or stations.new.items i e).ticker)) }
     ensures left { IfOk result (λ e. e.all ≡ true → All (λ s. HasNone (Li.told s.listener)) stations.new.items) }
+    ensures failed { IfOk result (λ e. e.all ≡ false → (i : ℕ) × (i < vec_len stations.old) × ((d : _) (e : _) → RoseOften 16 (Li.count (slice_index_or stations.old.items i d).listener) (Li.count (slice_index_or stations.new.items i e).listener))) }
+    ensures none { IfErr result (λ _. stations.new.items ≡ stations.old.items) }
     ensures kept { IfOk result (λ e. K.honest e.closed.keeper → K.holds e.closed.keeper (rows_of (hosts_of e.closed.desk).list)) }
 {
     let count = stations.len();
@@ -140,7 +148,10 @@ where
     requires some { 0 < vec_len stations.old }
     requires kept { K.honest keeper → K.holds keeper (rows_of (hosts_of desk).list) }
     ensures stations { vec_len stations.new ≡ vec_len stations.old }
+    ensures served { IfOk result (λ _. (i : ℕ) (d : _) (e : _) → i < vec_len stations.old → WasServed (Li.told (slice_index_or stations.old.items i d).listener) (Li.told (slice_index_or stations.new.items i e).listener) (T.left (slice_index_or stations.old.items i d).ticker) (T.left (slice_index_or stations.new.items i e).ticker)) }
     ensures left { IfOk result (λ e. e.all ≡ true → All (λ s. HasNone (Li.told s.listener)) stations.new.items) }
+    ensures failed { IfOk result (λ e. e.all ≡ false → (i : ℕ) × (i < vec_len stations.old) × ((d : _) (e : _) → RoseOften 16 (Li.count (slice_index_or stations.old.items i d).listener) (Li.count (slice_index_or stations.new.items i e).listener))) }
+    ensures none { IfErr result (λ _. stations.new.items ≡ stations.old.items) }
     ensures kept { IfOk result (λ e. K.honest e.closed.keeper → K.holds e.closed.keeper (rows_of (hosts_of e.closed.desk).list)) }
 {
     let parts = stations.len() as u64;

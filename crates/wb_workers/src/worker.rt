@@ -1,8 +1,7 @@
 //! A worker: a station, a pass of one part, and how it ended.
-ghost use Rattle.std.specs.Prelude.{◌≡◌, ◌<◌, ℕ, [], Some, All, length, slice_index_or};
-ghost use Rattle.wb_links.specs.Lines.{Lines};
+ghost use Rattle.std.specs.Prelude.{◌≡◌, ◌<◌, ℕ, All, length, slice_index_or};
 ghost use Rattle.wb_front.specs.Attended.{RoseOften};
-ghost use Rattle.wb_workers.specs.Workers.{HasEnded};
+ghost use Rattle.wb_workers.specs.Workers.{HasEnded, IsServed};
 
 use std::alloc::Global;
 use std::sync::Wait;
@@ -30,7 +29,8 @@ pub fn make_worker<Li: Listener, T: Ticker, A: Ledger, B: Ledger>(
     station: Station<Li, T>,
 ) -> Worker<Li, T, A, B>
     requires { pass.parts ≡ 1 }
-    ensures { result.station ≡ station }
+    ensures station { result.station ≡ station }
+    ensures pass { result.pass ≡ pass }
 {
     Worker {
         pass,
@@ -49,6 +49,7 @@ fn attend<
     Li: Listener,
     T: Ticker,
 >(rt: &R, alloc: Global, gate: &G, routes: &Routes, worker: &mut Worker<Li, T, A, B>)
+    ensures served { IsServed (λ share frame told. G.ran share frame told) (Li.told worker.old.station.listener) (Li.told worker.new.station.listener) worker.old.pass.turns worker.new.pass.turns (T.left worker.old.station.ticker) (T.left worker.new.station.ticker) }
     ensures ended { HasEnded (Li.told worker.new.station.listener) worker.new.worked }
     ensures failed { worker.new.worked ≡ Worked.ListenFault → RoseOften 16 (Li.count worker.old.station.listener) (Li.count worker.new.station.listener) }
 {
@@ -74,6 +75,7 @@ where
     Li::End: Send,
     requires some { 0 < length workers.old }
     ensures len { length workers.new ≡ length workers.old }
+    ensures served { (i : ℕ) (d : _) → i < length workers.old → IsServed (λ share frame told. G.ran share frame told) (Li.told (slice_index_or workers.old i d).station.listener) (Li.told (slice_index_or workers.new i d).station.listener) (slice_index_or workers.old i d).pass.turns (slice_index_or workers.new i d).pass.turns (T.left (slice_index_or workers.old i d).station.ticker) (T.left (slice_index_or workers.new i d).station.ticker) }
     ensures ended { All (λ w. HasEnded (Li.told w.station.listener) w.worked) workers.new }
     ensures failed { (i : ℕ) (d : _) → i < length workers.old → (slice_index_or workers.new i d).worked ≡ Worked.ListenFault → RoseOften 16 (Li.count (slice_index_or workers.old i d).station.listener) (Li.count (slice_index_or workers.new i d).station.listener) }
 {
@@ -82,6 +84,10 @@ where
         rt,
         workers,
         threads,
-        &|_, worker| { attend(rt, alloc, gate, routes, worker) },
+        &|_, worker|
+            ensures served { IsServed (λ share frame told. G.ran share frame told) (Li.told worker.old.station.listener) (Li.told worker.new.station.listener) worker.old.pass.turns worker.new.pass.turns (T.left worker.old.station.ticker) (T.left worker.new.station.ticker) }
+            ensures ended { HasEnded (Li.told worker.new.station.listener) worker.new.worked }
+            ensures failed { worker.new.worked ≡ Worked.ListenFault → RoseOften 16 (Li.count worker.old.station.listener) (Li.count worker.new.station.listener) }
+        { attend(rt, alloc, gate, routes, worker) },
     );
 }

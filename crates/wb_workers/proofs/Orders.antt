@@ -1,0 +1,46 @@
+-- Workers that are taken from the end, and whose stations stand in the order in which they came.
+use Rattle.std.proofs.Common.{◌≡◌, ◌<◌, ◌+◌, ◌-◌, ℕ, List, [], ◌∷◌, ◌++◌, length, take, slice_index_or, sym, ap, ◌∙◌, arith}
+use Rattle.std.proofs.Math.ListN.{get_or-append, length-append}
+use Rattle.std.proofs.Math.Seq.{get_or-append_seam}
+use Rattle.std.proofs.lemmas.List.{get_or-take}
+
+-- what is taken from the end of a front part stands at its last place
+pub last_at : {W : Type 0} (ws old new : List W) (x : W) (m : ℕ) → length old ≡ m → old ≡ take m ws → old ≡ new ++ x ∷ [] → (d : W) → slice_index_or ws (m - 1) d ≡ x
+last_at ws old new x m len front parts d =
+    let size : length old ≡ length new + 1 = ap length parts ∙ length-append new (x ∷ []) in
+    let place : m - 1 ≡ length new = omega (arith, size, len) in
+    let taken : slice_index_or (take m ws) (m - 1) d ≡ slice_index_or ws (m - 1) d = get_or-take m ws (m - 1) d (omega (arith, size, len)) in
+    let seam : slice_index_or (new ++ x ∷ []) (length new) d ≡ x = get_or-append_seam new x [] d in
+    sym taken ∙ ap (λ xs. slice_index_or xs (m - 1) d) (sym front ∙ parts) ∙ ap (λ k. slice_index_or (new ++ x ∷ []) k d) place ∙ seam
+
+-- as many stations stand in the opposite order of their workers, of which there are n, and so do these and the one of the worker before
+pub turned_more : {W S : Type 0} (f : W → S) (ws : List W) (n : ℕ) (ss : List S) (j : ℕ) (x : W) (m : ℕ)
+    → length ss ≡ j → j + m ≡ n → 0 < m
+    → ((k : ℕ) (d : W) (e : S) → k < j → slice_index_or ss k e ≡ f (slice_index_or ws (n - 1 - k) d))
+    → ((d : W) → slice_index_or ws (m - 1) d ≡ x)
+    → (k : ℕ) (d : W) (e : S) → k < j + 1 → slice_index_or (ss ++ f x ∷ []) k e ≡ f (slice_index_or ws (n - 1 - k) d)
+turned_more f ws n ss j x m is_j sum some turned last k d e within =
+    let seam : slice_index_or (ss ++ f x ∷ []) (length ss) e ≡ f x = get_or-append_seam ss (f x) [] e in
+    let place : n - 1 - j ≡ m - 1 = omega (arith, sum, some) in
+    let before = get_or-append ss (f x ∷ []) e k in
+    let was = turned k d e in
+    let it = last d in
+    grind (arith, within, is_j, seam, place, before, was, it)
+
+-- stations that were given to n workers in the opposite order, and came back so of m, each stand at their own place
+pub in_place : {W S : Type 0} (station : W → S) (n m i : ℕ) (d e : S) (w : W) (old new : List S) (before written after : List W)
+    → m ≡ n → i < n
+    → ((k : ℕ) (d : W) (e : S) → k < n → station (slice_index_or before k d) ≡ slice_index_or old (n - 1 - k) e)
+    → ((k : ℕ) (d : W) (e : S) → k < m → slice_index_or new k e ≡ station (slice_index_or written (m - 1 - k) d))
+    → written ≡ after
+    → (station (slice_index_or before (n - 1 - i) w) ≡ slice_index_or old i d) × (slice_index_or new i e ≡ station (slice_index_or after (n - 1 - i) w))
+in_place station n m i d e w old new before written after all within placed back same =
+    let there : n - 1 - (n - 1 - i) ≡ i = omega (arith, within) in
+    let here : m - 1 - i ≡ n - 1 - i = omega (arith, all) in (
+      placed (n - 1 - i) w d (omega (arith, within)) ∙ ap (λ k. slice_index_or old k d) there,
+      back i w e (omega (arith, all, within)) ∙ ap (λ k. station (slice_index_or written k w)) here ∙ ap (λ xs. station (slice_index_or xs (n - 1 - i) w)) same,
+    )
+
+-- what holds at a place of the written list holds at that place of the list that it was written from
+pub same_place : {W X : Type 0} (f : W → X) (written after : List W) (j k : ℕ) (w : W) (x : X) → j ≡ k → written ≡ after → f (slice_index_or written k w) ≡ x → f (slice_index_or after j w) ≡ x
+same_place f written after j k w x there same e = ap (λ i. f (slice_index_or after i w)) there ∙ ap (λ xs. f (slice_index_or xs k w)) (sym same) ∙ e
