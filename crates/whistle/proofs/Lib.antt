@@ -10,7 +10,6 @@ pub mod Completeness
 pub mod Identities
 pub mod Forgetting
 pub mod Laws
-pub mod CommandLineLemmas
 pub mod OpeningLemmas
 pub mod PlayedTurns
 pub mod TallyCompleteness

@@ -3,10 +3,10 @@ use Rattle.std.specs.Prelude.{ℕ, ◌≡◌, ◌⊎◌, List, Option}
 use Rattle.std.specs.Io.KnownBytes.{Appends, Keeps}
 use Rattle.wb_base.specs.declared.rows.Row.{Row}
 use Rattle.wb_base.specs.Outside.{AppendsFront, Rose}
-use Rattle.whistle.specs.declared.plans.Plan.TheVariants.{Play, Make, Tally}
+use Rattle.wb_words.specs.declared.plans.Plan.TheVariants.{Play, Make, Tally}
+use Rattle.wb_words.specs.CommandLine.{Asks, IsRunForm}
 use Rattle.whistle.specs.declared.status.Status.{Status}
 use Rattle.whistle.specs.declared.status.Status.TheVariants.{Done, Usage, ReadFault, WriteFault, NoMemory, BadFrame, Setup, OpenFault, KeptRows, TooLong}
-use Rattle.whistle.specs.CommandLine.{Asks, IsForm}
 use Rattle.whistle.specs.Generated.{generated}
 use Rattle.whistle.specs.Runs.{Ran}
 use Rattle.whistle.specs.Tallies.{Tallied}
@@ -39,10 +39,10 @@ pub record KeepsNothing (keeper keeper' : ℕ) (honest : Type 0) (holds holds' :
 -- what the source had left and has left now, what the sink held before and holds now, the counts of both and of the keeper before and now, and
 -- the rows that the keeper holds before and now, where it is honest: what a run with these words and this status did
 pub record Did (left left' held held' : Option (List ℕ)) (source source' sink sink' keeper keeper' : ℕ) (honest : Type 0) (holds holds' : List Row → Type 0) (words : List (List ℕ)) (status : Status) : Type 0 where
-  -- words are told to be no form only where they are none
-  pub usage : status ≡ Usage → IsForm words → ⊥
+  -- words are told to be no form of a run only where they are none
+  pub usage : status ≡ Usage → IsRunForm words → ⊥
   -- where they are none, that is told, or there was no memory, and nothing is read, written or kept
-  pub no_form : (IsForm words → ⊥) → ((status ≡ Usage) ⊎ (status ≡ NoMemory)) × Keeps held held' × ReadsNothing left left' source source' × KeepsNothing keeper keeper' honest holds holds'
+  pub no_form : (IsRunForm words → ⊥) → ((status ≡ Usage) ⊎ (status ≡ NoMemory)) × Keeps held held' × ReadsNothing left left' source source' × KeepsNothing keeper keeper' honest holds holds'
   pub play : (store : Option (List ℕ)) → Asks words (Play store) → Ran left left' held held' source source' sink sink' keeper keeper' honest holds holds' status
   pub make : (turns : ℕ) → Asks words (Make turns) → Writes held held' sink sink' turns status × ReadsNothing left left' source source' × KeepsNothing keeper keeper' honest holds holds'
   pub tally : (turns : ℕ) → Asks words (Tally turns) → Tallied keeper keeper' honest holds holds' held held' sink sink' turns status × ReadsNothing left left' source source'

@@ -5,7 +5,6 @@ pub mod Played
 pub mod Starts
 pub mod Runs
 pub mod Exits
-pub mod CommandLine
 pub mod Generated
 pub mod Counted
 pub mod TallyText

@@ -169,9 +169,16 @@ fn the_replies_before_a_fault_stand(rt: HostRuntime) -> Result<(), Fail> {
 }
 
 #[test]
-fn other_words_are_no_form(rt: HostRuntime) -> Result<(), Fail> {
+fn other_words_are_no_form_of_a_run(rt: HostRuntime) -> Result<(), Fail> {
     let alloc = rt.alloc();
-    for words in [[].as_slice(), &["plays"], &["play", "play"], &["make", "0"]] {
+    let serve = ["serve", "--setup", "s", "--listen", "l", "--workers", "1"];
+    for words in [
+        [].as_slice(),
+        &["plays"],
+        &["play", "play"],
+        &["make", "0"],
+        &serve,
+    ] {
         let mut texts = Vec::new(alloc);
         for word in words {
             texts.push(Text::from_str(alloc, word)?)?;

@@ -2,23 +2,19 @@
 #![tactic(auto)]
 
 mod answering;
-mod command_line;
 mod counting;
 mod exits;
 mod generated;
 mod harbour;
 mod opening;
-mod plans;
 mod playing;
 mod running;
 mod status;
 mod tally_lines;
 mod tallying;
 
-pub use command_line::plan;
 pub use exits::{end, run_to_end, words_of};
 pub use generated::make;
-pub use plans::PlanFault;
 pub use running::run;
 pub use status::{Status, exit_line};
 use std::alloc::Global;
@@ -27,6 +23,7 @@ use std::io::{BufReader, ErrorKind};
 use std::process::ExitCode;
 use wb_base::{Keeper, MemKeeper, StdSink, StdSource, Text};
 use wb_sqlite::PathKeeper;
+use wb_words::{Plan, PlanFault, plan};
 
 // The words after the program's name. Words that are not UTF-8 are no form of any call.
 fn words(rt: &HostRuntime) -> Result<Vec<Text>, Status> {
@@ -60,7 +57,7 @@ fn run_over<K: Keeper>(rt: &HostRuntime, words: &[Text], keeper: &mut K) -> u8 {
 // run: rows that were to be kept in a file would be lost.
 fn run_words(rt: &HostRuntime, words: &[Text]) -> u8 {
     match plan(rt.alloc(), words) {
-        Ok(plans::Plan::Play { store: Some(path) }) => {
+        Ok(Plan::Play { store: Some(path) }) => {
             run_over(rt, words, &mut PathKeeper::new(rt, path))
         }
         Err(PlanFault::Memory) => end(&Status::NoMemory, &mut StdSink::new(rt.stderr())),
@@ -75,8 +72,6 @@ fn main(rt: HostRuntime) -> ExitCode {
     })
 }
 
-#[cfg(test)]
-mod command_line_tests;
 #[cfg(test)]
 mod ending_tests;
 #[cfg(test)]

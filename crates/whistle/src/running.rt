@@ -10,20 +10,19 @@ ghost use Rattle.wb_rows.specs.Held.{Held};
 ghost use Rattle.wb_rows.specs.Judged.{judged};
 ghost use Rattle.wb_tenants.specs.Setups.{setup as lists_in};
 ghost use Rattle.wb_wire.specs.SetupText.{IsSetup};
-ghost use Rattle.whistle.specs.declared.plans.Plan.TheVariants.{Play, Tally};
+ghost use Rattle.wb_words.specs.declared.plans.Plan.TheVariants.{Play, Tally};
+ghost use Rattle.wb_words.specs.CommandLine.{Asks};
 ghost use Rattle.whistle.specs.declared.harbour.TheConstants.{HARBOUR};
 ghost use Rattle.whistle.specs.Asked.{Did, Writes};
-ghost use Rattle.whistle.specs.CommandLine.{Asks};
 ghost use Rattle.whistle.specs.Runs.{script_text};
 
-use crate::command_line::plan;
 use crate::generated::make;
-use crate::plans::{Plan, PlanFault};
 use crate::playing::play_script;
 use crate::status::Status;
 use crate::tallying::tally;
 use std::alloc::Global;
 use wb_base::{Keeper, Sink, Source, Text};
+use wb_words::{Plan, PlanFault, plan};
 
 // Writes the script of so many turns.
 fn make_script<W: Sink>(turns: u32, sink: &mut W) -> Status
@@ -38,7 +37,8 @@ fn make_script<W: Sink>(turns: u32, sink: &mut W) -> Status
 
 /// Does what the words ask: `play` opens the host of the rows that the keeper holds and of the setup with which the source begins, plays
 /// the script on it, and writes each reply before it reads the next frame; `make` writes a script and nothing else; `tally` plays that script on
-/// the host of the rows that the keeper holds and of its setup, and writes what its replies and the host at the end come to. It waits for nobody.
+/// the host of the rows that the keeper holds and of its setup, and writes what its replies and the host at the end come to. It waits for nobody, so
+/// it does not do what the words of `serve` ask.
 pub fn run<S: Source, W: Sink, K: Keeper>(
     alloc: Global,
     words: &[Text],
@@ -57,6 +57,7 @@ pub fn run<S: Source, W: Sink, K: Keeper>(
         Ok(Plan::Play { .. }) => play_script(alloc, source, sink, keeper),
         Ok(Plan::Make(turns)) => make_script(turns, sink),
         Ok(Plan::Tally(turns)) => tally(alloc, turns, sink, keeper),
+        Ok(Plan::Serve { .. }) => Status::Usage,
         Err(PlanFault::Usage) => Status::Usage,
         Err(PlanFault::Memory) => Status::NoMemory,
     }

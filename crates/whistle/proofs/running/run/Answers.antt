@@ -1,9 +1,9 @@
 use Rattle.std.proofs.Common.{[], inl, inr, refl, sym, subst, arith}
 use Rattle.std.proofs.KnownBytes.{Consumes-nil, Keeps-refl}
-use Rattle.whistle.specs.declared.plans.Plan.TheVariants.{Play, Make, Tally}
+use Rattle.wb_words.specs.declared.plans.Plan.TheVariants.{Play, Make, Tally}
+use Rattle.wb_words.proofs.CommandLineLemmas.{few_turns, same_turns, not_play, not_make}
 use Rattle.whistle.specs.Asked.{ReadsNothing}
 use Rattle.whistle.specs.Tallies.{Tallied}
-use Rattle.whistle.proofs.CommandLineLemmas.{few_turns, same_turns, not_play, not_make}
 use Rattle.whistle.proofs.PlayLemmas.{nothing_begins}
 use Rattle.whistle.proofs.TallyCompleteness.{comes}
 use Rattle.whistle.proofs.running.run.Goals as goal
@@ -52,7 +52,7 @@ returns-in-Ok-Tally-clause-did g c =
     let reads : ReadsNothing (g.S.Source.left c.args.source.now) (g.S.Source.left c.args.source.now) (g.S.Source.count c.args.source.now) (g.S.Source.count c.args.source.now) = record { left_as_it_was = Keeps-refl (g.S.Source.left c.args.source.now); no_read = refl } in
     record {
       usage = λ is form. absurd (c.tally.ensures.no_usage is);
-      no_form = λ none. absurd (none (Tally c.in-Ok-Tally.turns, ok));
+      no_form = λ none. absurd (none (Tally c.in-Ok-Tally.turns, ok, tt));
       play = λ store asks. absurd (not_play store c.in-Ok-Tally.turns (only (Play store) asks));
       make = λ turns asks. absurd (not_make turns c.in-Ok-Tally.turns (only (Make turns) asks));
       tally = λ turns asks. (

@@ -1,6 +1,6 @@
 use Rattle.std.proofs.Common.{◌≡◌, ◌<◌, ◌^◌, ◌∙◌, sym, ap, arith, decimal}
 use Rattle.std.proofs.lemmas.Fmt.{parse-decimal}
-use Rattle.whistle.proofs.command_line.number_of.Goals as goal
+use Rattle.wb_words.proofs.command_line.number_of.Goals as goal
 
 pub returns-in-Err-clause-again : goal.returns-in-Err-clause-again
 returns-in-Err-clause-again c = λ n small is. let wide : n < 2 ^ 64 = omega (arith, small) in let read = parse-decimal 32 n _ c.parse.result small wide is c.parse.ensures.value.0 in cc

@@ -5,8 +5,8 @@ use Rattle.clap.specs.Walk.{first_of}
 use Rattle.clap.specs.Matches.{found_of}
 use Rattle.clap.specs.Kinds.{Kinds, IsAmong}
 use Rattle.clap.specs.declared.error.kind.ErrorKind.{ErrorKind}
-use Rattle.whistle.specs.CommandLine.{has_none, takes_words, value_of}
-use Rattle.whistle.proofs.command_line.value.Goals as goal
+use Rattle.wb_words.specs.CommandLine.{has_none, takes_words, value_of}
+use Rattle.wb_words.proofs.command_line.matched.Goals as goal
 
 some_kind : (k : ErrorKind) (ks : Kinds) → IsAmong k ks → has_none ks ≡ false
 some_kind k [] h = absurd h
@@ -16,11 +16,11 @@ pub returns-in-Ok-clause-taken : goal.returns-in-Ok-clause-taken
 unfolding takes_words
 returns-in-Ok-clause-taken c = ap has_none (c.in-Ok.ensures.kinds c.requires)
 
-pub returns-in-Ok-clause-found : goal.returns-in-Ok-clause-found
+pub returns-in-Ok-clause-values : goal.returns-in-Ok-clause-values
 unfolding value_of
-returns-in-Ok-clause-found c =
+returns-in-Ok-clause-values c =
     let rows = (c.in-Ok.ensures.matches (and_parts _ _ c.requires).0).0 in
-    ap (first_of c.args.name.now) (sym rows) ∙ (sym (first_value-rows (found_of c.in-Ok.matches) c.args.name.now) ∙ sym c.get_str.ensures)
+    λ name. ap (first_of name) (sym rows) ∙ sym (first_value-rows (found_of c.in-Ok.matches) name)
 
 pub returns-clause-usage : goal.returns-clause-usage
 unfolding takes_words

@@ -1,6 +1,6 @@
 //! What can be asked of the program.
 ghost use Rattle.std.specs.Prelude.{◌≡◌};
-ghost use Rattle.whistle.specs.declared.plans.PlanFault.TheVariants.{Memory as NoMemory};
+ghost use Rattle.wb_words.specs.declared.plans.PlanFault.TheVariants.{Memory as NoMemory};
 
 use std::alloc::AllocError;
 use wb_base::{Memory, Text};
@@ -9,11 +9,20 @@ use wb_base::{Memory, Text};
 #[derive(Drop)]
 pub enum Plan {
     /// Plays the script of the input, over rows in memory, or in the file of this path.
-    Play { store: Option<Text> },
+    Play {
+        store: Option<Text>,
+    },
     /// Writes a script of so many turns.
     Make(u32),
     /// Plays that script, and writes what its replies and its host at the end come to.
     Tally(u32),
+    /// Serves a host at an address by so many workers: its setup is in the file of a path, and its rows are in memory, or in the file of this path.
+    Serve {
+        setup: Text,
+        listen: Text,
+        workers: u32,
+        store: Option<Text>,
+    },
 }
 
 /// Why nothing is asked.
