@@ -80,7 +80,8 @@ impl PathFile {
 }
 
 /// A keeper of rows in the file at a path, seen as the count of its faults. `load` opens the file, or makes it. It tells no
-/// rows. As it goes, it copies the log beside the file in, so that the file is whole by itself.
+/// rows. As it goes, it copies the log beside the file in, so that the file is whole by itself. It may go to another thread:
+/// `keeper_send` in `proofs/SentKeeper.antt` says so where a call asks for `Send`.
 #[derive(Drop)]
 pub struct PathKeeper {
     file: PathFile,
