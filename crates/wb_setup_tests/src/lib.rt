@@ -3,10 +3,6 @@
 #![tactic(auto)]
 
 #[cfg(test)]
-mod connections;
-#[cfg(test)]
-mod gates;
-#[cfg(test)]
 mod hosts;
 #[cfg(test)]
 mod kept_rows;
@@ -24,8 +20,6 @@ mod row_texts;
 mod setup_frames;
 #[cfg(test)]
 mod setups;
-#[cfg(test)]
-mod side_by_side;
 #[cfg(test)]
 mod texts;
 #[cfg(test)]

@@ -5,8 +5,8 @@ use Rattle.wb_base.specs.declared.rows.Row.{Row}
 use Rattle.wb_base.specs.Outside.{Rose}
 use Rattle.wb_model.specs.declared.wire.ScriptFrame.{ScriptFrame}
 use Rattle.wb_model.specs.FrameTexts.{texts, frame_text, IsFrame, IsBroken}
-use Rattle.whistle.specs.declared.status.Status.{Status}
-use Rattle.whistle.specs.declared.status.Status.TheVariants.{Done, Usage, ReadFault, WriteFault, NoMemory, BadFrame, Setup, OpenFault, KeptRows, TooLong}
+use Rattle.wb_start.specs.declared.status.Status.{Status}
+use Rattle.wb_start.specs.declared.status.Status.TheVariants.{Done, Usage, ReadFault, WriteFault, NoMemory, BadFrame, Setup, OpenFault, KeptRows, TooLong, ListenFault}
 use Rattle.wb_model.specs.declared.registry.Lists.{Lists}
 use Rattle.wb_rows.specs.declared.faults.RowFault.{RowFault}
 use Rattle.wb_rows.specs.Held.{Held}
@@ -69,6 +69,7 @@ module _ (one_way : (f g : ScriptFrame) (x y : List ℕ) → IsFrame f → IsFra
         not_begun (Setup fault) ne ran = let refused = ran.none.cause in absurd (not_refused setup refused.0 lists fault (same_setup left' setup refused.0 frames whole refused.1) reads refused.2.1)
         not_begun OpenFault ne ran = absurd (kept ran.none.cause.2.0)
         not_begun (KeptRows fault) ne ran = let refused = ran.none.cause.2.0 in absurd (rows_not_refused kept_rows refused.0 held_rows fault (refused.1 h kept_rows holding) reads_rows refused.2)
+        not_begun ListenFault ne ran = absurd ran.none.cause
         not_begun TooLong ne ran =
             let part = ran.none.cause.0 in
             let text = begins_with (Some (script_text setup frames)) left' (part.0 ++ part.1 ∷ []) part.2 in
@@ -86,6 +87,7 @@ module _ (one_way : (f g : ScriptFrame) (x y : List ℕ) → IsFrame f → IsFra
         gone_on (Setup fault) ran = absurd ran.plays
         gone_on OpenFault ran = absurd ran.plays
         gone_on (KeptRows fault) ran = absurd ran.plays
+        gone_on ListenFault ran = absurd ran.plays
         gone_on TooLong ran =
             let plays = ran.plays in
             let text = begins_with (Some (script_text setup frames)) left' (script_text ran.setup plays.0 ++ plays.3.0 ++ plays.3.1 ∷ []) plays.3.2 in

@@ -10,7 +10,7 @@ use Rattle.wb_model.specs.Playing.{ArePlacesOf, AreLossesTold}
 use Rattle.wb_model.specs.Readings.{Reading, Reads}
 use Rattle.wb_model.specs.Scripts.{Place, ArePossible, script_replies, past_after}
 use Rattle.wb_model.specs.ScriptsAlike.{PlacesAlike, hidden_replies}
-use Rattle.whistle.specs.Starts.{IsOpenedBy}
+use Rattle.wb_start.specs.Starts.{IsOpenedBy}
 use Rattle.whistle.proofs.Forgetting.{forgets}
 use Rattle.whistle.proofs.Identities.{keeps}
 use Rattle.whistle.proofs.TurnLemmas.{Laws}

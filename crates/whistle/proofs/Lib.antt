@@ -10,6 +10,5 @@ pub mod Completeness
 pub mod Identities
 pub mod Forgetting
 pub mod Laws
-pub mod OpeningLemmas
 pub mod PlayedTurns
 pub mod TallyCompleteness

@@ -18,7 +18,7 @@ use Rattle.whistle.specs.declared.answering.Answer.{Answer}
 use Rattle.whistle.specs.Answered.{reply_of, IsAnswer}
 use Rattle.wb_wire.specs.SetupText.{setup_line, setup_text, IsSetup, NoSetup}
 use Rattle.wb_wire.specs.SetupReading.{after_setup}
-use Rattle.whistle.specs.Starts.{IsOpenedBy, Opens, unread}
+use Rattle.wb_start.specs.Starts.{IsOpenedBy, Opens, unread}
 use Rattle.whistle.specs.Played.{HasPlayed}
 use Rattle.whistle.specs.Runs.{script_text, Played, Wrote, BrokeOff}
 use Rattle.whistle.proofs.TurnLemmas.{Laws, more, output_more, none_played, one_more, stands_more}

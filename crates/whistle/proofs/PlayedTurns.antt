@@ -20,13 +20,13 @@ use Rattle.wb_desk.specs.Turns.{StandsFor}
 use Rattle.whistle.specs.declared.answering.Answer.{Answer}
 use Rattle.whistle.specs.declared.counting.StatusCount.{StatusCount}
 use Rattle.whistle.specs.declared.harbour.TheConstants.{HARBOUR}
-use Rattle.whistle.specs.declared.status.Status.{Status}
-use Rattle.whistle.specs.declared.status.Status.TheVariants.{Done, Usage, ReadFault, WriteFault, NoMemory, BadFrame, Setup, OpenFault, KeptRows, TooLong}
+use Rattle.wb_start.specs.declared.status.Status.{Status}
+use Rattle.wb_start.specs.declared.status.Status.TheVariants.{Done, Usage, ReadFault, WriteFault, NoMemory, BadFrame, Setup, OpenFault, KeptRows, TooLong, ListenFault}
 use Rattle.whistle.specs.Answered.{IsAnswer}
 use Rattle.whistle.specs.Counted.{IsCounted}
 use Rattle.whistle.specs.Generated.{frame_at, frames_from}
 use Rattle.whistle.specs.Played.{HasPlayed}
-use Rattle.whistle.specs.Starts.{IsOpenedBy, Opens, Refuses, KeepsRows}
+use Rattle.wb_start.specs.Starts.{IsOpenedBy, Opens, Refuses, KeepsRows}
 use Rattle.whistle.specs.TallyText.{counted, tally_text}
 use Rattle.whistle.specs.Tallies.{PlayedTurns, IsTallyOf, Stopped, Tallied}
 use Rattle.whistle.proofs.TurnLemmas.{Laws, more, replies_more, none_played, one_more, stands_more}
@@ -137,3 +137,4 @@ module _ (keeper keeper' : ℕ) (honest : Type 0) (holds holds' : List Row → T
   none_told turns OpenFault held held' sink sink' stopped keeps = (stopped, keeps)
   none_told turns (KeptRows fault) held held' sink sink' stopped keeps = (stopped, keeps)
   none_told turns TooLong held held' sink sink' stopped keeps = (stopped, keeps)
+  none_told turns ListenFault held held' sink sink' stopped keeps = (stopped, keeps)

@@ -9,9 +9,9 @@ use Rattle.wb_rows.specs.Judged.{judged}
 use Rattle.wb_tenants.specs.declared.setup.SetupFault.{SetupFault}
 use Rattle.wb_tenants.specs.Setups.{setup as lists_in}
 use Rattle.whistle.specs.declared.harbour.TheConstants.{HARBOUR}
-use Rattle.whistle.specs.declared.status.Status.{Status}
-use Rattle.whistle.specs.declared.status.Status.TheVariants.{Done, Usage, ReadFault, WriteFault, NoMemory, BadFrame, Setup, OpenFault, KeptRows, TooLong}
-use Rattle.whistle.specs.Starts.{Refuses}
+use Rattle.wb_start.specs.declared.status.Status.{Status}
+use Rattle.wb_start.specs.declared.status.Status.TheVariants.{Done, Usage, ReadFault, WriteFault, NoMemory, BadFrame, Setup, OpenFault, KeptRows, TooLong, ListenFault}
+use Rattle.wb_start.specs.Starts.{Refuses}
 use Rattle.whistle.specs.Tallies.{Stopped, Tallied}
 
 setup_stands : (text : List ℕ) (lists : Lists) (fault : SetupFault) → lists_in text ≡ Ok lists → lists_in text ≡ Err fault → ⊥
@@ -35,6 +35,7 @@ module _ (keeper keeper' : ℕ) (honest : Type 0) (holds holds' : List Row → T
   not_opened OpenFault refuses = inr (inr (refl, refuses.0))
   not_opened (KeptRows fault) refuses = let refused = refuses.0 in absurd (rows_stand kept refused.0 held_rows fault (refused.1 h kept holding) reads_rows refused.2)
   not_opened TooLong refuses = absurd refuses
+  not_opened ListenFault refuses = absurd refuses
 
   stopped : (turns : ℕ) (status : Status) → Stopped keeper keeper' honest holds holds' turns status → Comes status
   stopped turns status (inl none) = not_opened status none.cause
@@ -51,3 +52,4 @@ module _ (keeper keeper' : ℕ) (honest : Type 0) (holds holds' : List Row → T
   comes held held' sink sink' turns OpenFault wrote told = stopped turns OpenFault told.0
   comes held held' sink sink' turns (KeptRows fault) wrote told = stopped turns (KeptRows fault) told.0
   comes held held' sink sink' turns TooLong wrote told = stopped turns TooLong told.0
+  comes held held' sink sink' turns ListenFault wrote told = stopped turns ListenFault told.0

@@ -5,8 +5,8 @@ use Rattle.wb_base.specs.declared.rows.Row.{Row}
 use Rattle.wb_base.specs.Outside.{AppendsFront, Rose}
 use Rattle.wb_words.specs.declared.plans.Plan.TheVariants.{Play, Make, Tally}
 use Rattle.wb_words.specs.CommandLine.{Asks, IsRunForm}
-use Rattle.whistle.specs.declared.status.Status.{Status}
-use Rattle.whistle.specs.declared.status.Status.TheVariants.{Done, Usage, ReadFault, WriteFault, NoMemory, BadFrame, Setup, OpenFault, KeptRows, TooLong}
+use Rattle.wb_start.specs.declared.status.Status.{Status}
+use Rattle.wb_start.specs.declared.status.Status.TheVariants.{Done, Usage, ReadFault, WriteFault, NoMemory, BadFrame, Setup, OpenFault, KeptRows, TooLong, ListenFault}
 use Rattle.whistle.specs.Generated.{generated}
 use Rattle.whistle.specs.Runs.{Ran}
 use Rattle.whistle.specs.Tallies.{Tallied}
@@ -25,6 +25,7 @@ module _ (held held' : Option (List ℕ)) (sink sink' : ℕ) where
   Writes turns OpenFault = ⊥
   Writes turns (KeptRows fault) = ⊥
   Writes turns TooLong = ⊥
+  Writes turns ListenFault = ⊥
 
 -- nothing was read: what the source had left and has left now, with its count before and now
 pub record ReadsNothing (left left' : Option (List ℕ)) (source source' : ℕ) : Type 0 where

@@ -2,7 +2,6 @@ pub mod Answered
 pub mod Submissions
 pub mod Headline
 pub mod Played
-pub mod Starts
 pub mod Runs
 pub mod Exits
 pub mod Generated

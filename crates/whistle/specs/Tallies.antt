@@ -9,13 +9,13 @@ use Rattle.wb_model.specs.Pasts.{AllOpened, standing_hosts}
 use Rattle.wb_model.specs.Scripts.{Place, script_replies, past_after}
 use Rattle.whistle.specs.declared.counting.StatusCount.{StatusCount}
 use Rattle.whistle.specs.declared.harbour.TheConstants.{HARBOUR}
-use Rattle.whistle.specs.declared.status.Status.{Status}
-use Rattle.whistle.specs.declared.status.Status.TheVariants.{Done, WriteFault, NoMemory}
+use Rattle.wb_start.specs.declared.status.Status.{Status}
+use Rattle.wb_start.specs.declared.status.Status.TheVariants.{Done, WriteFault, NoMemory}
 use Rattle.whistle.specs.Counted.{AreCountsOf}
 use Rattle.whistle.specs.Generated.{frames_from}
 use Rattle.whistle.specs.Played.{HasPlayed}
 use Rattle.whistle.specs.TallyText.{tally_text}
-use Rattle.whistle.specs.Starts.{IsOpenedBy, KeepsRows, Refuses}
+use Rattle.wb_start.specs.Starts.{IsOpenedBy, KeepsRows, Refuses}
 
 -- what the keeper counted before and counts now, and the rows that it holds before and now, where it is honest
 module _ (keeper keeper' : ℕ) (honest : Type 0) (holds holds' : List Row → Type 0) where

@@ -228,6 +228,7 @@ fn each_status_has_its_line(rt: HostRuntime) -> Result<(), Fail> {
             "kept rows refused: rule 10 at 7/64/4294967295/12\n",
         ),
         (Status::TooLong, 10, "input too long\n"),
+        (Status::ListenFault, 11, "listen fault\n"),
     ];
     for (status, number, line) in lines {
         let mut sink = MemSink::new(Vec::new(alloc), ROOM, Vec::new(alloc))?;

@@ -1,4 +1,4 @@
-//! The program: plays scripts on a whistleblowing host, and makes scripts for trying one.
+//! The program: serves a whistleblowing host, plays scripts on one, and makes scripts for trying one.
 #![tactic(auto)]
 
 mod answering;
@@ -6,23 +6,28 @@ mod counting;
 mod exits;
 mod generated;
 mod harbour;
-mod opening;
+mod listening;
 mod playing;
 mod running;
-mod status;
+mod setup_file;
 mod tally_lines;
 mod tallying;
 
 pub use exits::{end, run_to_end, words_of};
 pub use generated::make;
+use listening::listen;
 pub use running::run;
-pub use status::{Status, exit_line};
 use std::alloc::Global;
 use std::env;
 use std::io::{BufReader, ErrorKind};
+use std::net::{Net, TcpListener, TcpStream};
 use std::process::ExitCode;
+use std::sync::Wait;
+use std::thread::Threads;
 use wb_base::{Keeper, MemKeeper, StdSink, StdSource, Text};
+pub use wb_serve::serve;
 use wb_sqlite::PathKeeper;
+pub use wb_start::{Status, exit_line};
 use wb_words::{Plan, PlanFault, plan};
 
 // The words after the program's name. Words that are not UTF-8 are no form of any call.
@@ -53,10 +58,35 @@ fn run_over<K: Keeper>(rt: &HostRuntime, words: &[Text], keeper: &mut K) -> u8 {
     run_to_end(alloc, words, &mut source, &mut sink, keeper, &mut errors)
 }
 
-// Runs the words. Rows are kept in the file that they name, or else in memory. Where there is no memory to read the words, nothing is
-// run: rows that were to be kept in a file would be lost.
-fn run_words(rt: &HostRuntime, words: &[Text]) -> u8 {
+// Does what the words ask. Rows are kept in the file that they name, or else in memory. Where there is no memory to read the words,
+// nothing is done: rows that were to be kept in a file would be lost.
+fn run_words<R: Threads + Wait + Net<Listener = TcpListener, Stream = TcpStream> + Sync>(
+    handle: &R,
+    rt: &HostRuntime,
+    words: &[Text],
+) -> u8 {
     match plan(rt.alloc(), words) {
+        Ok(
+            Plan::Serve {
+                setup,
+                listen: address,
+                workers,
+                store,
+            },
+        ) => {
+            let setup = setup.as_str();
+            let address = address.as_str();
+            match store {
+                Some(path) => {
+                    let keeper = PathKeeper::new(rt, path);
+                    listen(handle, rt, words, setup, address, workers, keeper)
+                }
+                None => {
+                    let keeper = rows_in_memory(rt.alloc());
+                    listen(handle, rt, words, setup, address, workers, keeper)
+                }
+            }
+        }
         Ok(Plan::Play { store: Some(path) }) => {
             run_over(rt, words, &mut PathKeeper::new(rt, path))
         }
@@ -67,7 +97,7 @@ fn run_words(rt: &HostRuntime, words: &[Text]) -> u8 {
 
 fn main(rt: HostRuntime) -> ExitCode {
     ExitCode::from(match words(&rt) {
-        Ok(words) => run_words(&rt, &words),
+        Ok(words) => run_words(&rt, &rt, &words),
         Err(status) => end(&status, &mut StdSink::new(rt.stderr())),
     })
 }

@@ -13,11 +13,10 @@ ghost use Rattle.wb_wire.specs.SetupText.{IsSetup};
 ghost use Rattle.whistle.specs.Runs.{Ran, script_text};
 
 use crate::answering::{answer_frame, write_answer};
-use crate::opening::open;
-use crate::status::Status;
 use std::alloc::Global;
 use wb_base::{Keeper, Memory, Sink, Source};
 use wb_model::{absence_over_scripts, alike_scripts_get_the_same_replies, losses_are_told};
+use wb_start::{Status, open};
 use wb_wire::{FrameNo, FrameReader, Routes, one_frame, one_reading, one_setup};
 
 // Plays the setup's frame and frame after frame.

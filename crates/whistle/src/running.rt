@@ -18,10 +18,10 @@ ghost use Rattle.whistle.specs.Runs.{script_text};
 
 use crate::generated::make;
 use crate::playing::play_script;
-use crate::status::Status;
 use crate::tallying::tally;
 use std::alloc::Global;
 use wb_base::{Keeper, Sink, Source, Text};
+use wb_start::Status;
 use wb_words::{Plan, PlanFault, plan};
 
 // Writes the script of so many turns.

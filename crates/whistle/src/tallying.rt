@@ -7,13 +7,12 @@ use crate::answering::answer_frame;
 use crate::counting::{StatusCount, count_reply};
 use crate::generated::script_frame;
 use crate::harbour::HARBOUR;
-use crate::opening::open_by;
-use crate::status::Status;
 use crate::tally_lines::write_tally;
 use std::alloc::Global;
 use wb_base::{Keeper, Memory, Sink};
 use wb_list::Sorted;
 use wb_model::{absence_over_scripts, alike_scripts_get_the_same_replies, losses_are_told};
+use wb_start::{Status, open_by};
 use wb_tables::Counts;
 use wb_wire::{Routes, one_reading};
 

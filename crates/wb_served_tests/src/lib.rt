@@ -1,0 +1,14 @@
+//! Tests of gates, connections, workers and the call that serves, by their public calls. There is nothing else here, so that the crates
+//! themselves are proved once.
+#![tactic(auto)]
+
+#[cfg(test)]
+mod connections;
+#[cfg(test)]
+mod gates;
+#[cfg(test)]
+mod served;
+#[cfg(test)]
+mod setup_text;
+#[cfg(test)]
+mod side_by_side;

@@ -1,0 +1,50 @@
+-- The line of a status, which standard error gets, and the number that the program ends with.
+use Rattle.std.specs.Prelude.{ℕ, ◌++◌, List, [], codes, decimal}
+use Rattle.wb_base.specs.declared.rows.Key.{Key}
+use Rattle.wb_rows.specs.declared.faults.RowFault.{RowFault}
+use Rattle.wb_rows.specs.declared.faults.RowFault.TheVariants.{BadRow, BadSet, Memory as RowsMemory}
+use Rattle.wb_tenants.specs.declared.setup.SetupFault.{SetupFault}
+use Rattle.wb_tenants.specs.declared.setup.SetupFault.TheVariants.{Text, Rule, Memory as SetupMemory}
+use Rattle.wb_start.specs.declared.status.Status.{Status}
+use Rattle.wb_start.specs.declared.status.Status.TheVariants.{Done, Usage, ReadFault, WriteFault, NoMemory, BadFrame, Setup, OpenFault, KeptRows, TooLong, ListenFault}
+
+abbrev pub refusal_text : SetupFault → List ℕ
+refusal_text Text = codes "setup refused: text\n"
+refusal_text (Rule rule) = codes "setup refused: rule " ++ decimal rule ++ codes "\n"
+refusal_text SetupMemory = codes "no memory\n"
+
+-- the rule that kept rows break, 0 for a row that is not good, and the fields of the key at which they do
+abbrev pub broken_text : ℕ → Key → List ℕ
+broken_text rule key = ((codes "kept rows refused: rule " ++ decimal rule) ++ (codes " at " ++ decimal key.kind)) ++ ((codes "/" ++ decimal key.tenant) ++ (codes "/" ++ decimal key.a)) ++ (codes "/" ++ decimal key.b ++ codes "\n")
+
+abbrev pub rows_text : RowFault → List ℕ
+rows_text (BadRow key) = broken_text 0 key
+rows_text (BadSet rule key) = broken_text rule key
+rows_text RowsMemory = codes "no memory\n"
+
+abbrev pub status_text : Status → List ℕ
+status_text Done = []
+status_text Usage = codes "usage: whistle play [--store PATH], make N, tally N, serve --setup PATH --listen ADDRESS --workers N [--store PATH]\n"
+status_text ReadFault = codes "read fault\n"
+status_text WriteFault = codes "write fault\n"
+status_text NoMemory = codes "no memory\n"
+status_text (BadFrame n) = codes "bad frame " ++ decimal n ++ codes "\n"
+status_text (Setup fault) = refusal_text fault
+status_text OpenFault = codes "open fault\n"
+status_text (KeptRows fault) = rows_text fault
+status_text TooLong = codes "input too long\n"
+status_text ListenFault = codes "listen fault\n"
+
+-- the number that the program ends with
+abbrev pub status_number : Status → ℕ
+status_number Done = 0
+status_number Usage = 2
+status_number ReadFault = 3
+status_number WriteFault = 4
+status_number NoMemory = 5
+status_number (BadFrame n) = 6
+status_number (Setup fault) = 7
+status_number OpenFault = 8
+status_number (KeptRows fault) = 9
+status_number TooLong = 10
+status_number ListenFault = 11

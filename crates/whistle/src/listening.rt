@@ -1,0 +1,74 @@
+//! The host that links over TCP reach: its stations, and its end.
+ghost use Rattle.std.specs.Prelude.{◌≡◌, ℕ, List, Option, IfOk, vec_len};
+ghost use Rattle.wb_base.specs.declared.rows.Row.{Row as KeptRow};
+ghost use Rattle.wb_words.specs.declared.plans.Plan.TheVariants.{Serve};
+ghost use Rattle.wb_words.specs.CommandLine.{Asks};
+
+use crate::exits::end;
+use crate::setup_file::SetupFile;
+use std::alloc::{AllocError, Global};
+use std::net::{Net, TcpListener, TcpStream};
+use std::sync::Wait;
+use std::thread::Threads;
+use wb_base::{Keeper, StdSink, StdSource, Text};
+use wb_front::Station;
+use wb_real::{RealTicker, TcpLinks};
+use wb_serve::{Served, serve};
+use wb_start::Status;
+
+// A station over links of TCP, the system's clock and its random bytes.
+type RealStation<'a> = Station<TcpLinks<'a>, RealTicker<'a, HostRuntime>>;
+
+// As many stations as there are workers. They share the one socket.
+fn stations_at<'a>(
+    rt: &'a HostRuntime,
+    alloc: Global,
+    listener: Option<&'a TcpListener>,
+    workers: u32,
+) -> Result<Vec<RealStation<'a>>, AllocError>
+    ensures { IfOk result (λ stations. vec_len stations ≡ workers) }
+{
+    let mut stations = Vec::new(alloc);
+    for _ in 0..workers {
+        stations.push(Station {
+            listener: TcpLinks::new(listener),
+            ticker: RealTicker::new(rt),
+        })?;
+    }
+    Ok(stations)
+}
+
+/// Serves the host that the words ask for at an address, which is bound once, over a keeper, until its listeners fail. Gives the number
+/// that the program ends with.
+pub fn listen<
+    R: Threads + Wait + Net<Listener = TcpListener, Stream = TcpStream> + Sync,
+    K: Keeper + Send,
+>(
+    handle: &R,
+    rt: &HostRuntime,
+    words: &[Text],
+    setup: &str,
+    address: &str,
+    workers: u32,
+    keeper: K,
+) -> u8
+    requires asked { (text : List ℕ) (at : List ℕ) (count : ℕ) (store : Option (List ℕ)) → Asks words.now (Serve text at count store) → count ≡ workers }
+    requires held { K.honest keeper → (rows : List KeptRow) × K.holds keeper rows }
+{
+    let mut errors = StdSink::new(rt.stderr());
+    let listener = TcpListener::bind(handle, address).ok();
+    let Ok(stations) = stations_at(rt, rt.alloc(), listener.as_ref(), workers) else {
+        return end(&Status::NoMemory, &mut errors);
+    };
+    let mut stations = stations;
+    let mut source = StdSource::new(SetupFile::open(rt, setup));
+    let Served { status, keeper: _ } = serve(
+        handle,
+        rt.alloc(),
+        words,
+        &mut source,
+        &mut stations,
+        keeper,
+    );
+    end(&status, &mut errors)
+}
