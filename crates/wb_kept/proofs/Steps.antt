@@ -160,6 +160,7 @@ module _ (draws : DrawsLaw) (others : OthersLaw) (told_spent : is_turns_spent tu
       (record { desk = d'; first = first; turns = turns + made; numbers = numbers + drawn; faults = now }) (record { parts = parts; turns = share + made; numbers = drew + drawn }) told
   turned_over first turns numbers made drawn parts share drew sum is_made is_drawn share_le drew_le =
       let rises : made ≡ cond (is_turns_spent told) 0 1 = made_is first.turns turns made sum is_made in record {
+        stands = is_desk.past;
         made = λ below. record {
           turn = λ past stands. let took = step.turn below past stands in (took.0, came draws others honest' holds holds' before now f told past (hosts_of d') took.0 took.1);
           sealed = step.sealed below;

@@ -8,8 +8,9 @@ use Rattle.wb_model.specs.Pasts.{AllOpened, with_turn}
 use Rattle.wb_model.specs.Refusals.{turns_spent, is_turns_spent, no_memory, keeper_failed}
 use Rattle.wb_model.specs.Requests.{Frame}
 use Rattle.wb_model.specs.Scripts.{Loss}
-use Rattle.wb_model.specs.Tenants.{Hosts, AllHostsAlike, OneLaterAlike, is_report_reader, hosts_reply, hosts_after}
+use Rattle.wb_model.specs.Tenants.{Hosts, AllHostsAlike, OneLaterAlike, FirstAlike, is_report_reader, hosts_reply, hosts_after}
 use Rattle.wb_tables.specs.Standing.{Standing, hosts_of}
+use Rattle.wb_desk.specs.Desks.{HasPast}
 use Rattle.wb_desk.specs.Kept.{Took}
 use Rattle.wb_desk.specs.Turns.{IsGone, StandsFor}
 use Rattle.wb_kept.specs.Hosted.{Hosted, Hand}
@@ -28,6 +29,8 @@ IsMade told = (told ≢ no_memory) × (told ≢ keeper_failed)
 pub record IsSealed (t r : ℕ) (h : Hosts) (f : Frame) (told : Told) (h' : Hosts) : Type 0 where
   pub reply : (k : Hosts) (b : Frame) → AllHostsAlike t r h k → OneLaterAlike t r h f b → is_report_reader t r h f ≡ false → told ≡ hosts_reply k b
   pub hosts : (k : Hosts) (b : Frame) → AllHostsAlike t r h k → OneLaterAlike t r h f b → AllHostsAlike t r h' (hosts_after k b)
+  -- and so it is where the turn is the submission that makes the report
+  pub first : (b : Frame) → FirstAlike t r h f b → f.asked.close ≡ b.asked.close → (is_report_reader t r h f ≡ false → told ≡ hosts_reply h b) × AllHostsAlike t r h' (hosts_after h b)
 
 -- where report r of tenant t is not live after it, the desk stands for the past in which its submission only drew a number
 abbrev pub IsAbsent : ℕ → ℕ → Hosts → Frame → Hosts → Type 0
@@ -61,6 +64,8 @@ raised f told p = record { parts = p.parts; turns = turns_with told p.turns; num
 
 -- a turn of a frame: the host and the pass before it, those after it, and the answer
 pub record Turned (f : Frame) (h : Hosted) (p : Hand) (h' : Hosted) (p' : Hand) (told : Told) : Type 0 where
+  -- the host stands for a past that verdicts made
+  pub stands : HasPast (hosts_of h.desk)
   pub made : h.desk.turns < 1_000_000_000_000_000 → IsStep h.faults h'.faults (hosts_of h.desk) f told (hosts_of h'.desk)
   pub spent : 1_000_000_000_000_000 ≤ h.desk.turns → IsLeftSpent h.faults h'.faults h.desk told h'.desk
   pub later : h.faults ≤ h'.faults

@@ -16,7 +16,8 @@ use wb_base::{Keeper, Moment, Words};
 use wb_desk::Desk;
 use wb_model::{
     Asked, Command, Told, a_host_opens_again, a_turn_is_not_answered_as_spent,
-    an_accepted_submission_draws_a_number, verdicts_keep_trails_legal,
+    alike_scripts_get_the_same_replies, an_accepted_submission_draws_a_number,
+    hosts_stand_for_their_past, verdicts_keep_trails_legal,
 };
 
 /// How many turns a host makes.
@@ -139,6 +140,8 @@ impl<K: Keeper, A: Ledger, B: Ledger> Kept<K, A, B> {
     {
         an_accepted_submission_draws_a_number();
         a_turn_is_not_answered_as_spent();
+        alike_scripts_get_the_same_replies();
+        hosts_stand_for_their_past();
         self.desk.stands();
         self.turn_book.audit(&mut pass.turn_share);
         self.number_book.audit(&mut pass.number_share);

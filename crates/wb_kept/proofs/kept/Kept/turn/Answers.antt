@@ -2,6 +2,7 @@ use Rattle.std.proofs.Common.{ap, ◌∙◌, sym, subst, cond, arith}
 use Rattle.wb_model.specs.Requests.{Frame}
 use Rattle.wb_model.specs.Rows.{rows_of}
 use Rattle.wb_tables.specs.Standing.{hosts_of}
+use Rattle.wb_kept.proofs.FirstTurns.{first_made}
 use Rattle.wb_kept.proofs.Steps.{Ensured, turned_by}
 use Rattle.wb_kept.proofs.kept.Kept.turn.Goals as goal
 
@@ -14,7 +15,15 @@ returns g c =
       turn = c.step-told.ensures.turn;
       back = c.step-told.ensures.back;
       later = c.step-told.ensures.later;
-      sealed = λ below is t r. record { reply = c.step-told.ensures.alike_reply below is.0 is.1 t r; hosts = c.step-told.ensures.alike_hosts below is.0 is.1 t r };
+      sealed = λ below is t r. record {
+        reply = c.step-told.ensures.alike_reply below is.0 is.1 t r;
+        hosts = c.step-told.ensures.alike_hosts below is.0 is.1 t r;
+        first = λ b.
+            let past = c.stands.ensures.past in
+            let took = c.step-told.ensures.turn below past.past past.stands in
+            first_made c.alike_scripts_get_the_same_replies.ensures.replies c.alike_scripts_get_the_same_replies.ensures.hosts c.hosts_stand_for_their_past.ensures.reply c.hosts_stand_for_their_past.ensures.turn
+            t r past.past f b (hosts_of c.self.inside.desk) (hosts_of c.step-told.new.self) c.step-told.result took.0 past.stands is took.1.possible took.1.told took.1.stands;
+      };
       absent = λ below is t r past stands gone. c.step-told.ensures.absence below is.0 is.1 t r past stands gone;
     } in record {
       turned =
