@@ -1,12 +1,12 @@
 -- One turn of a connection: what was read, and what came of it.
-use Rattle.std.proofs.Common.{◌≡◌, ◌⊎◌, inl, inr, ℕ, true, false, List, [], ◌∷◌, ◌++◌, take, drop, Option, Some, None, refl, sym, subst}
+use Rattle.std.proofs.Common.{◌≡◌, ◌⊎◌, ◌<◌, ◌≤◌, inl, inr, ℕ, true, false, List, [], ◌∷◌, ◌++◌, length, take, drop, Option, Some, None, refl, sym, subst, arith}
 use Rattle.std.proofs.lemmas.List.{take-append-drop}
-use Rattle.std.specs.Io.KnownBytes.{Appends}
+use Rattle.std.specs.Io.KnownBytes.{Appends, IsAtEnd}
 use Rattle.wb_base.specs.Outside.{AppendsFront, Rose}
 use Rattle.wb_model.specs.declared.body.Told.{Told}
 use Rattle.wb_model.specs.declared.command.Asked.{Asked}
 use Rattle.wb_model.specs.declared.wire.WireFault.{WireFault}
-use Rattle.wb_model.specs.Cuts.{Cuts, Ends, IsCut}
+use Rattle.wb_model.specs.Cuts.{Nothing, Part, Cuts, Ends, IsCut}
 use Rattle.wb_model.specs.Readings.{Asks, Reads}
 use Rattle.wb_model.specs.Requests.{Frame}
 use Rattle.wb_links.specs.Lines.{Tick}
@@ -16,11 +16,11 @@ use Rattle.wb_front.specs.declared.connection.Ended.TheVariants as ended
 use Rattle.wb_front.specs.Answers.{reply_of, IsAnswered, IsFatal}
 use Rattle.wb_front.specs.Arrivals.{Flows}
 use Rattle.wb_front.specs.Endings.{IsOpenYet, IsEnded}
-use Rattle.wb_front.specs.Served.{Exchange, IsExchange, IsReply, replies, reply_bytes, refusal, Sides, HasServed, HasReplied}
-use Rattle.wb_front.proofs.Serving.{read_on, served_more, sent_more, cut_more, refused_more, refused_cut, stay_more}
+use Rattle.wb_front.specs.Served.{Exchange, IsExchange, IsReply, replies, reply_bytes, said, refusal, Sides, HasServed, HasReplied}
+use Rattle.wb_front.proofs.Serving.{read_on, served_more, sent_more, refused_more, stay_more, length_more}
 
 module _ (Ran : ℕ → Frame → Told → Type 0) (a : Sides) (left got : Option (List ℕ)) (moments : Option (List Tick)) (share : ℕ) (xs : List Exchange) (held : List ℕ)
-    (yet : IsOpenYet Ran a (record { left = left; got = got; moments = moments; share = share }) xs held) (held' : List ℕ) (left' got' : Option (List ℕ)) (flows : Flows held left held' left') (same : got' ≡ got) where
+    (yet : IsOpenYet Ran a (record { left = left; got = got; moments = moments; share = share }) xs held) (room : length xs < 1000) (held' : List ℕ) (left' got' : Option (List ℕ)) (flows : Flows held left held' left') (same : got' ≡ got) where
   -- what stands once more was read
   abbrev read : Sides
   read = record { left = left'; got = got'; moments = moments; share = share }
@@ -33,13 +33,27 @@ module _ (Ran : ℕ → Frame → Told → Type 0) (a : Sides) (left got : Optio
   sent : Appends a.got got' (replies xs)
   sent = subst (λ o. Appends a.got o (replies xs)) (sym same) yet.replied.sent
 
+  within : length xs ≤ 1000
+  within = omega (arith, room)
+
+  waiting : IsOpenYet Ran a read xs held'
+  waiting = record { replied = record { served = served; sent = sent }; stay = yet.stay }
+
+  -- no more bytes came, between two requests
+  pub at_end : IsCut held' Nothing → IsAtEnd left' → IsEnded Ran a read ended.Closed
+  at_end none ends = (xs, held', inl (waiting, none, ends), within)
+
+  -- or inside one
+  pub in_part : IsCut held' Part → IsAtEnd left' → IsEnded Ran a read ended.CutShort
+  in_part cut ends = (xs, held', (waiting, cut, ends), within)
+
   -- the ticker failed
   pub clock : (size : ℕ) (bytes : List ℕ) (asked : Asked) (moments' : Option (List Tick)) (share' : ℕ) → bytes ≡ take size held' → Reads bytes (Asks asked) → moments' ≡ moments → share' ≡ share →
       IsEnded Ran a (record { left = left'; got = got'; moments = moments'; share = share' }) ended.ClockFault
   clock size bytes asked moments' share' is reads none stays =
       subst (λ m. IsEnded Ran a (record { left = left'; got = got'; moments = m; share = share' }) ended.ClockFault) (sym none)
       (subst (λ s. IsEnded Ran a (record { left = left'; got = got'; moments = moments; share = s }) ended.ClockFault) (sym stays)
-      (xs, held', (record { replied = record { served = served; sent = sent }; stay = yet.stay }, (take size held', drop size held', sym (take-append-drop size held'), (asked, subst (λ bs. Reads bs (Asks asked)) is reads)))))
+      (xs, held', (waiting, (take size held', drop size held', sym (take-append-drop size held'), (asked, subst (λ bs. Reads bs (Asks asked)) is reads))), within))
 
   -- the bytes were no request
   pub refused : (fault : WireFault) (result : Ended) (left2 got2 : Option (List ℕ)) (before now : ℕ) → IsCut held' (Ends fault) → left2 ≡ left' →
@@ -48,11 +62,11 @@ module _ (Ran : ℕ → Frame → Told → Type 0) (a : Sides) (left got : Optio
   refused fault result left2 got2 before now cut stays (inl h) =
       subst (λ l. IsEnded Ran a (record { left = l; got = got2; moments = moments; share = share }) result) (sym stays)
       (subst (IsEnded Ran a (record { left = left'; got = got2; moments = moments; share = share })) (sym h.0)
-      (xs, held', inl (record { served = record { exchanges = served.exchanges; share_is = served.share_is; bytes = served.bytes; turns = served.turns }; stay = yet.stay; cut = cut; sent = refused_more a read xs (reply_bytes (refusal fault true)) got2 sent h.1 })))
+      (xs, held', inl (record { served = record { exchanges = served.exchanges; share_is = served.share_is; bytes = served.bytes; turns = served.turns }; stay = yet.stay; room = room; cut = cut; sent = refused_more a read xs (reply_bytes (refusal fault true)) got2 sent h.1 }), within))
   refused fault result left2 got2 before now cut stays (inr h) =
       subst (λ l. IsEnded Ran a (record { left = l; got = got2; moments = moments; share = share }) result) (sym stays)
       (subst (IsEnded Ran a (record { left = left'; got = got2; moments = moments; share = share })) (sym h.0)
-      (xs, held', (record { exchanges = served.exchanges; share_is = served.share_is; bytes = served.bytes; turns = served.turns }, (replies xs ++ reply_bytes (refusal fault true), inr (fault, cut, refl), refused_cut a read xs (reply_bytes (refusal fault true)) got2 sent h.2))))
+      (xs, held', (record { exchanges = served.exchanges; share_is = served.share_is; bytes = served.bytes; turns = served.turns }, record { before = replies xs; last = reply_bytes (refusal fault true); is_last = inr (fault, cut, room, refl, refl); part = h.2.0; rest = h.2.1; cut = h.2.2; sent = refused_more a read xs h.2.0 got2 sent h.2.3 }), within))
 
   -- a request was answered
   module _ (size : ℕ) (cut : IsCut held' (Cuts (take size held') (drop size held'))) (bytes : List ℕ) (is : bytes ≡ take size held') (answer : Answer) (tick : Option Tick) (share' : ℕ) (moments' : Option (List Tick))
@@ -71,12 +85,15 @@ module _ (Ran : ℕ → Frame → Told → Type 0) (a : Sides) (left got : Optio
         subst (λ l. HasServed Ran a (record { left = l; got = got2; moments = moments'; share = share' }) (xs ++ exchange ∷ []) (drop size held')) (sym stays)
         (served_more Ran a read xs held' (drop size held') exchange got2 moments' share' served cut.0 one told.share_is told.turns)
 
+    more_within : length (xs ++ exchange ∷ []) ≤ 1000
+    more_within = omega (arith, room, length_more xs exchange)
+
     -- its reply was cut off
-    pub write_cut : AppendsFront got' got2 (reply_bytes (reply_of answer)) → IsEnded Ran a after ended.WriteFault
-    write_cut off = (xs ++ exchange ∷ [], drop size held', (served_on, (replies (xs ++ exchange ∷ []), inl refl, cut_more a read xs exchange got2 sent off)))
+    pub write_cut : AppendsFront got' got2 (reply_bytes (said (length xs) (reply_of answer))) → IsEnded Ran a after ended.WriteFault
+    write_cut off = (xs ++ exchange ∷ [], drop size held', (served_on, record { before = replies xs; last = reply_bytes (said (length xs) (reply_of answer)); is_last = inl (xs, exchange, refl, refl, refl); part = off.0; rest = off.1; cut = off.2; sent = refused_more a read xs off.0 got2 sent off.3 }), more_within)
 
     -- its reply was sent
-    module _ (all : Appends got' got2 (reply_bytes (reply_of answer))) where
+    module _ (all : Appends got' got2 (reply_bytes (said (length xs) (reply_of answer)))) where
       replied_on : HasReplied Ran a after (xs ++ exchange ∷ []) (drop size held')
       replied_on = record { served = served_on; sent = sent_more a read xs exchange got2 sent all }
 
@@ -85,9 +102,9 @@ module _ (Ran : ℕ → Frame → Told → Type 0) (a : Sides) (left got : Optio
 
       closed_by : (fatal : Option WireFault) (result : Ended) → answer.close ≡ true → IsFatal fatal (reply_of answer) tick → ((fault : WireFault) → fatal ≡ Some fault → result ≡ ended.Refused fault) → (fatal ≡ None → result ≡ ended.Closed) → IsEnded Ran a after result
       closed_by None result closes why some none =
-          subst (IsEnded Ran a after) (sym (none refl)) (xs ++ exchange ∷ [], drop size held', inr (replied_on, (exchange, record { front = xs; parts = refl; stay = yet.stay; closes = closes }, why)))
+          subst (IsEnded Ran a after) (sym (none refl)) (xs ++ exchange ∷ [], drop size held', inr (replied_on, (exchange, record { front = xs; parts = refl; stay = yet.stay; closes = closes }, why)), more_within)
       closed_by (Some fault) result closes why some none =
-          subst (IsEnded Ran a after) (sym (some fault refl)) (xs ++ exchange ∷ [], drop size held', inr (replied_on, (exchange, record { front = xs; parts = refl; stay = yet.stay; closes = closes }, why)))
+          subst (IsEnded Ran a after) (sym (some fault refl)) (xs ++ exchange ∷ [], drop size held', inr (replied_on, (exchange, record { front = xs; parts = refl; stay = yet.stay; closes = closes }, why)), more_within)
 
       pub closed : (result : Ended) → answer.close ≡ true → ((fault : WireFault) → answer.fatal ≡ Some fault → result ≡ ended.Refused fault) → (answer.fatal ≡ None → result ≡ ended.Closed) → IsEnded Ran a after result
       closed result closes some none = closed_by answer.fatal result closes told.fatal some none

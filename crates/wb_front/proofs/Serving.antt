@@ -1,14 +1,13 @@
 -- One more exchange of a connection, and more of its bytes.
-use Rattle.std.proofs.Common.{◌≡◌, ◌+◌, ℕ, false, List, [], ◌∷◌, ◌++◌, length, Option, Some, None, refl, sym, ap, ◌∙◌, subst}
+use Rattle.std.proofs.Common.{◌≡◌, ◌+◌, ℕ, suc, false, List, [], ◌∷◌, ◌++◌, length, Option, Some, None, refl, sym, ap, ◌∙◌, subst, arith}
 use Rattle.std.proofs.lemmas.List.{append_assoc, append-nil, length-append}
 use Rattle.std.specs.Io.KnownBytes.{Appends}
-use Rattle.wb_base.specs.Outside.{AppendsFront}
 use Rattle.wb_model.specs.declared.body.Told.{Told}
 use Rattle.wb_model.specs.Requests.{Frame}
 use Rattle.wb_links.specs.Lines.{Tick}
 use Rattle.wb_front.specs.Arrivals.{Flows}
 use Rattle.wb_front.specs.Endings.{IsOpenYet}
-use Rattle.wb_front.specs.Served.{Exchange, IsExchange, AreExchanges, share_after, shares, requests, replies, reply_bytes, tick_of, ticks, StayOpen, Sides, Loses, HasServed}
+use Rattle.wb_front.specs.Served.{Exchange, IsExchange, AreExchanges, share_after, shares, requests, replies_after, replies, reply_bytes, said, tick_of, ticks, StayOpen, Sides, Loses, HasServed}
 
 -- ---- lists of exchanges
 
@@ -20,9 +19,15 @@ requests_more : (xs : List Exchange) (x : Exchange) → requests (xs ++ x ∷ []
 requests_more [] x = append-nil x.request
 requests_more (y ∷ ys) x = ap (λ bs. y.request ++ bs) (requests_more ys x) ∙ sym (append_assoc y.request (requests ys) x.request)
 
-replies_more : (xs : List Exchange) (x : Exchange) → replies (xs ++ x ∷ []) ≡ replies xs ++ reply_bytes x.reply
-replies_more [] x = append-nil (reply_bytes x.reply)
-replies_more (y ∷ ys) x = ap (λ bs. reply_bytes y.reply ++ bs) (replies_more ys x) ∙ sym (append_assoc (reply_bytes y.reply) (replies ys) (reply_bytes x.reply))
+replies_on : (n : ℕ) (xs : List Exchange) (x : Exchange) → replies_after n (xs ++ x ∷ []) ≡ replies_after n xs ++ reply_bytes (said (n + length xs) x.reply)
+replies_on n [] x = append-nil (reply_bytes (said n x.reply)) ∙ (let same : n ≡ n + 0 = omega arith in ap (λ k. reply_bytes (said k x.reply)) same)
+replies_on n (y ∷ ys) x =
+    let same : suc n + length ys ≡ n + length (y ∷ ys) = omega arith in
+    ap (λ bs. reply_bytes (said n y.reply) ++ bs) (replies_on (suc n) ys x ∙ ap (λ k. replies_after (suc n) ys ++ reply_bytes (said k x.reply)) same)
+    ∙ sym (append_assoc (reply_bytes (said n y.reply)) (replies_after (suc n) ys) (reply_bytes (said (n + length (y ∷ ys)) x.reply)))
+
+replies_more : (xs : List Exchange) (x : Exchange) → replies (xs ++ x ∷ []) ≡ replies xs ++ reply_bytes (said (length xs) x.reply)
+replies_more xs x = let same : 0 + length xs ≡ length xs = omega arith in replies_on 0 xs x ∙ ap (λ k. replies xs ++ reply_bytes (said k x.reply)) same
 
 ticks_more : (xs : List Exchange) (x : Exchange) → ticks (xs ++ x ∷ []) ≡ ticks xs ++ tick_of x.tick
 ticks_more [] x = append-nil (tick_of x.tick)
@@ -50,9 +55,6 @@ appends_on (Some xs) None c front more first then = absurd first
 appends_on (Some xs) (Some ys) None front more first then = absurd then
 appends_on (Some xs) (Some ys) (Some zs) front more first then = then ∙ (ap (λ bs. bs ++ more) first ∙ append_assoc xs front more)
 
-front_on : (a b c : Option (List ℕ)) (front more : List ℕ) → Appends a b front → AppendsFront b c more → AppendsFront a c (front ++ more)
-front_on a b c front more first sent = (front ++ sent.0, sent.1, ap (λ bs. front ++ bs) sent.2 ∙ sym (append_assoc front sent.0 sent.1), appends_on a b c front sent.0 first sent.3)
-
 -- ---- a connection
 
 -- more bytes were read
@@ -75,17 +77,11 @@ served_more Ran a b xs held rest x got' moments' share' h parts one rises loses 
   turns = subst (Loses a.moments moments') (sym (ticks_more xs x)) (loses_on a.moments b.moments moments' (ticks xs) (tick_of x.tick) h.turns loses);
 }
 
-pub sent_more : (a b : Sides) (xs : List Exchange) (x : Exchange) (got' : Option (List ℕ)) → Appends a.got b.got (replies xs) → Appends b.got got' (reply_bytes x.reply) → Appends a.got got' (replies (xs ++ x ∷ []))
-sent_more a b xs x got' first then = subst (Appends a.got got') (sym (replies_more xs x)) (appends_on a.got b.got got' (replies xs) (reply_bytes x.reply) first then)
-
-pub cut_more : (a b : Sides) (xs : List Exchange) (x : Exchange) (got' : Option (List ℕ)) → Appends a.got b.got (replies xs) → AppendsFront b.got got' (reply_bytes x.reply) → AppendsFront a.got got' (replies (xs ++ x ∷ []))
-cut_more a b xs x got' first sent = subst (AppendsFront a.got got') (sym (replies_more xs x)) (front_on a.got b.got got' (replies xs) (reply_bytes x.reply) first sent)
+pub sent_more : (a b : Sides) (xs : List Exchange) (x : Exchange) (got' : Option (List ℕ)) → Appends a.got b.got (replies xs) → Appends b.got got' (reply_bytes (said (length xs) x.reply)) → Appends a.got got' (replies (xs ++ x ∷ []))
+sent_more a b xs x got' first then = subst (Appends a.got got') (sym (replies_more xs x)) (appends_on a.got b.got got' (replies xs) (reply_bytes (said (length xs) x.reply)) first then)
 
 pub refused_more : (a b : Sides) (xs : List Exchange) (bytes : List ℕ) (got' : Option (List ℕ)) → Appends a.got b.got (replies xs) → Appends b.got got' bytes → Appends a.got got' (replies xs ++ bytes)
 refused_more a b xs bytes got' first then = appends_on a.got b.got got' (replies xs) bytes first then
-
-pub refused_cut : (a b : Sides) (xs : List Exchange) (bytes : List ℕ) (got' : Option (List ℕ)) → Appends a.got b.got (replies xs) → AppendsFront b.got got' bytes → AppendsFront a.got got' (replies xs ++ bytes)
-refused_cut a b xs bytes got' first sent = front_on a.got b.got got' (replies xs) bytes first sent
 
 -- none was made yet
 pub nothing_yet : (Ran : ℕ → Frame → Told → Type 0) (a : Sides) → IsOpenYet Ran a a [] []

@@ -9,7 +9,7 @@ use Rattle.wb_model.specs.Requests.{Frame}
 use Rattle.wb_links.specs.Lines.{Line, Lines, Tick}
 use Rattle.wb_front.specs.declared.connection.Ended.{Ended}
 use Rattle.wb_front.specs.declared.connection.Ended.TheVariants as ended
-use Rattle.wb_front.specs.Attended.{sides_of, IsAttended, AreAttended, HasWorked, RoseOften}
+use Rattle.wb_front.specs.Attended.{Clock, sides_of, IsAttended, AreAttended, HasWorked, RoseOften}
 use Rattle.wb_front.specs.Endings.{EndsSo, IsEnded}
 use Rattle.wb_front.specs.Served.{Exchange, Sides, HasServed}
 
@@ -33,7 +33,7 @@ tells_so Ran a b xs held l g ended.Closed left got (inl h) = tells_by Ran a b xs
 tells_so Ran a b xs held l g ended.Closed left got (inr h) = tells_by Ran a b xs held l g _ left got h.0.served h.0.sent
 tells_so Ran a b xs held l g ended.CutShort left got h = tells_by Ran a b xs held l g _ left got h.0.replied.served h.0.replied.sent
 tells_so Ran a b xs held l g ended.ReadFault left got h = tells_by Ran a b xs held l g _ left got h.0.replied.served h.0.replied.sent
-tells_so Ran a b xs held l g ended.WriteFault left got h = tells_by Ran a b xs held l g _ left got h.0 h.1.2.3
+tells_so Ran a b xs held l g ended.WriteFault left got h = tells_by Ran a b xs held l g _ left got h.0 h.1.sent
 tells_so Ran a b xs held l g ended.ClockFault left got h = tells_by Ran a b xs held l g _ left got h.0.replied.served h.0.replied.sent
 tells_so Ran a b xs held l g ended.Spent left got h = tells_by Ran a b xs held l g _ left got h.0.replied.served h.0.replied.sent
 tells_so Ran a b xs held l g (ended.Refused fault) left got (inl h) = tells_by Ran a b xs held l g _ left got h.served h.sent
@@ -44,27 +44,27 @@ pub still_tells : (Ran : ℕ → Frame → Told → Type 0) (a b : Sides) (l g :
 still_tells Ran a b l g how left got h = tells_so Ran a b h.0 h.1 l g how left got h.2
 
 -- one more link was attended
-attended_more : (Ran : ℕ → Frame → Told → Type 0) (gave came : List Line) (a b : Line) (share s share' : ℕ) (moments m moments' : Option (List Tick)) → AreAttended Ran gave came share s moments m → IsAttended Ran a b s share' m moments' →
-    AreAttended Ran (gave ++ a ∷ []) (came ++ b ∷ []) share share' moments moments'
-attended_more Ran [] [] a b share s share' moments m moments' all one =
-    (share', moments', subst (λ n. IsAttended Ran a b n share' moments moments') all.0 (subst (λ o. IsAttended Ran a b s share' o moments') all.1 one), (refl, refl))
-attended_more Ran [] (y ∷ ys) a b share s share' moments m moments' all one = absurd all
-attended_more Ran (x ∷ xs) [] a b share s share' moments m moments' all one = absurd all
-attended_more Ran (x ∷ xs) (y ∷ ys) a b share s share' moments m moments' all one = (all.0, all.1, all.2, attended_more Ran xs ys a b all.0 s share' all.1 m moments' all.3 one)
+attended_more : (Ran : ℕ → Frame → Told → Type 0) (gave came : List Line) (a b : Line) (share s share' : ℕ) (clock c clock' : Clock) → AreAttended Ran gave came share s clock c → IsAttended Ran a b s share' c clock' →
+    AreAttended Ran (gave ++ a ∷ []) (came ++ b ∷ []) share share' clock clock'
+attended_more Ran [] [] a b share s share' clock c clock' all one =
+    (share', clock', subst (λ n. IsAttended Ran a b n share' clock clock') all.0 (subst (λ o. IsAttended Ran a b s share' o clock') all.1 one), (refl, refl))
+attended_more Ran [] (y ∷ ys) a b share s share' clock c clock' all one = absurd all
+attended_more Ran (x ∷ xs) [] a b share s share' clock c clock' all one = absurd all
+attended_more Ran (x ∷ xs) (y ∷ ys) a b share s share' clock c clock' all one = (all.0, all.1, all.2, attended_more Ran xs ys a b all.0 s share' all.1 c clock' all.3 one)
 
-pub worked_more : (Ran : ℕ → Frame → Told → Type 0) (x y : Lines) (a b : Line) (rest : List Line) (share s share' : ℕ) (moments m moments' : Option (List Tick)) → HasWorked Ran x y share s moments m → y.left ≡ a ∷ rest → IsAttended Ran a b s share' m moments' →
-    HasWorked Ran x (record { left = rest; out = y.out; came = y.came ++ b ∷ [] }) share share' moments moments'
-worked_more Ran x y a b rest share s share' moments m moments' h left one = record {
+pub worked_more : (Ran : ℕ → Frame → Told → Type 0) (x y : Lines) (a b : Line) (rest : List Line) (share s share' : ℕ) (clock c clock' : Clock) → HasWorked Ran x y share s clock c → y.left ≡ a ∷ rest → IsAttended Ran a b s share' c clock' →
+    HasWorked Ran x (record { left = rest; out = y.out; came = y.came ++ b ∷ [] }) share share' clock clock'
+worked_more Ran x y a b rest share s share' clock c clock' h left one = record {
   gave = h.gave ++ a ∷ [];
   came = h.came ++ b ∷ [];
   left_is = h.left_is ∙ (ap (λ ls. h.gave ++ ls) left ∙ sym (append_assoc h.gave (a ∷ []) rest));
   came_is = ap (λ ls. ls ++ b ∷ []) h.came_is ∙ append_assoc x.came h.came (b ∷ []);
   out_is = h.out_is;
-  attended = attended_more Ran h.gave h.came a b share s share' moments m moments' h.attended one;
+  attended = attended_more Ran h.gave h.came a b share s share' clock c clock' h.attended one;
 }
 
-pub nothing_worked : (Ran : ℕ → Frame → Told → Type 0) (x : Lines) (share : ℕ) (moments : Option (List Tick)) → HasWorked Ran x x share share moments moments
-nothing_worked Ran x share moments = record { gave = []; came = []; left_is = refl; came_is = sym (append-nil x.came); out_is = refl; attended = (refl, refl) }
+pub nothing_worked : (Ran : ℕ → Frame → Told → Type 0) (x : Lines) (share : ℕ) (clock : Clock) → HasWorked Ran x x share share clock clock
+nothing_worked Ran x share clock = record { gave = []; came = []; left_is = refl; came_is = sym (append-nil x.came); out_is = refl; attended = (refl, refl) }
 
 pub ended_at : (Ran : ℕ → Frame → Told → Type 0) (left got left' got' : Option (List ℕ)) (a b : Line) (moments moments' : Option (List Tick)) (share share' : ℕ) (how : Ended) → left ≡ Some a.left → got ≡ Some a.got → left' ≡ Some b.left → got' ≡ Some b.got →
     IsEnded Ran (record { left = left; got = got; moments = moments; share = share }) (record { left = left'; got = got'; moments = moments'; share = share' }) how → IsEnded Ran (sides_of a moments share) (sides_of b moments' share') how

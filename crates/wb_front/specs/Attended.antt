@@ -1,35 +1,49 @@
 -- Links that a listener gave, attended one after another.
 use Rattle.std.specs.Prelude.{◌≡◌, ◌⊎◌, ◌+◌, ◌-◌, ◌^◌, ◌≤◌, ℕ, List, [], ◌∷◌, ◌++◌, Option, Some}
+use Rattle.wb_base.specs.Outside.{Rose}
 use Rattle.wb_model.specs.declared.body.Told.{Told}
 use Rattle.wb_model.specs.Requests.{Frame}
 use Rattle.wb_links.specs.Lines.{Line, Lines, Tick}
 use Rattle.wb_front.specs.Endings.{IsEnded}
 use Rattle.wb_front.specs.Served.{Sides}
 use Rattle.wb_front.specs.declared.connection.Ended.{Ended}
+use Rattle.wb_front.specs.declared.connection.Ended.TheVariants as endings
+
+-- a ticker: the ticks that it has left, where it tells them, and how often it failed
+pub record Clock : Type 0 where
+  pub left : Option (List Tick)
+  pub count : ℕ
+
+abbrev pub clock_of : Option (List Tick) → ℕ → Clock
+clock_of left count = record { left = left; count = count }
 
 -- a link that tells, at a share of the turns and with these ticks to come
 abbrev pub sides_of : Line → Option (List Tick) → ℕ → Sides
 sides_of line moments share = record { left = Some line.left; got = Some line.got; moments = moments; share = share }
 
--- a connection over it ended
-abbrev pub IsAttended : (ℕ → Frame → Told → Type 0) → Line → Line → ℕ → ℕ → Option (List Tick) → Option (List Tick) → Type 0
-IsAttended Ran a b share share' moments moments' = (ended : Ended) × IsEnded Ran (sides_of a moments share) (sides_of b moments' share') ended
+-- a connection over it ended so: by a fault of the link, or of the ticker, only where that failed
+pub record IsAttended (Ran : ℕ → Frame → Told → Type 0) (a b : Line) (share share' : ℕ) (clock clock' : Clock) : Type 0 where
+  pub how : Ended
+  pub ended : IsEnded Ran (sides_of a clock.left share) (sides_of b clock'.left share') how
+  pub read_failed : how ≡ endings.ReadFault → Rose a.count b.count
+  pub write_failed : how ≡ endings.WriteFault → Rose a.count b.count
+  pub clock_failed : how ≡ endings.ClockFault → Rose clock.count clock'.count
 
 -- each in turn, each from the share and the ticks that the one before it left
-abbrev pub AreAttended : (ℕ → Frame → Told → Type 0) → List Line → List Line → ℕ → ℕ → Option (List Tick) → Option (List Tick) → Type 0
-AreAttended Ran [] [] share share' moments moments' = (share' ≡ share) × (moments' ≡ moments)
-AreAttended Ran [] (b ∷ bs) share share' moments moments' = ⊥
-AreAttended Ran (a ∷ lines) [] share share' moments moments' = ⊥
-AreAttended Ran (a ∷ lines) (b ∷ bs) share share' moments moments' = (s : ℕ) × (m : Option (List Tick)) × IsAttended Ran a b share s moments m × AreAttended Ran lines bs s share' m moments'
+abbrev pub AreAttended : (ℕ → Frame → Told → Type 0) → List Line → List Line → ℕ → ℕ → Clock → Clock → Type 0
+AreAttended Ran [] [] share share' clock clock' = (share' ≡ share) × (clock' ≡ clock)
+AreAttended Ran [] (b ∷ bs) share share' clock clock' = ⊥
+AreAttended Ran (a ∷ lines) [] share share' clock clock' = ⊥
+AreAttended Ran (a ∷ lines) (b ∷ bs) share share' clock clock' = (s : ℕ) × (c : Clock) × IsAttended Ran a b share s clock c × AreAttended Ran lines bs s share' c clock'
 
 -- the links that came back are those that were given, in order, each attended
-pub record HasWorked (Ran : ℕ → Frame → Told → Type 0) (x y : Lines) (share share' : ℕ) (moments moments' : Option (List Tick)) : Type 0 where
+pub record HasWorked (Ran : ℕ → Frame → Told → Type 0) (x y : Lines) (share share' : ℕ) (clock clock' : Clock) : Type 0 where
   pub gave : List Line
   pub came : List Line
   pub left_is : x.left ≡ gave ++ y.left
   pub came_is : y.came ≡ x.came ++ came
   pub out_is : y.out ≡ x.out
-  pub attended : AreAttended Ran gave came share share' moments moments'
+  pub attended : AreAttended Ran gave came share share' clock clock'
 
 -- a count rose by so many, or stands at its last value
 abbrev pub RoseOften : ℕ → ℕ → ℕ → Type 0

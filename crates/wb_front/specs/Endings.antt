@@ -1,14 +1,13 @@
 -- How a connection ends, and what was answered by then.
-use Rattle.std.specs.Prelude.{◌≡◌, ◌⊎◌, ℕ, true, List, [], ◌++◌, length, Some, None}
+use Rattle.std.specs.Prelude.{◌≡◌, ◌⊎◌, ◌<◌, ◌≤◌, ℕ, true, List, [], ◌++◌, length, Some, None}
 use Rattle.std.specs.Io.KnownBytes.{Appends, IsAtEnd}
-use Rattle.wb_base.specs.Outside.{AppendsFront}
 use Rattle.wb_model.specs.declared.body.Told.{Told}
 use Rattle.wb_model.specs.declared.wire.WireFault.{WireFault}
 use Rattle.wb_model.specs.Cuts.{Part, Ends, IsCut}
 use Rattle.wb_model.specs.Requests.{Frame}
 use Rattle.wb_front.specs.Answers.{IsFatal}
 use Rattle.wb_front.specs.Arrivals.{IsUnfinished}
-use Rattle.wb_front.specs.Served.{Exchange, Sides, HasServed, HasReplied, StayOpen, ClosesLast, AsksNext, IsToSend, replies, reply_bytes, refusal}
+use Rattle.wb_front.specs.Served.{Exchange, Sides, HasServed, HasReplied, StayOpen, ClosesLast, AsksNext, IsSentLast, replies, reply_bytes, refusal}
 use Rattle.wb_front.specs.declared.connection.Ended.{Ended}
 use Rattle.wb_front.specs.declared.connection.Ended.TheVariants as ended
 
@@ -29,12 +28,19 @@ IsRefusedLast fault xs = (x : Exchange) × ClosesLast xs x × IsFatal (Some faul
 pub record IsRefusedHead (Ran : ℕ → Frame → Told → Type 0) (a b : Sides) (fault : WireFault) (xs : List Exchange) (held : List ℕ) : Type 0 where
   pub served : HasServed Ran a b xs held
   pub stay : StayOpen xs
+  pub room : length xs < 1000
   pub cut : IsCut held (Ends fault)
   pub sent : Appends a.got b.got (replies xs ++ reply_bytes (refusal fault true))
 
--- some of what was to be sent was sent, from its front on
-abbrev pub IsCutOff : Sides → Sides → List Exchange → List ℕ → Type 0
-IsCutOff a b xs held = (bytes : List ℕ) × IsToSend xs held bytes × AppendsFront a.got b.got bytes
+-- each reply but the last was sent whole, and of the last a part that begins at its front
+pub record IsCutOff (a b : Sides) (xs : List Exchange) (held : List ℕ) : Type 0 where
+  pub before : List ℕ
+  pub last : List ℕ
+  pub is_last : IsSentLast xs held before last
+  pub part : List ℕ
+  pub rest : List ℕ
+  pub cut : last ≡ part ++ rest
+  pub sent : Appends a.got b.got (before ++ part)
 
 -- by the exchanges that were made and the bytes that were read besides
 abbrev pub EndsSo : (ℕ → Frame → Told → Type 0) → Sides → Sides → List Exchange → List ℕ → Ended → Type 0
@@ -47,6 +53,6 @@ EndsSo Ran a b xs held ended.Spent = IsOpenYet Ran a b xs held × (length xs ≡
 EndsSo Ran a b xs held (ended.Refused fault) = IsRefusedHead Ran a b fault xs held ⊎ (HasReplied Ran a b xs held × IsRefusedLast fault xs)
 EndsSo Ran a b xs held ended.Memory = b ≡ a
 
--- a connection that stood so is ended so
+-- a connection that stood so is ended so, after a thousand exchanges at most
 abbrev pub IsEnded : (ℕ → Frame → Told → Type 0) → Sides → Sides → Ended → Type 0
-IsEnded Ran a b ended = (xs : List Exchange) × (held : List ℕ) × EndsSo Ran a b xs held ended
+IsEnded Ran a b ended = (xs : List Exchange) × (held : List ℕ) × EndsSo Ran a b xs held ended × (length xs ≤ 1000)

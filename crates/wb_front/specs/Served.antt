@@ -1,10 +1,11 @@
 -- The requests of a connection, each with its reply.
-use Rattle.std.specs.Prelude.{◌≡◌, ◌≢◌, ◌⊎◌, ℕ, Bool, true, false, List, [], ◌∷◌, ◌++◌, length, Option, Some, None}
+use Rattle.std.specs.Prelude.{◌≡◌, ◌≢◌, ◌⊎◌, ◌||◌, ◌<◌, ℕ, suc, nat_eq, Bool, true, false, List, [], ◌∷◌, ◌++◌, length, Option, Some, None}
 use Rattle.std.specs.Io.KnownBytes.{Appends}
 use Rattle.wb_model.specs.declared.body.Told.{Told}
 use Rattle.wb_model.specs.declared.command.Asked.{Asked}
 use Rattle.wb_model.specs.declared.wire.WireFault.{WireFault}
 use Rattle.wb_model.specs.declared.wire.WireFault.TheVariants as faults
+use Rattle.wb_model.specs.Commands.{is_health}
 use Rattle.wb_model.specs.Cuts.{HasHead, Ends, IsCut}
 use Rattle.wb_model.specs.Readings.{Asks, Refuses, Reads, Closes}
 use Rattle.wb_model.specs.Replies.{fault_told, fault_allow, reply_text}
@@ -32,9 +33,13 @@ IsTurn Ran share tick bytes reply = (asked : Asked) × Reads bytes (Asks asked) 
 abbrev pub refusal : WireFault → Bool → Reply
 refusal fault close = record { told = fault_told fault; allow = fault_allow fault; close = close }
 
+-- the bytes do not ask for the host's health, which is read without memory
+abbrev pub AsksNoHealth : List ℕ → Type 0
+AsksNoHealth bytes = (asked : Asked) → Reads bytes (Asks asked) → is_health asked.command ≡ false
+
 -- why the bytes ask nothing: a fault of theirs, or want of memory
 abbrev pub IsRefused : List ℕ → WireFault → Bool → Type 0
-IsRefused bytes fault close = (fault ≢ faults.Memory → Reads bytes (Refuses fault close)) × (fault ≡ faults.Memory → Closes bytes close)
+IsRefused bytes fault close = (fault ≢ faults.Memory → Reads bytes (Refuses fault close)) × (fault ≡ faults.Memory → Closes bytes close × AsksNoHealth bytes)
 
 abbrev pub IsReply : (ℕ → Frame → Told → Type 0) → ℕ → List ℕ → Reply → Option Tick → Type 0
 IsReply Ran share bytes reply (Some tick) = IsTurn Ran share tick bytes reply
@@ -71,9 +76,21 @@ requests (x ∷ xs) = x.request ++ requests xs
 abbrev pub reply_bytes : Reply → List ℕ
 reply_bytes reply = reply_text reply.told reply.allow reply.close
 
+-- a reply with this closing
+abbrev pub closing : Reply → Bool → Reply
+closing reply close = record { told = reply.told; allow = reply.allow; close = close }
+
+-- a reply as it is sent after so many others: the thousandth says that the connection closes
+abbrev pub said : ℕ → Reply → Reply
+said before reply = closing reply (reply.close || nat_eq before 999)
+
+-- the replies after so many others
+abbrev pub replies_after : ℕ → List Exchange → List ℕ
+replies_after before [] = []
+replies_after before (x ∷ xs) = reply_bytes (said before x.reply) ++ replies_after (suc before) xs
+
 abbrev pub replies : List Exchange → List ℕ
-replies [] = []
-replies (x ∷ xs) = reply_bytes x.reply ++ replies xs
+replies xs = replies_after 0 xs
 
 -- the ticks of all turns
 abbrev pub tick_of : Option Tick → List Tick
@@ -127,6 +144,7 @@ pub record ClosesLast (xs : List Exchange) (x : Exchange) : Type 0 where
 abbrev pub AsksNext : List ℕ → Type 0
 AsksNext held = (request : List ℕ) × (rest : List ℕ) × (held ≡ request ++ rest) × ((asked : Asked) × Reads request (Asks asked))
 
--- the replies to these exchanges, or these and the refusal of what follows
-abbrev pub IsToSend : List Exchange → List ℕ → List ℕ → Type 0
-IsToSend xs held bytes = (bytes ≡ replies xs) ⊎ ((fault : WireFault) × IsCut held (Ends fault) × (bytes ≡ replies xs ++ reply_bytes (refusal fault true)))
+-- what is to be sent last, and all replies before it: the reply to the last exchange, or the refusal of what follows
+abbrev pub IsSentLast : List Exchange → List ℕ → List ℕ → List ℕ → Type 0
+IsSentLast xs held before last = ((front : List Exchange) × (x : Exchange) × (xs ≡ front ++ x ∷ []) × (before ≡ replies front) × (last ≡ reply_bytes (said (length front) x.reply)))
+    ⊎ ((fault : WireFault) × IsCut held (Ends fault) × (length xs < 1000) × (before ≡ replies xs) × (last ≡ reply_bytes (refusal fault true)))

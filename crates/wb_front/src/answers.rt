@@ -3,10 +3,9 @@ ghost use Rattle.std.specs.Prelude.{◌≡◌, ◌↔◌, ◌++◌, true, false,
 ghost use Rattle.std.specs.Io.KnownBytes.{Appends};
 ghost use Rattle.wb_base.specs.Outside.{AppendsFront, HasCause};
 ghost use Rattle.wb_model.specs.declared.command.Asked.{Asked as AskedOf};
-ghost use Rattle.wb_model.specs.Readings.{Asks, Reads, closes_always as always_closes};
-ghost use Rattle.wb_model.specs.Replies.{fault_told, fault_allow};
+ghost use Rattle.wb_model.specs.Readings.{Asks, Reads, closes_always};
 ghost use Rattle.wb_links.specs.Lines.{Tick};
-ghost use Rattle.wb_front.specs.Served.{IsReply, Loses, refusal as refusal_of, reply_bytes, share_by, tick_of};
+ghost use Rattle.wb_front.specs.Served.{IsReply, Loses, closing, refusal as refusal_of, reply_bytes, share_by, tick_of};
 ghost use Rattle.wb_front.specs.Answers.{reply_of, IsAnswered};
 
 use std::alloc::Global;
@@ -18,7 +17,8 @@ use wb_kept::Pass;
 use wb_links::{Link, Ticker};
 use wb_model::{Body, Told};
 use wb_wire::{
-    PathNo, Routes, WireFault, WireNo, fault_body, fault_status, read_request, reply_head,
+    PathNo, Routes, WireFault, WireNo, Written, fault_allow, fault_body, fault_closes,
+    fault_status, read_request, reply_head,
 };
 
 /// A reply: what is told, the path whose methods it lists, whether the connection closes after it, and the fault that ends the
@@ -31,53 +31,19 @@ pub struct Answer {
     pub fatal: Option<WireFault>,
 }
 
-// The path whose methods a fault's reply lists.
-fn allow_of(fault: &WireFault) -> Option<PathNo>
-    ensures { result ≡ fault_allow fault.now }
-{
-    match fault {
-        WireFault::BadHead => None,
-        WireFault::BadLength => None,
-        WireFault::NoLength => None,
-        WireFault::TooLarge => None,
-        WireFault::NoRoute => None,
-        WireFault::NoMethod(path) => Some(*path),
-        WireFault::BadJson => None,
-        WireFault::BadShape => None,
-        WireFault::Memory => None,
-    }
-}
-
-// Whether the connection closes after a fault, whatever the head asks for.
-fn closes_always(fault: &WireFault) -> bool
-    ensures { result ≡ always_closes fault.now }
-{
-    match fault {
-        WireFault::BadHead => true,
-        WireFault::BadLength => true,
-        WireFault::NoLength => true,
-        WireFault::TooLarge => true,
-        WireFault::NoRoute => false,
-        WireFault::NoMethod(_) => false,
-        WireFault::BadJson => false,
-        WireFault::BadShape => false,
-        WireFault::Memory => false,
-    }
-}
-
 /// The reply to bytes that ask nothing. It takes no memory.
 pub fn refusal(no: &WireNo) -> Answer
     ensures reply { reply_of result ≡ refusal_of no.now.fault no.now.close }
-    ensures fatal { result.fatal ≡ (if always_closes no.now.fault then Some no.now.fault else None) }
+    ensures fatal { result.fatal ≡ (if closes_always no.now.fault then Some no.now.fault else None) }
 {
     Answer {
         told: Told {
             status: fault_status(&no.fault),
             body: Body::short(fault_body(&no.fault)),
         },
-        allow: allow_of(&no.fault),
+        allow: fault_allow(&no.fault),
         close: no.close,
-        fatal: if closes_always(&no.fault) {
+        fatal: if fault_closes(&no.fault) {
             Some(no.fault)
         } else {
             None
@@ -117,16 +83,23 @@ pub fn reply_to<R: Wait, K: Keeper, A: Ledger, B: Ledger, G: Gate<K, A, B, Turn>
     }
 }
 
-/// Sends a reply. It takes no memory.
-pub fn send<L: Link>(link: &mut L, answer: &Answer) -> Result<(), Failed>
-    ensures ok { OnOk result (Appends (L.got link.old) (L.got link.new) (reply_bytes (reply_of answer.now))) }
-    ensures err { OnErr result (AppendsFront (L.got link.old) (L.got link.new) (reply_bytes (reply_of answer.now))) }
+/// The most bytes that are sent by one write of head and body together.
+const PIECE: usize = 4_096;
+
+// Sends a head and a body, by one write where they are short.
+fn send_both<L: Link>(link: &mut L, head: &[u8], body: &[u8]) -> Result<(), Failed>
+    ensures ok { OnOk result (Appends (L.got link.old) (L.got link.new) (head.now ++ body.now)) }
+    ensures err { OnErr result (AppendsFront (L.got link.old) (L.got link.new) (head.now ++ body.now)) }
     ensures left { L.left link.new ≡ L.left link.old }
     ensures cause { HasCause (L.count link.old) (L.count link.new) result }
 {
-    let body = answer.told.body.as_bytes();
-    let head = reply_head(answer.told.status, answer.allow, body.len(), answer.close);
-    match link.write_all(head.as_bytes()) {
+    if body.len() <= PIECE && head.len() <= PIECE - body.len() {
+        let mut both = Written::<PIECE>::new();
+        both.put(head);
+        both.put(body);
+        return link.write_all(both.as_bytes());
+    }
+    match link.write_all(head) {
         Ok(()) => {}
         Err(no) => return Err(no),
     }
@@ -134,4 +107,16 @@ pub fn send<L: Link>(link: &mut L, answer: &Answer) -> Result<(), Failed>
         Ok(()) => Ok(()),
         Err(no) => Err(no),
     }
+}
+
+/// Sends a reply, with this closing. It takes no memory.
+pub fn send<L: Link>(link: &mut L, answer: &Answer, close: bool) -> Result<(), Failed>
+    ensures ok { OnOk result (Appends (L.got link.old) (L.got link.new) (reply_bytes (closing (reply_of answer.now) close))) }
+    ensures err { OnErr result (AppendsFront (L.got link.old) (L.got link.new) (reply_bytes (closing (reply_of answer.now) close))) }
+    ensures left { L.left link.new ≡ L.left link.old }
+    ensures cause { HasCause (L.count link.old) (L.count link.new) result }
+{
+    let body = answer.told.body.as_bytes();
+    let head = reply_head(answer.told.status, answer.allow, body.len(), close);
+    send_both(link, head.as_bytes(), body)
 }

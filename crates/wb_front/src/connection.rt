@@ -1,5 +1,5 @@
 //! A connection: request after request is taken from its link, and each has its reply.
-ghost use Rattle.std.specs.Prelude.{◌≡◌, ◌≤◌, ◌⊎◌, true, Some, None, if◌then◌else◌};
+ghost use Rattle.std.specs.Prelude.{◌≡◌, ◌≤◌, ◌⊎◌, ◌||◌, nat_eq, true, Some, None, if◌then◌else◌};
 ghost use Rattle.std.specs.Io.KnownBytes.{Appends};
 ghost use Rattle.wb_base.specs.Outside.{AppendsFront, Rose};
 ghost use Rattle.wb_model.specs.declared.wire.WireFault.{WireFault as FaultData};
@@ -49,14 +49,22 @@ fn closed(answer: &Answer) -> Ended
     }
 }
 
-// Sends the refusal of bytes that are no request.
+// Whether the reply to a request says that the connection closes, after so many replies: where the request closes it, or with the
+// thousandth.
+fn closes_after(close: bool, before: u32) -> bool
+    ensures { result ≡ (close || nat_eq before 999) }
+{
+    close || before == 999
+}
+
+// Sends the refusal of bytes that are no request, after which the connection closes.
 fn refuse<L: Link>(link: &mut L, no: &WireNo) -> Ended
-    ensures sent { ((result ≡ Ended.Refused no.now.fault) × Appends (L.got link.old) (L.got link.new) (reply_bytes (refusal_of no.now.fault no.now.close))) ⊎ ((result ≡ Ended.WriteFault) × Rose (L.count link.old) (L.count link.new) × AppendsFront (L.got link.old) (L.got link.new) (reply_bytes (refusal_of no.now.fault no.now.close))) }
+    ensures sent { ((result ≡ Ended.Refused no.now.fault) × Appends (L.got link.old) (L.got link.new) (reply_bytes (refusal_of no.now.fault true))) ⊎ ((result ≡ Ended.WriteFault) × Rose (L.count link.old) (L.count link.new) × AppendsFront (L.got link.old) (L.got link.new) (reply_bytes (refusal_of no.now.fault true))) }
     ensures left { L.left link.new ≡ L.left link.old }
     ensures later { L.count link.old ≤ L.count link.new }
 {
     let answer = refusal(no);
-    match send(link, &answer) {
+    match send(link, &answer, true) {
         Ok(()) => Ended::Refused(no.fault),
         Err(_) => Ended::WriteFault,
     }
@@ -92,7 +100,7 @@ pub fn serve_connection<
         return Ended::Memory;
     };
     let mut inbox = inbox;
-    for _ in 0..1000u32 {
+    for before in 0..1000u32 {
         let Ok(arrived) = inbox.next(link) else {
             return Ended::ReadFault;
         };
@@ -105,7 +113,7 @@ pub fn serve_connection<
         let Ok(answer) = reply_to(rt, alloc, gate, routes, pass, ticker, inbox.first(size)) else {
             return Ended::ClockFault;
         };
-        let Ok(()) = send(link, &answer) else {
+        let Ok(()) = send(link, &answer, closes_after(answer.close, before)) else {
             return Ended::WriteFault;
         };
         if answer.close {

@@ -1,7 +1,7 @@
 //! A worker: it attends link after link, until its listener has none.
 ghost use Rattle.std.specs.Prelude.{◌≡◌, ◌≤◌, ◌<◌, ◌-◌, ◌++◌, ◌∷◌, [], Some};
 ghost use Rattle.wb_links.specs.Lines.{Line, IsLine, Lines};
-ghost use Rattle.wb_front.specs.Attended.{IsAttended, HasWorked, RoseOften};
+ghost use Rattle.wb_front.specs.Attended.{clock_of, IsAttended, HasWorked, RoseOften};
 
 use crate::connection::serve_connection;
 use std::alloc::Global;
@@ -48,7 +48,7 @@ fn attend<
     link: Li::End,
 )
     requires out { (x : Lines) → Li.told station.old.listener ≡ Some x → 0 < x.out }
-    ensures attended { (x : Lines) (a : Line) → Li.told station.old.listener ≡ Some x → IsLine (Li.End.left link) (Li.End.got link) (Li.End.count link) a → (b : Line) × IsAttended (λ share frame told. G.ran share frame told) a b pass.old.turns pass.new.turns (T.left station.old.ticker) (T.left station.new.ticker) × (Li.told station.new.listener ≡ Some (record x { out = x.out - 1; came = x.came ++ b ∷ [] })) }
+    ensures attended { (x : Lines) (a : Line) → Li.told station.old.listener ≡ Some x → IsLine (Li.End.left link) (Li.End.got link) (Li.End.count link) a → (b : Line) × IsAttended (λ share frame told. G.ran share frame told) a b pass.old.turns pass.new.turns (clock_of (T.left station.old.ticker) (T.count station.old.ticker)) (clock_of (T.left station.new.ticker) (T.count station.new.ticker)) × (Li.told station.new.listener ≡ Some (record x { out = x.out - 1; came = x.came ++ b ∷ [] })) }
     ensures count { Li.count station.new.listener ≡ Li.count station.old.listener }
     ensures parts { pass.new.parts ≡ pass.old.parts }
     ensures later { T.count station.old.ticker ≤ T.count station.new.ticker }
@@ -83,7 +83,7 @@ pub fn work<
     pass: &mut Pass<A, B>,
     station: &mut Station<Li, T>,
 ) -> Worked
-    ensures attended { (x : Lines) → Li.told station.old.listener ≡ Some x → (y : Lines) × (Li.told station.new.listener ≡ Some y) × HasWorked (λ share frame told. G.ran share frame told) x y pass.old.turns pass.new.turns (T.left station.old.ticker) (T.left station.new.ticker) }
+    ensures attended { (x : Lines) → Li.told station.old.listener ≡ Some x → (y : Lines) × (Li.told station.new.listener ≡ Some y) × HasWorked (λ share frame told. G.ran share frame told) x y pass.old.turns pass.new.turns (clock_of (T.left station.old.ticker) (T.count station.old.ticker)) (clock_of (T.left station.new.ticker) (T.count station.new.ticker)) }
     ensures ended { result ≡ Worked.End → (y : Lines) → Li.told station.new.listener ≡ Some y → y.left ≡ [] }
     ensures failed { result ≡ Worked.ListenFault → RoseOften 16 (Li.count station.old.listener) (Li.count station.new.listener) }
     ensures parts { pass.new.parts ≡ pass.old.parts }

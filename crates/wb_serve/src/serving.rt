@@ -9,7 +9,7 @@ ghost use Rattle.wb_tables.specs.Standing.{Standing, hosts_of};
 ghost use Rattle.wb_tenants.specs.Setups.{setup as lists_in};
 ghost use Rattle.wb_rows.specs.Held.{Held};
 ghost use Rattle.wb_rows.specs.Judged.{judged};
-ghost use Rattle.wb_front.specs.Attended.{RoseOften};
+ghost use Rattle.wb_front.specs.Attended.{clock_of, RoseOften};
 ghost use Rattle.wb_workers.specs.Workers.{HasNone, WasServed};
 ghost use Rattle.wb_words.specs.declared.plans.Plan.TheVariants.{Serve};
 ghost use Rattle.wb_words.specs.CommandLine.{Asks};
@@ -27,7 +27,8 @@ use wb_start::Status;
 use wb_words::{Plan, PlanFault, plan};
 use wb_workers::{Ended, serve_all};
 
-/// How a call that was to serve ended, with the keeper, where it came back: with each status but that of want of memory for the workers.
+/// How a call that was to serve ended, with the keeper, where it came back: always, but where a host was opened and there was no memory
+/// for its workers.
 #[derive(Drop)]
 pub struct Served<K: Keeper> {
     pub status: Status,
@@ -41,15 +42,13 @@ fn finished<K: Keeper>(ended: Ended<K>) -> Served<K>
     ensures failed { result.status ≡ Status.ListenFault → ended.all ≡ false }
     ensures keeper { result.keeper ≡ Some ended.closed.keeper }
 {
-    let Ended {
-        all,
-        closed: Closed {
-            desk: _,
-            keeper,
-            turns: _,
-            numbers: _,
-        },
-    } = ended;
+    let Ended { all, closed } = ended;
+    let Closed {
+        desk: _,
+        keeper,
+        turns: _,
+        numbers: _,
+    } = closed;
     Served {
         status: if all {
             Status::Done
@@ -72,12 +71,12 @@ where
     Li::End: Send,
     requires some { 0 < vec_len stations.old }
     requires held { K.honest keeper → (rows : List KeptRow) × K.holds keeper rows }
-    ensures keeper { result.keeper ≡ None → result.status ≡ Status.NoMemory }
+    ensures keeper { result.keeper ≡ None → (result.status ≡ Status.NoMemory) × ((k : _) × OpensOne (S.left setup.old) (S.left setup.new) (K.honest k) (K.holds keeper)) }
     ensures stations { vec_len stations.new ≡ vec_len stations.old }
     ensures none { (HasServed result.status → ⊥) → stations.new.items ≡ stations.old.items }
     ensures cause { (HasServed result.status → ⊥) → IfSome result.keeper (λ k. OpensNone (S.left setup.old) (S.count setup.old) (S.count setup.new) (S.left setup.new) (K.count keeper) (K.count k) (K.honest k) (K.holds keeper) (K.holds k) result.status) }
     ensures opened { HasServed result.status → (k : _) × OpensOne (S.left setup.old) (S.left setup.new) (K.honest k) (K.holds keeper) }
-    ensures attended { HasServed result.status → (i : ℕ) (d : _) (e : _) → i < vec_len stations.old → WasServed (Li.told (slice_index_or stations.old.items i d).listener) (Li.told (slice_index_or stations.new.items i e).listener) (T.left (slice_index_or stations.old.items i d).ticker) (T.left (slice_index_or stations.new.items i e).ticker) }
+    ensures attended { HasServed result.status → (i : ℕ) (d : _) (e : _) → i < vec_len stations.old → WasServed (Li.told (slice_index_or stations.old.items i d).listener) (Li.told (slice_index_or stations.new.items i e).listener) (clock_of (T.left (slice_index_or stations.old.items i d).ticker) (T.count (slice_index_or stations.old.items i d).ticker)) (clock_of (T.left (slice_index_or stations.new.items i e).ticker) (T.count (slice_index_or stations.new.items i e).ticker)) }
     ensures done { result.status ≡ Status.Done → All (λ s. HasNone (Li.told s.listener)) stations.new.items }
     ensures failed { result.status ≡ Status.ListenFault → (i : ℕ) × (i < vec_len stations.old) × ((d : _) (e : _) → RoseOften 16 (Li.count (slice_index_or stations.old.items i d).listener) (Li.count (slice_index_or stations.new.items i e).listener)) }
     ensures kept { HasServed result.status → IfSome result.keeper (λ k. K.honest k → (desk : Standing) × K.holds k (rows_of (hosts_of desk).list)) }
@@ -126,14 +125,14 @@ where
     // Words are told to be no form only where they are none; then that is told, or there was no memory, and nothing is read or served.
     ensures usage { result.status ≡ Status.Usage → IsServeForm words.now → ⊥ }
     ensures no_form { (IsServeForm words.now → ⊥) → ((result.status ≡ Status.Usage) ⊎ (result.status ≡ Status.NoMemory)) × (result.keeper ≡ Some keeper) × Keeps (S.left setup.old) (S.left setup.new) × (S.count setup.new ≡ S.count setup.old) }
-    ensures keeper { result.keeper ≡ None → result.status ≡ Status.NoMemory }
+    ensures keeper { result.keeper ≡ None → (result.status ≡ Status.NoMemory) × ((k : _) × OpensOne (S.left setup.old) (S.left setup.new) (K.honest k) (K.holds keeper)) }
     ensures stations { vec_len stations.new ≡ vec_len stations.old }
     // Where no host served, the stations are as they were, and there is a cause.
     ensures none { (HasServed result.status → ⊥) → stations.new.items ≡ stations.old.items }
     ensures cause { IsServeForm words.now → (HasServed result.status → ⊥) → IfSome result.keeper (λ k. OpensNone (S.left setup.old) (S.count setup.old) (S.count setup.new) (S.left setup.new) (K.count keeper) (K.count k) (K.honest k) (K.holds keeper) (K.holds k) result.status) }
     // Where one served, each station's links came back in order, each attended.
     ensures opened { HasServed result.status → (k : _) × OpensOne (S.left setup.old) (S.left setup.new) (K.honest k) (K.holds keeper) }
-    ensures attended { HasServed result.status → (i : ℕ) (d : _) (e : _) → i < vec_len stations.old → WasServed (Li.told (slice_index_or stations.old.items i d).listener) (Li.told (slice_index_or stations.new.items i e).listener) (T.left (slice_index_or stations.old.items i d).ticker) (T.left (slice_index_or stations.new.items i e).ticker) }
+    ensures attended { HasServed result.status → (i : ℕ) (d : _) (e : _) → i < vec_len stations.old → WasServed (Li.told (slice_index_or stations.old.items i d).listener) (Li.told (slice_index_or stations.new.items i e).listener) (clock_of (T.left (slice_index_or stations.old.items i d).ticker) (T.count (slice_index_or stations.old.items i d).ticker)) (clock_of (T.left (slice_index_or stations.new.items i e).ticker) (T.count (slice_index_or stations.new.items i e).ticker)) }
     ensures done { result.status ≡ Status.Done → All (λ s. HasNone (Li.told s.listener)) stations.new.items }
     ensures failed { result.status ≡ Status.ListenFault → (i : ℕ) × (i < vec_len stations.old) × ((d : _) (e : _) → RoseOften 16 (Li.count (slice_index_or stations.old.items i d).listener) (Li.count (slice_index_or stations.new.items i e).listener)) }
     ensures kept { HasServed result.status → IfSome result.keeper (λ k. K.honest k → (desk : Standing) × K.holds k (rows_of (hosts_of desk).list)) }

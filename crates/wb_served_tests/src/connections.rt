@@ -39,25 +39,25 @@ enum End {
 }
 
 /// A text that is sent so often but for its last bytes; the size of the pieces in which it comes, or 0 where it comes whole; the calls
-/// of the link and of the ticker that fail, or 0 for none; how the connection ends; the replies that were begun; and the turns.
-type Case<'a> = (&'a str, u32, usize, usize, u64, u64, End, usize, u64);
+/// of the link and of the ticker that fail, or 0 for none; how the connection ends; the replies that were begun; the turns; and the
+/// replies that say that the connection closes.
+type Case<'a> = (&'a str, u32, usize, usize, u64, u64, End, usize, u64, usize);
 
 const CASES: &[Case] = &[
-    (BOTH, 1, 0, 0, 0, 0, End::Closed, 2, 2),
-    (BOTH, 1, 0, 1, 0, 0, End::Closed, 2, 2),
-    (BOTH, 1, 0, 7, 0, 0, End::Closed, 2, 2),
-    (BOTH, 1, 1, 0, 0, 0, End::CutShort, 1, 1),
-    (BOTH, 1, 0, 0, 1, 0, End::ReadFault, 0, 0),
-    (BOTH, 1, 0, 0, 2, 0, End::WriteFault, 0, 1),
-    (BOTH, 1, 0, 0, 3, 0, End::WriteFault, 1, 1),
-    (BOTH, 1, 0, 0, 4, 0, End::WriteFault, 1, 2),
-    (BOTH, 1, 0, 0, 5, 0, End::WriteFault, 2, 2),
-    (BOTH, 1, 0, 0, 6, 0, End::Closed, 2, 2),
-    (BOTH, 1, 0, 0, 0, 1, End::ClockFault, 0, 0),
-    (BOTH, 1, 0, 0, 0, 2, End::ClockFault, 1, 1),
-    (HEALTH, 3, 0, 5, 0, 0, End::Closed, 3, 3),
-    (HEALTH, 3, 1, 5, 0, 0, End::CutShort, 2, 2),
-    (HEALTH, 1_001, 0, 0, 0, 0, End::Spent, 1_000, 1_000),
+    (BOTH, 1, 0, 0, 0, 0, End::Closed, 2, 2, 1),
+    (BOTH, 1, 0, 1, 0, 0, End::Closed, 2, 2, 1),
+    (BOTH, 1, 0, 7, 0, 0, End::Closed, 2, 2, 1),
+    (BOTH, 1, 1, 0, 0, 0, End::CutShort, 1, 1, 0),
+    (BOTH, 1, 0, 0, 1, 0, End::ReadFault, 0, 0, 0),
+    (BOTH, 1, 0, 0, 2, 0, End::WriteFault, 0, 1, 0),
+    (BOTH, 1, 0, 0, 3, 0, End::WriteFault, 1, 2, 0),
+    (BOTH, 1, 0, 0, 4, 0, End::Closed, 2, 2, 1),
+    (BOTH, 1, 0, 0, 0, 1, End::ClockFault, 0, 0, 0),
+    (BOTH, 1, 0, 0, 0, 2, End::ClockFault, 1, 1, 0),
+    (HEALTH, 3, 0, 5, 0, 0, End::Closed, 3, 3, 0),
+    (HEALTH, 3, 1, 5, 0, 0, End::CutShort, 2, 2, 0),
+    (HEALTH, 999, 0, 0, 0, 0, End::Closed, 999, 999, 0),
+    (HEALTH, 1_001, 0, 0, 0, 0, End::Spent, 1_000, 1_000, 1),
     (
         "GET /health HTTP/1.1\r\nTransfer-Encoding: chunked\r\n\r\n",
         2,
@@ -68,6 +68,7 @@ const CASES: &[Case] = &[
         End::NoLength,
         1,
         0,
+        1,
     ),
     (
         "POST /t/1/sessions HTTP/1.1\r\n\r\n",
@@ -79,6 +80,7 @@ const CASES: &[Case] = &[
         End::NoLength,
         1,
         0,
+        1,
     ),
     (
         "GET /nowhere HTTP/1.1\r\n\r\n",
@@ -90,9 +92,10 @@ const CASES: &[Case] = &[
         End::Closed,
         2,
         0,
+        0,
     ),
-    ("abcdefgh", 1_024, 0, 0, 0, 0, End::BadHead, 1, 0),
-    ("abcdefgh", 1_024, 1, 0, 0, 0, End::CutShort, 0, 0),
+    ("abcdefgh", 1_024, 0, 0, 0, 0, End::BadHead, 1, 0, 1),
+    ("abcdefgh", 1_024, 1, 0, 0, 0, End::CutShort, 0, 0, 0),
 ];
 
 // A list of one number, or of none where it is 0.
@@ -127,15 +130,20 @@ fn ticks(alloc: Global, count: u64) -> Result<Vec<(Moment, Words)>, Fail> {
     Ok(ticks)
 }
 
-// How many replies were begun.
-fn begun(got: &[u8]) -> usize {
+// How often a text stands in what was got.
+fn often(got: &[u8], text: &[u8]) -> usize {
     let mut count = 0;
     for at in 0..got.len() {
-        if got[at..].starts_with(b"HTTP/1.1 ") {
+        if got[at..].starts_with(text) {
             count = usize::saturating_add(count, 1);
         }
     }
     count
+}
+
+// How many replies were begun.
+fn begun(got: &[u8]) -> usize {
+    often(got, b"HTTP/1.1 ")
 }
 
 fn end_of(ended: Ended) -> End {
@@ -173,14 +181,14 @@ fn gate<A: Ledger, B: Ledger>(
     Ok((LockGate::over(kept), pass))
 }
 
-// How the connection of a case ends; the replies that were begun, and the pass's turns.
+// How the connection of a case ends; the replies that were begun, the pass's turns, and the replies that say that it closes.
 fn ends<A: Ledger, B: Ledger, R: Wait + Abort>(
     rt: &R,
     alloc: Global,
     turns: Blank,
     numbers: Blank,
     case: &Case,
-) -> Result<(End, usize, u64), Fail>
+) -> Result<(End, usize, u64, usize), Fail>
     requires turns { (turns.name ≡ A.name) × (turns.parts ≡ A.parts) × (turns.parts ≡ 1) }
     requires numbers { (numbers.name ≡ B.name) × (numbers.parts ≡ B.parts) × (numbers.parts ≡ 1) }
 {
@@ -196,7 +204,12 @@ fn ends<A: Ledger, B: Ledger, R: Wait + Abort>(
     let mut link = MemLink::new(bytes, pieces, 1_000_000, listed(alloc, case.4)?)?;
     let mut ticker = MemTicker::new(ticks(alloc, 1_001)?, listed(alloc, case.5)?);
     let ended = serve_connection(rt, alloc, &gate, &routes, &mut pass, &mut link, &mut ticker);
-    Ok((end_of(ended), begun(link.got()), pass.turns()))
+    Ok((
+        end_of(ended),
+        begun(link.got()),
+        pass.turns(),
+        often(link.got(), b"Connection: close\r\n"),
+    ))
 }
 
 // How a worker ends over so many links, each with one request, whose listener fails at its first so many calls; the links that came
@@ -267,7 +280,7 @@ fn connections_end_as_their_bytes_and_faults_say(rt: HostRuntime) -> Result<(), 
             Blank::new(1),
             case,
         )?;
-        assert_eq!(&rt; ended, (case.6, case.7, case.8));
+        assert_eq!(&rt; ended, (case.6, case.7, case.8, case.9));
     }
     Ok(())
 }

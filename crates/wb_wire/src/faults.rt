@@ -1,8 +1,9 @@
 //! The replies to requests that are not read.
 ghost use Rattle.std.specs.Prelude.{◌≡◌, ◌≤◌, length};
-ghost use Rattle.wb_model.specs.Replies.{fault_told};
+ghost use Rattle.wb_model.specs.Readings.{closes_always};
+ghost use Rattle.wb_model.specs.Replies.{fault_told, fault_allow as listed_path};
 
-use wb_model::WireFault;
+use wb_model::{PathNo, WireFault};
 
 #[tactic(auto, unfolding(wb_model::specs::Replies::fault_told, wb_model::specs::Refusals::not_found, wb_model::specs::Refusals::no_memory))]
 /// The status code of a fault's reply (RFC 9110, section 15). It takes no memory.
@@ -38,5 +39,39 @@ pub fn fault_body(fault: &WireFault) -> &'static [u8]
         WireFault::BadJson => b"{\"code\":\"bad_json\"}",
         WireFault::BadShape => b"{\"code\":\"bad_shape\"}",
         WireFault::Memory => b"{\"code\":\"no_memory\"}",
+    }
+}
+
+/// The path whose methods a fault's reply lists (RFC 9110, section 15.5.6). It takes no memory.
+pub fn fault_allow(fault: &WireFault) -> Option<PathNo>
+    ensures { result ≡ listed_path fault.now }
+{
+    match fault {
+        WireFault::BadHead => None,
+        WireFault::BadLength => None,
+        WireFault::NoLength => None,
+        WireFault::TooLarge => None,
+        WireFault::NoRoute => None,
+        WireFault::NoMethod(path) => Some(*path),
+        WireFault::BadJson => None,
+        WireFault::BadShape => None,
+        WireFault::Memory => None,
+    }
+}
+
+/// Whether the connection closes after a fault, whatever its head asks for.
+pub fn fault_closes(fault: &WireFault) -> bool
+    ensures { result ≡ closes_always fault.now }
+{
+    match fault {
+        WireFault::BadHead => true,
+        WireFault::BadLength => true,
+        WireFault::NoLength => true,
+        WireFault::TooLarge => true,
+        WireFault::NoRoute => false,
+        WireFault::NoMethod(_) => false,
+        WireFault::BadJson => false,
+        WireFault::BadShape => false,
+        WireFault::Memory => false,
     }
 }

@@ -19,7 +19,7 @@ mod segments;
 mod taking;
 mod written;
 
-pub use faults::{fault_body, fault_status};
+pub use faults::{fault_allow, fault_body, fault_closes, fault_status};
 pub use frames::{FrameNo, FrameReader};
 pub use heads::{HeadRead, read_head};
 pub use laws::{one_frame, one_reading, one_setup, what_is_asked_fits};

@@ -10,7 +10,6 @@ ghost use Rattle.wb_model.specs.Commands.{is_health};
 ghost use Rattle.wb_wire.specs.Places.{place_value, at_place};
 ghost use Rattle.wb_wire.specs.RequestParts.{fields_in, asks_of, GivesOrWants, GivesBody};
 
-use crate::WireFault;
 use crate::closing::closes;
 use crate::commands::{Numbers, bare, shaped};
 use crate::fields::{declared_length, session};
@@ -19,6 +18,7 @@ use crate::laws::what_is_asked_fits;
 use crate::paths::{Path, route, row};
 use crate::router::Routes;
 use crate::segments::are_numbers;
+use crate::{WireFault, fault_closes};
 use httparse::Status;
 use httparse::spans::{EMPTY_HEADER_SPAN, HeaderSpan, parse_request};
 use serde_json::Value;
@@ -154,23 +154,6 @@ fn read_command(alloc: Global, routes: &Routes, parts: &Parts) -> Result<Command
     }
 }
 
-// Whether the connection closes after a fault whatever the head asks for.
-fn closes_always(fault: &WireFault) -> bool
-    ensures { result ≡ closes_always_of fault.now }
-{
-    match fault {
-        WireFault::BadHead => true,
-        WireFault::BadLength => true,
-        WireFault::NoLength => true,
-        WireFault::TooLarge => true,
-        WireFault::NoRoute => false,
-        WireFault::NoMethod(_) => false,
-        WireFault::BadJson => false,
-        WireFault::BadShape => false,
-        WireFault::Memory => false,
-    }
-}
-
 // The refusal for a fault, of a request whose head asks for this closing.
 fn refusal(close: bool, fault: WireFault) -> WireNo
     ensures fault { result.fault ≡ fault }
@@ -178,7 +161,7 @@ fn refusal(close: bool, fault: WireFault) -> WireNo
 {
     WireNo {
         fault,
-        close: close || closes_always(&fault),
+        close: close || fault_closes(&fault),
     }
 }
 

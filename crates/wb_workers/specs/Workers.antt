@@ -1,11 +1,11 @@
 -- Workers and the listeners of their stations.
-use Rattle.std.specs.Prelude.{◌≡◌, ℕ, List, [], Option, Some}
+use Rattle.std.specs.Prelude.{◌≡◌, ℕ, [], Option, Some}
 use Rattle.wb_model.specs.declared.body.Told.{Told}
 use Rattle.wb_model.specs.Requests.{Frame}
 use Rattle.wb_kept.specs.Hosted.{Hosted, Hand}
 use Rattle.wb_kept.specs.Turned.{Turned}
-use Rattle.wb_links.specs.Lines.{Lines, Tick}
-use Rattle.wb_front.specs.Attended.{HasWorked}
+use Rattle.wb_links.specs.Lines.{Lines}
+use Rattle.wb_front.specs.Attended.{Clock, HasWorked}
 use Rattle.wb_front.specs.declared.worker.Worked.{Worked}
 use Rattle.wb_front.specs.declared.worker.Worked.TheVariants.{End}
 
@@ -17,14 +17,14 @@ HasEnded told worked = worked ≡ End → (x : Lines) → told ≡ Some x → x.
 abbrev pub HasNone : Option Lines → Type 0
 HasNone told = (x : Lines) → told ≡ Some x → x.left ≡ []
 
--- the links that a listener gave, where it tells, came back in order, each attended: with a share of the turns and the ticks before and now
-pub record IsServed (Ran : ℕ → Frame → Told → Type 0) (told told' : Option Lines) (share share' : ℕ) (moments moments' : Option (List Tick)) : Type 0 where
-  pub links : (x : Lines) → told ≡ Some x → (y : Lines) × (told' ≡ Some y) × HasWorked Ran x y share share' moments moments'
+-- the links that a listener gave, where it tells, came back in order, each attended: with a share of the turns and the ticker before and now
+pub record IsServed (Ran : ℕ → Frame → Told → Type 0) (told told' : Option Lines) (share share' : ℕ) (clock clock' : Clock) : Type 0 where
+  pub links : (x : Lines) → told ≡ Some x → (y : Lines) × (told' ≡ Some y) × HasWorked Ran x y share share' clock clock'
 
 -- a turn that was made of a host, for a pass with this share of its turns
 abbrev pub IsTurnOfHost : ℕ → Frame → Told → Type 0
 IsTurnOfHost share frame told = (host : Hosted) × (pass : Hand) × (host' : Hosted) × (pass' : Hand) × (pass.turns ≡ share) × Turned frame host pass host' pass' told
 
 -- each reply over the links of a station was a turn of a host, or the refusal of what asks nothing
-abbrev pub WasServed : Option Lines → Option Lines → Option (List Tick) → Option (List Tick) → Type 0
-WasServed told told' moments moments' = (share : ℕ) × IsServed IsTurnOfHost told told' 0 share moments moments'
+abbrev pub WasServed : Option Lines → Option Lines → Clock → Clock → Type 0
+WasServed told told' clock clock' = (share : ℕ) × IsServed IsTurnOfHost told told' 0 share clock clock'

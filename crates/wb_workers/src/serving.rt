@@ -3,7 +3,7 @@ ghost use Rattle.std.specs.Prelude.{◌≡◌, ◌<◌, ◌≤◌, ◌-◌, ℕ,
 ghost use Rattle.wb_model.specs.Rows.{rows_of};
 ghost use Rattle.wb_tables.specs.Standing.{hosts_of};
 ghost use Rattle.wb_kept.specs.Hosted.{parts_of};
-ghost use Rattle.wb_front.specs.Attended.{RoseOften};
+ghost use Rattle.wb_front.specs.Attended.{clock_of, RoseOften};
 ghost use Rattle.wb_workers.specs.Workers.{HasEnded, HasNone, WasServed};
 
 use crate::worker::{Worker, attend_all, make_worker};
@@ -113,7 +113,7 @@ where
     requires turns { (turns.name ≡ A.name) × (turns.parts ≡ A.parts) × (turns.parts ≡ vec_len stations.old) }
     requires numbers { (numbers.name ≡ B.name) × (numbers.parts ≡ B.parts) × (numbers.parts ≡ vec_len stations.old) }
     ensures stations { vec_len stations.new ≡ vec_len stations.old }
-    ensures served { IfOk result (λ _. (i : ℕ) (d : _) (e : _) → i < vec_len stations.old → WasServed (Li.told (slice_index_or stations.old.items i d).listener) (Li.told (slice_index_or stations.new.items i e).listener) (T.left (slice_index_or stations.old.items i d).ticker) (T.left (slice_index_or stations.new.items i e).ticker)) }
+    ensures served { IfOk result (λ _. (i : ℕ) (d : _) (e : _) → i < vec_len stations.old → WasServed (Li.told (slice_index_or stations.old.items i d).listener) (Li.told (slice_index_or stations.new.items i e).listener) (clock_of (T.left (slice_index_or stations.old.items i d).ticker) (T.count (slice_index_or stations.old.items i d).ticker)) (clock_of (T.left (slice_index_or stations.new.items i e).ticker) (T.count (slice_index_or stations.new.items i e).ticker))) }
     ensures left { IfOk result (λ e. e.all ≡ true → All (λ s. HasNone (Li.told s.listener)) stations.new.items) }
     ensures failed { IfOk result (λ e. e.all ≡ false → (i : ℕ) × (i < vec_len stations.old) × ((d : _) (e : _) → RoseOften 16 (Li.count (slice_index_or stations.old.items i d).listener) (Li.count (slice_index_or stations.new.items i e).listener))) }
     ensures none { IfErr result (λ _. stations.new.items ≡ stations.old.items) }
@@ -148,7 +148,7 @@ where
     requires some { 0 < vec_len stations.old }
     requires kept { K.honest keeper → K.holds keeper (rows_of (hosts_of desk).list) }
     ensures stations { vec_len stations.new ≡ vec_len stations.old }
-    ensures served { IfOk result (λ _. (i : ℕ) (d : _) (e : _) → i < vec_len stations.old → WasServed (Li.told (slice_index_or stations.old.items i d).listener) (Li.told (slice_index_or stations.new.items i e).listener) (T.left (slice_index_or stations.old.items i d).ticker) (T.left (slice_index_or stations.new.items i e).ticker)) }
+    ensures served { IfOk result (λ _. (i : ℕ) (d : _) (e : _) → i < vec_len stations.old → WasServed (Li.told (slice_index_or stations.old.items i d).listener) (Li.told (slice_index_or stations.new.items i e).listener) (clock_of (T.left (slice_index_or stations.old.items i d).ticker) (T.count (slice_index_or stations.old.items i d).ticker)) (clock_of (T.left (slice_index_or stations.new.items i e).ticker) (T.count (slice_index_or stations.new.items i e).ticker))) }
     ensures left { IfOk result (λ e. e.all ≡ true → All (λ s. HasNone (Li.told s.listener)) stations.new.items) }
     ensures failed { IfOk result (λ e. e.all ≡ false → (i : ℕ) × (i < vec_len stations.old) × ((d : _) (e : _) → RoseOften 16 (Li.count (slice_index_or stations.old.items i d).listener) (Li.count (slice_index_or stations.new.items i e).listener))) }
     ensures none { IfErr result (λ _. stations.new.items ≡ stations.old.items) }

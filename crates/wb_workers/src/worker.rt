@@ -1,6 +1,6 @@
 //! A worker: a station, a pass of one part, and how it ended.
 ghost use Rattle.std.specs.Prelude.{◌≡◌, ◌<◌, ℕ, All, length, slice_index_or};
-ghost use Rattle.wb_front.specs.Attended.{RoseOften};
+ghost use Rattle.wb_front.specs.Attended.{clock_of, RoseOften};
 ghost use Rattle.wb_workers.specs.Workers.{HasEnded, IsServed};
 
 use std::alloc::Global;
@@ -49,7 +49,7 @@ fn attend<
     Li: Listener,
     T: Ticker,
 >(rt: &R, alloc: Global, gate: &G, routes: &Routes, worker: &mut Worker<Li, T, A, B>)
-    ensures served { IsServed (λ share frame told. G.ran share frame told) (Li.told worker.old.station.listener) (Li.told worker.new.station.listener) worker.old.pass.turns worker.new.pass.turns (T.left worker.old.station.ticker) (T.left worker.new.station.ticker) }
+    ensures served { IsServed (λ share frame told. G.ran share frame told) (Li.told worker.old.station.listener) (Li.told worker.new.station.listener) worker.old.pass.turns worker.new.pass.turns (clock_of (T.left worker.old.station.ticker) (T.count worker.old.station.ticker)) (clock_of (T.left worker.new.station.ticker) (T.count worker.new.station.ticker)) }
     ensures ended { HasEnded (Li.told worker.new.station.listener) worker.new.worked }
     ensures failed { worker.new.worked ≡ Worked.ListenFault → RoseOften 16 (Li.count worker.old.station.listener) (Li.count worker.new.station.listener) }
 {
@@ -75,7 +75,7 @@ where
     Li::End: Send,
     requires some { 0 < length workers.old }
     ensures len { length workers.new ≡ length workers.old }
-    ensures served { (i : ℕ) (d : _) → i < length workers.old → IsServed (λ share frame told. G.ran share frame told) (Li.told (slice_index_or workers.old i d).station.listener) (Li.told (slice_index_or workers.new i d).station.listener) (slice_index_or workers.old i d).pass.turns (slice_index_or workers.new i d).pass.turns (T.left (slice_index_or workers.old i d).station.ticker) (T.left (slice_index_or workers.new i d).station.ticker) }
+    ensures served { (i : ℕ) (d : _) → i < length workers.old → IsServed (λ share frame told. G.ran share frame told) (Li.told (slice_index_or workers.old i d).station.listener) (Li.told (slice_index_or workers.new i d).station.listener) (slice_index_or workers.old i d).pass.turns (slice_index_or workers.new i d).pass.turns (clock_of (T.left (slice_index_or workers.old i d).station.ticker) (T.count (slice_index_or workers.old i d).station.ticker)) (clock_of (T.left (slice_index_or workers.new i d).station.ticker) (T.count (slice_index_or workers.new i d).station.ticker)) }
     ensures ended { All (λ w. HasEnded (Li.told w.station.listener) w.worked) workers.new }
     ensures failed { (i : ℕ) (d : _) → i < length workers.old → (slice_index_or workers.new i d).worked ≡ Worked.ListenFault → RoseOften 16 (Li.count (slice_index_or workers.old i d).station.listener) (Li.count (slice_index_or workers.new i d).station.listener) }
 {
@@ -85,7 +85,7 @@ where
         workers,
         threads,
         &|_, worker|
-            ensures served { IsServed (λ share frame told. G.ran share frame told) (Li.told worker.old.station.listener) (Li.told worker.new.station.listener) worker.old.pass.turns worker.new.pass.turns (T.left worker.old.station.ticker) (T.left worker.new.station.ticker) }
+            ensures served { IsServed (λ share frame told. G.ran share frame told) (Li.told worker.old.station.listener) (Li.told worker.new.station.listener) worker.old.pass.turns worker.new.pass.turns (clock_of (T.left worker.old.station.ticker) (T.count worker.old.station.ticker)) (clock_of (T.left worker.new.station.ticker) (T.count worker.new.station.ticker)) }
             ensures ended { HasEnded (Li.told worker.new.station.listener) worker.new.worked }
             ensures failed { worker.new.worked ≡ Worked.ListenFault → RoseOften 16 (Li.count worker.old.station.listener) (Li.count worker.new.station.listener) }
         { attend(rt, alloc, gate, routes, worker) },

@@ -20,7 +20,7 @@ pub returns-in-Err-clause-answered : goal.returns-in-Err-clause-answered
 returns-in-Err-clause-answered g c = (
   None,
   record {
-    replied = (c.in-Err.no.fault, c.in-Err.no.close, (c.in-Err.ensures.refused, c.in-Err.ensures.memory), c.refusal.ensures.reply);
+    replied = (c.in-Err.no.fault, c.in-Err.no.close, (c.in-Err.ensures.refused, λ e. (c.in-Err.ensures.memory e, c.in-Err.ensures.health e)), c.refusal.ensures.reply);
     share_is = refl;
     turns = λ xs is. (xs, is, refl);
     fatal = fatal_of c.refusal.result.fatal c.in-Err.no.fault c.in-Err.no.close (reply_of c.refusal.result) c.refusal.ensures.fatal c.refusal.ensures.reply;

@@ -3,9 +3,9 @@ use Rattle.wb_front.specs.Served.{Exchange}
 use Rattle.wb_front.specs.Endings.{IsOpenYet}
 use Rattle.wb_front.proofs.connection.serve_connection.Given as goal
 
-abbrev pub invariant-loop : goal.invariant-loop
-invariant-loop g l =
+abbrev pub invariant-loop-before : goal.invariant-loop-before
+invariant-loop-before g l =
     ((xs : List Exchange) × IsOpenYet (λ share frame told. g.G.Gate.ran share frame told)
     (record { left = g.L.Link.left l.fn.link; got = g.L.Link.got l.fn.link; moments = g.T.Ticker.left l.fn.ticker; share = l.fn.pass.turns })
-    (record { left = g.L.Link.left l.link; got = g.L.Link.got l.link; moments = g.T.Ticker.left l.ticker; share = l.pass.turns }) xs l.inbox × (length xs ≡ l.counter))
+    (record { left = g.L.Link.left l.link; got = g.L.Link.got l.link; moments = g.T.Ticker.left l.ticker; share = l.pass.turns }) xs l.inbox × (length xs ≡ l.before))
     × (l.pass.parts ≡ l.fn.pass.parts) × (g.L.Link.count l.fn.link ≤ g.L.Link.count l.link) × (g.T.Ticker.count l.fn.ticker ≤ g.T.Ticker.count l.ticker)

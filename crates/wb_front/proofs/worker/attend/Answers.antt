@@ -1,4 +1,5 @@
-use Rattle.std.proofs.Common.{ℕ, refl}
+use Rattle.std.proofs.Common.{ℕ, refl, subst}
+use Rattle.wb_base.specs.Outside.{Rose}
 use Rattle.wb_model.specs.declared.body.Told.{Told}
 use Rattle.wb_model.specs.Requests.{Frame}
 use Rattle.wb_links.specs.Lines.{Line}
@@ -14,6 +15,12 @@ returns-clause-attended g c = λ x a told line.
     let still = still_tells Ran before after a.left a.got c.serve_connection.result line.has_left line.has_got c.serve_connection.ensures.ended in
     let b : Line = record { left = still.0; got = still.1; count = g.Li.End.Link.count c.serve_connection.new.link } in (
       b,
-      (c.serve_connection.result, ended_at Ran before.left before.got after.left after.got a b before.moments after.moments before.share after.share c.serve_connection.result line.has_left line.has_got still.2 still.3 c.serve_connection.ensures.ended),
+      record {
+        how = c.serve_connection.result;
+        ended = ended_at Ran before.left before.got after.left after.got a b before.moments after.moments before.share after.share c.serve_connection.result line.has_left line.has_got still.2 still.3 c.serve_connection.ensures.ended;
+        read_failed = λ e. subst (λ n. Rose n b.count) line.counts (c.serve_connection.ensures.read_fault e);
+        write_failed = λ e. subst (λ n. Rose n b.count) line.counts (c.serve_connection.ensures.write_fault e);
+        clock_failed = c.serve_connection.ensures.clock_fault;
+      },
       c.back.ensures.came x b told (record { has_left = still.2; has_got = still.3; counts = refl }),
     )

@@ -1,11 +1,11 @@
 use Rattle.std.proofs.Common.{◌≡◌, ◌+◌, ◌-◌, inl, [], ◌∷◌, ◌++◌, Some, refl, ap, ◌∙◌, subst, arith}
 use Rattle.wb_links.specs.Lines.{IsLine}
-use Rattle.wb_front.specs.Attended.{RoseOften}
+use Rattle.wb_front.specs.Attended.{clock_of, RoseOften}
 use Rattle.wb_front.proofs.Working.{nothing_worked, worked_more, out_given, none_left, rose_more, rose_stays}
 use Rattle.wb_front.proofs.worker.work.Goals as goal
 
 pub loop-init : goal.loop-init
-loop-init g c = ((λ x is. (x, is, nothing_worked (λ share frame told. g.G.Gate.ran share frame told) x c.args.pass.now.turns (g.T.Ticker.left c.args.station.now.ticker))), inl (omega arith), omega arith, refl)
+loop-init g c = ((λ x is. (x, is, nothing_worked (λ share frame told. g.G.Gate.ran share frame told) x c.args.pass.now.turns (clock_of (g.T.Ticker.left c.args.station.now.ticker) (g.T.Ticker.count c.args.station.now.ticker)))), inl (omega arith), omega arith, refl)
 
 pub overflow_add-failed : goal.overflow_add-failed
 overflow_add-failed g c = omega (arith, c.loop.invariant.2)
@@ -47,7 +47,7 @@ loop-preserved g c = (
       let back : y.0.out + 1 - 1 ≡ y.0.out = omega arith in (
         record { left = gave.1; out = y.0.out; came = y.0.came ++ one.0 ∷ [] },
         one.2 ∙ ap (λ n. Some (record { left = gave.1; out = n; came = y.0.came ++ one.0 ∷ [] })) back,
-        worked_more (λ share frame told. g.G.Gate.ran share frame told) x y.0 gave.0 one.0 gave.1 c.args.pass.now.turns c.loop.pass.turns c.attend.new.pass.turns (g.T.Ticker.left c.args.station.now.ticker) (g.T.Ticker.left c.loop.station.ticker) (g.T.Ticker.left c.attend.new.station.ticker) y.2 gave.2 one.1,
+        worked_more (λ share frame told. g.G.Gate.ran share frame told) x y.0 gave.0 one.0 gave.1 c.args.pass.now.turns c.loop.pass.turns c.attend.new.pass.turns (clock_of (g.T.Ticker.left c.args.station.now.ticker) (g.T.Ticker.count c.args.station.now.ticker)) (clock_of (g.T.Ticker.left c.loop.station.ticker) (g.T.Ticker.count c.loop.station.ticker)) (clock_of (g.T.Ticker.left c.attend.new.station.ticker) (g.T.Ticker.count c.attend.new.station.ticker)) y.2 gave.2 one.1,
       )),
   rose_stays c.loop.failed (g.Li.Listener.count c.args.station.now.listener) (g.Li.Listener.count c.loop.station.listener) (g.Li.Listener.count c.attend.new.station.listener) c.loop.invariant.1 (omega (arith, c.attend.ensures.count, c.in-Ok-Some.ensures.cause.later)),
   c.loop.invariant.2,
