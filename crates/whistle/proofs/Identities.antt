@@ -9,7 +9,8 @@ use Rattle.wb_model.specs.Past.{Past}
 use Rattle.wb_model.specs.Pasts.{AllOpened, standing_hosts}
 use Rattle.wb_model.specs.Playing.{IsPlaceOf, ArePlacesOf, written}
 use Rattle.wb_model.specs.Readings.{Reading, Asks, Reads}
-use Rattle.wb_model.specs.Scripts.{Place, Reply, frame_of, play, script_replies}
+use Rattle.wb_model.specs.Rows.{rows, rows_but}
+use Rattle.wb_model.specs.Scripts.{Place, Reply, frame_of, play, script_replies, past_after}
 use Rattle.wb_model.specs.ScriptsAlike.{AskAlike, PlaceAlike, AllPlacesAlike, FollowWhere, PlacesAlike, is_accepted, hidden_replies}
 use Rattle.whistle.specs.Headline.{FramesAsk, frame_asking, FrameAlike, AllFramesAlike, FramesFollow, FramesAlike, AreLostAlike, KeepsIdentities}
 
@@ -83,9 +84,10 @@ module _ (one_reading : (bytes : List ℕ) (a b : Reading) → Reads bytes a →
   alike_places zero t r past (f ∷ fs) (g ∷ gs) (p ∷ ps) [] x y a l = absurd y
   alike_places (suc i) t r past (f ∷ fs) (g ∷ gs) (p ∷ ps) [] x y a l = absurd y
 
-  -- and alike scripts get the same replies
-  module _ (law : (i t r : ℕ) (past : Past AllOpened) (places others : List Place) → PlacesAlike i t r past places others → hidden_replies t r past places (script_replies past places) ≡ hidden_replies t r past places (script_replies past others)) where
+  -- and alike scripts get the same replies, and leave the same rows
+  module _ (by_replies : (i t r : ℕ) (past : Past AllOpened) (places others : List Place) → PlacesAlike i t r past places others → hidden_replies t r past places (script_replies past places) ≡ hidden_replies t r past places (script_replies past others))
+      (by_rows : (i t r : ℕ) (past : Past AllOpened) (places others : List Place) → PlacesAlike i t r past places others → rows_but t r (rows (past_after past places)) ≡ rows_but t r (rows (past_after past others))) where
     pub keeps : (past : Past AllOpened) (frames : List ScriptFrame) (places : List Place) → ArePlacesOf frames places → KeepsIdentities past frames places
     keeps past frames places placed i t r others theirs theirs_placed lost alike =
-        ap (map (λ (x : Option Reply). option_map written x))
-        (law i t r past places theirs (alike_places i t r past frames others places theirs placed theirs_placed lost alike))
+        let same = alike_places i t r past frames others places theirs placed theirs_placed lost alike in
+        (ap (map (λ (x : Option Reply). option_map written x)) (by_replies i t r past places theirs same), by_rows i t r past places theirs same)

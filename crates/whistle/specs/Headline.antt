@@ -10,6 +10,7 @@ use Rattle.wb_model.specs.Past.{Past}
 use Rattle.wb_model.specs.Pasts.{AllOpened, standing_hosts}
 use Rattle.wb_model.specs.Playing.{IsPlaceOf, ArePlacesOf, written}
 use Rattle.wb_model.specs.Readings.{Asks, Reads}
+use Rattle.wb_model.specs.Rows.{rows, rows_but}
 use Rattle.wb_model.specs.Absence.{Item, Stands, Skips, BeginsAt, DrawOthersAfter, replies, past_with, replies_after, is_purged_after}
 use Rattle.wb_model.specs.Scripts.{Place, Reply, play, script_replies, past_after}
 use Rattle.wb_model.specs.ScriptsAlike.{is_accepted, hidden_replies}
@@ -66,10 +67,12 @@ abbrev pub hidden_output : ℕ → ℕ → Past AllOpened → List Place → Lis
 hidden_output t r past places replies = map (λ (x : Option Reply). option_map written x) (hidden_replies t r past places replies)
 
 -- the replies to the frames that were played as these places are byte for byte those of each script that differs in one report's
--- valid identity answers alone and loses the same at each place, but where one of that report's readers asks
+-- valid identity answers alone and loses the same at each place, but where one of that report's readers asks; and so are the rows at
+-- the end, but for the one that has that report's identity answers
 abbrev pub KeepsIdentities : Past AllOpened → List ScriptFrame → List Place → Type 0
 KeepsIdentities past frames places = (i t r : ℕ) (others : List ScriptFrame) (theirs : List Place) → ArePlacesOf others theirs → AreLostAlike places theirs → FramesAlike i t r past frames places others →
-    hidden_output t r past places (script_replies past places) ≡ hidden_output t r past places (script_replies past theirs)
+    (hidden_output t r past places (script_replies past places) ≡ hidden_output t r past places (script_replies past theirs))
+    × (rows_but t r (rows (past_after past places)) ≡ rows_but t r (rows (past_after past theirs)))
 
 -- ---- the script in which a submission only drew a number
 

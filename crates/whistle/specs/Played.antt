@@ -22,6 +22,6 @@ pub record HasPlayed (keeper keeper' : ℕ) (honest : Type 0) (holds holds' : Li
   pub losses : AreLossesTold start places
   -- and each good submission among them was answered as its sender expects
   pub submissions : AreWellAnswered start places
-  -- the replies keep identities, and forget reports that are purged
+  -- the replies and the rows keep identities, and forget reports that are purged
   pub identities : KeepsIdentities start frames places
   pub absence : ForgetsReports start frames places

@@ -5,7 +5,7 @@ ghost use Rattle.wb_base.specs.Outside.{AppendsFront, HasCause};
 ghost use Rattle.wb_model.specs.Past.{Past};
 ghost use Rattle.wb_model.specs.Pasts.{AllOpened};
 ghost use Rattle.wb_model.specs.Playing.{written};
-ghost use Rattle.wb_model.specs.Replies.{fault_told, fault_allow};
+ghost use Rattle.wb_model.specs.Replies.{fault_told, fault_allow as listed_path};
 ghost use Rattle.wb_model.specs.Scripts.{Place};
 ghost use Rattle.wb_tables.specs.Standing.{hosts_of};
 ghost use Rattle.wb_desk.specs.Turns.{StandsFor};
@@ -16,7 +16,7 @@ use wb_base::{Failed, Keeper, Sink};
 use wb_desk::Desk;
 use wb_model::{Body, Told};
 use wb_wire::{
-    PathNo, Routes, ScriptFrame, WireFault, WireNo, fault_body, fault_status, read_request,
+    PathNo, Routes, ScriptFrame, WireNo, fault_allow, fault_body, fault_status, read_request,
     reply_head, reply_line,
 };
 
@@ -28,33 +28,16 @@ pub struct Answer {
     pub close: bool,
 }
 
-// The path whose methods a fault's reply lists.
-fn allow_of(fault: &WireFault) -> Option<PathNo>
-    ensures { result ≡ fault_allow fault.now }
-{
-    match fault {
-        WireFault::BadHead => None,
-        WireFault::BadLength => None,
-        WireFault::NoLength => None,
-        WireFault::TooLarge => None,
-        WireFault::NoRoute => None,
-        WireFault::NoMethod(path) => Some(*path),
-        WireFault::BadJson => None,
-        WireFault::BadShape => None,
-        WireFault::Memory => None,
-    }
-}
-
 // The reply to a request that is not read. It takes no memory.
 fn refusal(no: &WireNo) -> Answer
-    ensures { reply_of result ≡ record { told = fault_told no.now.fault; allow = fault_allow no.now.fault; close = no.now.close } }
+    ensures { reply_of result ≡ record { told = fault_told no.now.fault; allow = listed_path no.now.fault; close = no.now.close } }
 {
     Answer {
         told: Told {
             status: fault_status(&no.fault),
             body: Body::short(fault_body(&no.fault)),
         },
-        allow: allow_of(&no.fault),
+        allow: fault_allow(&no.fault),
         close: no.close,
     }
 }

@@ -114,17 +114,48 @@ fn a_setup_that_opens_no_host_ends_the_run(rt: HostRuntime) -> Result<(), Fail> 
     Ok(())
 }
 
+#[test]
+fn a_setup_alone_leaves_its_rows(rt: HostRuntime) -> Result<(), Fail> {
+    let alloc = rt.alloc();
+    let mut keeper = rows_in_memory(alloc);
+    let status = opened(alloc, harbour(alloc)?.as_bytes(), &mut keeper)?;
+    let mut kinds = Vec::new(alloc);
+    for row in keeper.rows() {
+        kinds.push(row.key.kind)?;
+    }
+    // The settings, the numbering, four users, a form and two contexts.
+    let wanted = [1, 2, 3, 3, 3, 3, 4, 5, 5];
+    assert!(rt; status == Status::Done && kinds.as_slice() == wanted.as_slice());
+    Ok(())
+}
+
+// Puts the text of the first tenant's numbering.
+fn put_numbering(alloc: Global, keeper: &mut MemKeeper, text: &str) -> Result<(), Fail> {
+    let row = KeptRow {
+        key: NUMBERING,
+        text: Text::from_str(alloc, text)?,
+    };
+    match keeper.apply(&[Change::Put(row)]) {
+        Ok(()) => Ok(()),
+        Err(_) => Err("a keeper".into()),
+    }
+}
+
 // A keeper of one row, the numbering of a tenant of which nothing else is kept.
 fn numbering_alone(alloc: Global) -> Result<MemKeeper, Fail> {
     let mut keeper = rows_in_memory(alloc);
-    let row = KeptRow {
-        key: NUMBERING,
-        text: Text::from_str(alloc, r#"{"at":0,"drawn":0,"last":0}"#)?,
-    };
-    match keeper.apply(&[Change::Put(row)]) {
-        Ok(()) => Ok(keeper),
-        Err(_) => Err("a keeper".into()),
+    put_numbering(alloc, &mut keeper, r#"{"at":0,"drawn":0,"last":0}"#)?;
+    Ok(keeper)
+}
+
+// A keeper of a setup's rows, with this text of the first tenant's numbering.
+pub(crate) fn numbered(alloc: Global, setup: &str, text: &str) -> Result<MemKeeper, Fail> {
+    let mut keeper = rows_in_memory(alloc);
+    if opened(alloc, setup.as_bytes(), &mut keeper)? != Status::Done {
+        return Err("a host".into());
     }
+    put_numbering(alloc, &mut keeper, text)?;
+    Ok(keeper)
 }
 
 #[test]
@@ -165,6 +196,19 @@ fn the_replies_before_a_fault_stand(rt: HostRuntime) -> Result<(), Fail> {
     };
     let (status, held) = play(alloc, &script, &at_once)?;
     assert!(rt; status == Status::WriteFault && held.is_empty());
+    Ok(())
+}
+
+#[test]
+fn a_fault_of_the_second_read_ends_the_run(rt: HostRuntime) -> Result<(), Fail> {
+    let alloc = rt.alloc();
+    let ends = Ends {
+        size: 1_000,
+        reads: &[2],
+        writes: &[],
+    };
+    let (status, held) = play(alloc, &begun(alloc)?, &ends)?;
+    assert!(rt; status == Status::ReadFault && held.is_empty());
     Ok(())
 }
 

@@ -52,7 +52,7 @@ pub fn listen<
     workers: u32,
     keeper: K,
 ) -> u8
-    requires asked { (text : List ℕ) (at : List ℕ) (count : ℕ) (store : Option (List ℕ)) → Asks words.now (Serve text at count store) → count ≡ workers }
+    requires asked { (text : List ℕ) (at : List ℕ) (count : ℕ) (store : Option (List ℕ)) → Asks words.now (Serve text at count store) → (text ≡ setup.now) × (at ≡ address.now) × (count ≡ workers) }
     requires held { K.honest keeper → (rows : List KeptRow) × K.holds keeper rows }
 {
     let mut errors = StdSink::new(rt.stderr());

@@ -107,6 +107,14 @@ mod ending_tests;
 #[cfg(test)]
 mod generated_tests;
 #[cfg(test)]
+mod hostile_tests;
+#[cfg(test)]
+mod office_tests;
+#[cfg(test)]
+mod reporting_tests;
+#[cfg(test)]
+mod serving_tests;
+#[cfg(test)]
 mod setup_text;
 #[cfg(test)]
 mod tally_tests;

@@ -9,7 +9,7 @@ use wb_base::{Keeper, MemKeeper, MemSink, MemSource, Text};
 
 pub(crate) const BRIBE: &str = "{\"context\":1,\"answers\":{\"what\":\"Bribe\",\"name\":\"Eve\"}}";
 
-const LONGER: &str =
+pub(crate) const LONGER: &str =
     "{\"context\":1,\"answers\":{\"what\":\"Bribe\",\"name\":\"Evelyn Archer-Stone\"}}";
 
 pub(crate) const ROOM: usize = 100_000;
@@ -72,6 +72,24 @@ pub(crate) fn request(alloc: Global, row: &Row) -> Result<String, Fail> {
     Ok(format!(in alloc; "{method} {path} HTTP/1.1\r\nHost: h\r\n{fields}\r\n{body}")?)
 }
 
+// A frame of which these are the second and the fourth word, and the others are 0.
+pub(crate) fn push_frame_of(
+    alloc: Global,
+    script: &mut Vec<u8>,
+    moment: u64,
+    words: (u64, u64),
+    bytes: &[u8],
+) -> Result<(), Fail> {
+    let (second, fourth) = words;
+    let size = bytes.len();
+    let line = format!(in alloc;
+        "@{moment} 0000000000000000 {second:016x} 0000000000000000 {fourth:016x} {size}\n"
+    )?;
+    push(script, line.as_bytes())?;
+    push(script, bytes)?;
+    push(script, b"\n")
+}
+
 // A frame with the words 0, `word`, 0, 0.
 pub(crate) fn push_frame(
     alloc: Global,
@@ -80,13 +98,7 @@ pub(crate) fn push_frame(
     word: u64,
     bytes: &[u8],
 ) -> Result<(), Fail> {
-    let size = bytes.len();
-    let line = format!(in alloc;
-        "@{moment} 0000000000000000 {word:016x} 0000000000000000 0000000000000000 {size}\n"
-    )?;
-    push(script, line.as_bytes())?;
-    push(script, bytes)?;
-    push(script, b"\n")
+    push_frame_of(alloc, script, moment, (word, 0), bytes)
 }
 
 // What the output has of a reply: the line, the head and the body.
@@ -102,7 +114,7 @@ pub(crate) fn push_reply(alloc: Global, output: &mut Vec<u8>, reply: Reply) -> R
     push(output, b"\n")
 }
 
-// A source of these bytes in pieces of a size, which fails at these calls.
+// A source of these bytes in pieces of a size, as far as 100,000 pieces go, which fails at these calls.
 pub(crate) fn source(
     alloc: Global,
     bytes: &[u8],
@@ -111,7 +123,7 @@ pub(crate) fn source(
 ) -> Result<MemSource, Fail>
     requires { 0 < size }
 {
-    let pieces = vec![in alloc; size; 300]?;
+    let pieces = vec![in alloc; size; bytes.len().min(100_000)]?;
     Ok(MemSource::new(bytes.to_vec(alloc)?, pieces, fail.to_vec(alloc)?))
 }
 
@@ -138,7 +150,7 @@ pub(crate) fn play_over(
     Ok((status, sink.held().to_vec(alloc)?))
 }
 
-const VIEW: &str =
+pub(crate) const VIEW: &str =
     "{\"ack_due\":\"2025-01-08\",\"acknowledged\":null,\"answers\":{\"what\":\"Bribe\"},\"context\":1,\"dialogue\":[],\"expires\":\"2025-01-31\",\"feedback_due\":\"2025-04-08\",\"feedback_given\":false,\"form\":1,\"identity\":\"sealed\",\"label\":\"\",\"number\":1,\"readers\":[1],\"received\":\"2025-01-01\",\"requests\":[],\"status\":\"new\",\"version\":1}";
 
 pub(crate) fn post<'a>(body: &'a str, reply: Reply<'a>) -> Row<'a> {
@@ -280,15 +292,19 @@ pub(crate) fn keeper_failing_at(alloc: Global, calls: Vec<u64>) -> MemKeeper {
     MemKeeper::new(Vec::new(alloc), calls)
 }
 
-// The kinds and numbers of the rows of reports that a keeper holds, beside those of the setup.
-fn kept(alloc: Global, keeper: &MemKeeper) -> Result<Vec<(u8, u32, u32)>, Fail> {
+// The kinds and numbers of the rows of reports that a keeper holds, beside so many of the setup.
+pub(crate) fn kept(
+    alloc: Global,
+    keeper: &MemKeeper,
+    setup: usize,
+) -> Result<Vec<(u8, u32, u32)>, Fail> {
     let mut keys = Vec::new(alloc);
     for row in keeper.rows() {
         if row.key.kind > 5 {
             keys.push((row.key.kind, row.key.a, row.key.b))?;
         }
     }
-    if keeper.rows().len() != keys.len() + 9 {
+    if keeper.rows().len() != usize::saturating_add(keys.len(), setup) {
         return Err("the rows of the setup".into());
     }
     Ok(keys)
@@ -340,7 +356,7 @@ fn an_expired_report_is_gone_and_so_are_its_rows(rt: HostRuntime) -> Result<(), 
         let mut keeper = rows_in_memory(alloc);
         let (status, written) = play_over(alloc, &script, &WHOLE, &mut keeper)?;
         assert!(rt; status == Status::Done && written == output, "{turns}");
-        assert!(rt; kept(alloc, &keeper)?.as_slice() == *wanted, "{turns}");
+        assert!(rt; kept(alloc, &keeper, 9)?.as_slice() == *wanted, "{turns}");
     }
     Ok(())
 }
@@ -375,7 +391,7 @@ fn a_turn_that_the_keeper_fails_is_lost_and_can_be_made_again(rt: HostRuntime) -
     let (status, written) = play_over(alloc, &script, &WHOLE, &mut keeper)?;
     assert!(rt; status == Status::Done);
     assert!(rt; written == output);
-    assert!(rt; kept(alloc, &keeper)?.is_empty());
+    assert!(rt; kept(alloc, &keeper, 9)?.is_empty());
     assert!(rt; keeper.faults() == 2);
     Ok(())
 }
