@@ -103,6 +103,19 @@ fn form_of(alloc: Global, count: usize) -> Result<String, Fail> {
     Ok(body)
 }
 
+// The setting of a new form, with these fields.
+fn setting<'a>(fields: &'a str, body: &'a str, reply: Reply<'a>) -> (u64, Row<'a>) {
+    (
+        11,
+        Row {
+            method: "PUT",
+            path: "/t/1/admin/forms/2",
+            fields,
+            ..post(body, reply)
+        },
+    )
+}
+
 #[test]
 fn a_form_has_256_fields_at_most(rt: HostRuntime) -> Result<(), Fail> {
     let alloc = rt.alloc();
@@ -114,18 +127,12 @@ fn a_form_has_256_fields_at_most(rt: HostRuntime) -> Result<(), Fail> {
             "X-Session: 1-0000000000000000000000000000000a\r\nContent-Length: {}\r\n",
             body.len()
         )?;
-        let row = Row {
-            method: "PUT",
-            path: "/t/1/admin/forms/2",
-            fields: fields.as_str(),
-            ..post(body.as_str(), reply)
-        };
         let rows = [
             login(
                 "{\"user\":\"dan\",\"password\":\"dan-pass\"}",
                 "{\"role\":\"admin\",\"session\":\"1-0000000000000000000000000000000a\"}",
             ),
-            (11, row),
+            setting(fields.as_str(), body.as_str(), reply),
         ];
         assert!(rt; gets_its_replies(alloc, &rows)?, "{count}");
     }
