@@ -109,6 +109,8 @@ mod generated_tests;
 #[cfg(test)]
 mod hostile_tests;
 #[cfg(test)]
+mod keeping_tests;
+#[cfg(test)]
 mod office_tests;
 #[cfg(test)]
 mod reporting_tests;

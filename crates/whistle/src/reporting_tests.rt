@@ -93,6 +93,23 @@ pub(crate) fn script_on(alloc: Global, setup: &str, turns: &[Turn]) -> Result<Sc
     Ok(script)
 }
 
+// The status and the output of a script that comes in pieces of a size, over a keeper.
+pub(crate) fn output_over(
+    alloc: Global,
+    script: &Script,
+    size: usize,
+    keeper: &mut MemKeeper,
+) -> Result<(Status, Vec<u8>), Fail>
+    requires { 0 < size }
+{
+    let ends = Ends {
+        size,
+        reads: &[],
+        writes: &[],
+    };
+    play_over(alloc, &script.bytes, &ends, keeper)
+}
+
 // Whether a script that comes in pieces of a size has its output, over a keeper.
 fn has_output(
     alloc: Global,
@@ -102,12 +119,7 @@ fn has_output(
 ) -> Result<bool, Fail>
     requires { 0 < size }
 {
-    let ends = Ends {
-        size,
-        reads: &[],
-        writes: &[],
-    };
-    let (status, held) = play_over(alloc, &script.bytes, &ends, keeper)?;
+    let (status, held) = output_over(alloc, script, size, keeper)?;
     Ok(status == Status::Done && held.as_slice() == script.output.as_slice())
 }
 
@@ -349,34 +361,6 @@ const DOCKED: &[Turn] = &[
     ((2_584_800, 5, 5), 0, HEALTH, HEALTHY),
 ];
 
-const SAFETY: Asked = (
-    "POST /t/1/reports",
-    r#"{"context":2,"answers":{"what":"x","name":"Eve"}}"#,
-);
-
-const SECOND_2: Told = (201, r#"{"number":2,"receipt":"0000000000000002"}"#);
-
-const RETURNING_2: Asked = ("POST /t/1/sessions", r#"{"receipt":"0000000000000002"}"#);
-
-const REPORTER_3: &str = r#"{"role":"reporter","session":"3-00000000000000000000000000000003"}"#;
-
-const MORE: Asked = ("POST /t/1/report/comments", r#"{"text":"More"}"#);
-
-const LOST: Told = (503, r#"{"code":"keeper"}"#);
-
-const MORE_VIEW: &str =
-    r#"{"acknowledged":null,"answers":{"what":"x"},"dialogue":[{"at":1736553601,"from":"reporter","kind":"comment","text":"More"}],"expires":"2025-02-09","feedback_due":"2025-04-17","form":1,"identity":null,"number":2,"received":"2025-01-10","status":"new","version":1}"#;
-
-// A keeper fails while a comment comes and another report is due to go. Both are done when the comment comes again.
-const FAILED: &[Turn] = &[
-    ((0, 1, 1), 0, SAFETY, RECEIVED_1),
-    ((863_000, 2, 2), 0, PLAIN, SECOND_2),
-    ((863_100, 3, 3), 0, RETURNING_2, (201, REPORTER_3)),
-    ((864_000, 4, 4), 3, MORE, LOST),
-    ((864_001, 5, 5), 3, MORE, MADE),
-    ((864_001, 6, 6), 3, OWN, (200, MORE_VIEW)),
-];
-
 // How many turns are made, and the kinds and numbers of the rows of reports that they leave.
 type Leaving = (usize, &'static [(u8, u32, u32)]);
 
@@ -386,16 +370,9 @@ const DOCKED_ROWS: &[Leaving] = &[
     (5, &[]),
 ];
 
-const FAILED_ROWS: &[Leaving] = &[
-    (3, &[(6, 1, 1), (6, 2, 1), (7, 1, 0)]),
-    (4, &[(6, 1, 1), (6, 2, 1), (7, 1, 0)]),
-    (5, &[(6, 2, 1), (6, 2, 2)]),
-    (6, &[(6, 2, 1), (6, 2, 2)]),
-];
-
 // Whether a script has its output over a keeper that fails at these calls, and leaves these rows of reports beside so many of
 // the setup, whatever the pieces that it comes in.
-fn leaves(
+pub(crate) fn leaves(
     alloc: Global,
     script: &Script,
     fail: &[u64],
@@ -428,17 +405,5 @@ fn a_receipt_is_taken_in_its_tenant_alone(rt: HostRuntime) -> Result<(), Fail> {
     let alloc = rt.alloc();
     let scripts = [ALIKE, APART];
     assert_eq!(rt; first_unlike(alloc, &two_tenants(alloc)?, &scripts)?, None);
-    Ok(())
-}
-
-#[test]
-fn what_the_keeper_failed_to_keep_is_kept_when_it_comes_again(rt: HostRuntime) -> Result<(), Fail> {
-    let alloc = rt.alloc();
-    let setup = harbour(alloc)?;
-    for (turns, rows) in FAILED_ROWS {
-        // Two calls of the keeper open the host, and the next two keep the reports.
-        let script = script_on(alloc, &setup, first(FAILED, *turns))?;
-        assert!(rt; leaves(alloc, &script, &[5], 9, rows)?, "{turns}");
-    }
     Ok(())
 }
