@@ -51,7 +51,6 @@ later_empty at g o = record {
   receipts = o.receipts;
   marks = o.marks;
   sessions = o.sessions;
-  logins = o.logins;
 }
 
 module _ (setup : Lists) (h : Held) (read : AreRead h)

@@ -10,7 +10,7 @@ use Rattle.wb_model.specs.Tables.{Case, Session, has_number, report}
 use Rattle.wb_model.specs.Host.{Tables}
 use Rattle.wb_model.specs.Tenants.{Tenancy, Hosts}
 use Rattle.wb_model.specs.Legal.{AreLegal}
-use Rattle.wb_model.specs.Opened.{Ascend, AreWithin, Apart, has_turn, entries_of, IsNumbered, AreOpened, Opened}
+use Rattle.wb_model.specs.Opened.{Ascend, AreWithin, Apart, has_turn, entries_of, is_numbering, AreOpened, Opened}
 use Rattle.wb_model.specs.ByVerdicts.{AreByVerdicts}
 use Rattle.wb_model.specs.Past.{Past, Opening, Turn, turns, now, last, logins, stands, standing_sessions, tables, is_lost, held}
 use Rattle.wb_model.specs.Pasts.{AllOpened, part, tenants, held_tenancy}
@@ -53,7 +53,7 @@ sessions_held (Turn e past) =
     (λ s h. logins_within (Turn e past) s (held_filter (stands (Turn e past) (now (Turn e past))) (logins (Turn e past)) s h).0))
 
 logins_held : (past : Past Opened) → Apart has_turn (held past).plain.sessions
-logins_held (Opening o) = o.sound.logins
+logins_held (Opening o) = subst (Apart has_turn) (sym o.sound.sessions) tt
 logins_held (Turn e past) =
     either (λ t. Apart has_turn t.plain.sessions) (is_lost e.what) (held past) (tables (Turn e past) (now (Turn e past)))
     (logins_held past) (apart_sessions (Turn e past) (now (Turn e past)))
@@ -92,9 +92,8 @@ apart_numbers : (k : ℕ) (cs : List Case) → Ascend k cs → Apart has_number 
 apart_numbers k [] up = tt
 apart_numbers k (c ∷ cs) up = ((λ n is. none_above n c.number cs (let same : c.number ≡ n = grind (arith, nat_tests, is) in omega (arith, same)) up.1), apart_numbers c.number cs up.1)
 
-few_drawn : (n : Numbering) → IsNumbered n → n.drawn ≤ n.last
-few_drawn n (inl is) = omega (arith, is.1)
-few_drawn n (inr is) = is.1
+few_drawn : (n : Numbering) → is_numbering n ≡ true → n.drawn ≤ n.last
+few_drawn n is = grind (arith, nat_tests, is)
 
 few_requests : (offset : ℤ) (time : ℕ) (cs : List Case) → AreLegal offset time cs → AreFewRequests cs
 few_requests offset time [] legal = tt

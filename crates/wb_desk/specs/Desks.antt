@@ -1,5 +1,5 @@
 -- What holds of a desk.
-use Rattle.std.specs.Prelude.{◌≤◌, ◌+◌, ℕ}
+use Rattle.std.specs.Prelude.{◌≤◌, ℕ}
 use Rattle.wb_model.specs.ByVerdicts.{AreByVerdicts}
 use Rattle.wb_model.specs.Past.{Past}
 use Rattle.wb_model.specs.Pasts.{AllOpened, part}
@@ -15,9 +15,9 @@ pub record HasPast (h : Hosts) : Type 0 where
   pub verdicts : (t : ℕ) → AreByVerdicts t (part t past)
   pub stands : StandsFor h past
 
--- a desk has such a past, and its tenants are set up right; each turn makes one session at most, and one may stand before the first
+-- a desk has such a past, and its tenants are set up right; each turn makes one session at most
 pub record IsDesk (d : Standing) : Type 0 where
   pub past : HasPast (hosts_of d)
   pub set_up : AreSetUpRight 0 d.tenants
   pub most : d.turns ≤ 1_000_000_000_000_000
-  pub sessions : sessions_at d.tenants ≤ d.turns + 1
+  pub sessions : sessions_at d.tenants ≤ d.turns

@@ -13,7 +13,7 @@ use Rattle.wb_model.specs.Trails.{expires, feedback_due}
 use Rattle.wb_model.specs.Tables.{TheReporter}
 use Rattle.wb_model.specs.Requests.{Unchecked}
 use Rattle.wb_model.specs.OnReports.{refusal_on}
-use Rattle.wb_model.specs.Starter.{starter_registry}
+use Rattle.wb_model.proofs.Starter.{starter_registry}
 use Rattle.wb_model.specs.Past.{Past, registry, trail, case_of}
 use Rattle.wb_model.specs.Opened.{Opened}
 use Rattle.wb_model.proofs.RowPasts.{opened, did, at, does, refusal}

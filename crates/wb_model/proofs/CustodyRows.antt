@@ -17,7 +17,7 @@ use Rattle.wb_model.specs.Moves.{custody_fault}
 use Rattle.wb_model.specs.Acts.{is_full}
 use Rattle.wb_model.specs.Targets.{finds}
 use Rattle.wb_model.specs.Changes.{Says}
-use Rattle.wb_model.specs.Starter.{starter_registry}
+use Rattle.wb_model.proofs.Starter.{starter_registry}
 use Rattle.wb_model.specs.Past.{Past, trail}
 use Rattle.wb_model.specs.Opened.{Opened}
 use Rattle.wb_model.proofs.RowPasts.{opened_case, opened, did, refusal, answer, ask, read, decide}

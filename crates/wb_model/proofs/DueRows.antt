@@ -16,7 +16,7 @@ use Rattle.wb_model.specs.ViewRows.{all_due}
 use Rattle.serde_json.specs.Data.{Data, string, boolean}
 use Rattle.wb_model.specs.Json.{object_of, whole, date}
 use Rattle.wb_model.specs.ListViews.{due_data}
-use Rattle.wb_model.specs.Starter.{starter_registry}
+use Rattle.wb_model.proofs.Starter.{starter_registry}
 use Rattle.wb_model.specs.Past.{Past, Turn, live, live_reports, trail, standing_sessions}
 use Rattle.wb_model.specs.Opened.{Opened}
 use Rattle.wb_model.proofs.RowPasts.{after, opened_case, opened, did}

@@ -15,7 +15,6 @@ use Rattle.wb_model.specs.Tables.{Registry, context, Plain, Case, Session, Who, 
 use Rattle.wb_model.specs.Targets.{Target, Nobody, Alone, On, same_role, finds, named_case, user_target, own_case, reporter_target, some_user_target, who_target, session_target, entering, returning, unasked, needed_target, target}
 use Rattle.wb_model.specs.Commands.{Need, Anyone, Any_session, Own, Staff, Names, need, has_right}
 use Rattle.wb_model.specs.Requests.{Request, Outcome}
-use Rattle.wb_model.specs.Opened.{AreKeeping}
 use Rattle.wb_base.specs.Days.{day_of}
 use Rattle.wb_base.specs.Terms.{expiry}
 use Rattle.jiff_core.proofs.SignedLemmas.{signed_arith}
@@ -32,6 +31,11 @@ use Rattle.wb_model.specs.Host.{change_of}
 use Rattle.wb_model.proofs.Effects.{IsSubmitted, submitted, set_is}
 use Rattle.wb_model.proofs.Found.{Held, find_held}
 use Rattle.wb_model.proofs.LiveActs.{LeavesLive, doing_leaves}
+
+-- each context keeps its reports for a day at least
+abbrev pub AreKeeping : List ContextItem → Type 0
+AreKeeping [] = Unit {0}
+AreKeeping (c ∷ cs) = (1 ≤ c.retention) × AreKeeping cs
 
 -- what is opened is live, what is noted is on a report that is there and leaves it live, and a session that begins lasts
 abbrev pub Fits : At → Plain → Change → Type 0

@@ -20,7 +20,7 @@ use Rattle.std.specs.declared.cmp.Ordering.TheVariants.{Less, Equal, Greater}
 use Rattle.wb_list.specs.Keyed.{insert_item}
 use Rattle.wb_model.specs.declared.registry.ContextItem.{ContextItem}
 use Rattle.wb_model.specs.Settings.{OfContext, context_item, Proposal, ToTenant, ToUser, ToContext, ToForm, setting_of}
-use Rattle.wb_model.specs.Opened.{AreKeeping}
+use Rattle.wb_model.proofs.Fitting.{AreKeeping}
 use Rattle.wb_model.specs.Legal.{AreSound}
 
 pub insert_keeps : (cs : List ContextItem) (item : ContextItem) → AreKeeping cs → 1 ≤ item.retention → AreKeeping (insert_item nat_cmp (λ (x : ContextItem). x.id) cs item)

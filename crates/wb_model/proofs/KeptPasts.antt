@@ -174,8 +174,7 @@ tables_opened t at past verdicts le =
       forms = is.made.forms;
       receipts = is.receipts;
       marks = λ r. live_marks past (is_live (registry past).settings (now past)) r (numbers past);
-      sessions = tt;
-      logins = tt;
+      sessions = refl;
     }
 
 -- what is held of a past that verdicts made is what a host may be opened with, from its greatest moment on
@@ -193,8 +192,7 @@ held_opened t at (Opening o) verdicts le = record {
   forms = o.sound.forms;
   receipts = o.sound.receipts;
   marks = o.sound.marks;
-  sessions = tt;
-  logins = tt;
+  sessions = refl;
 }
 held_opened t at (Turn e past) verdicts le = by e.what (held_opened t at past verdicts.1) (tables_opened t at (Turn e past) verdicts) le
   where

@@ -5,7 +5,7 @@ use Rattle.wb_base.specs.declared.rows.Row.{Row}
 use Rattle.wb_model.specs.declared.entry.Actor.TheVariants as actors
 use Rattle.wb_model.specs.declared.entry.Deed.TheVariants as deeds
 use Rattle.wb_model.specs.Tables.{Case, is_live}
-use Rattle.wb_model.specs.Starter.{starter_registry, starter_opening}
+use Rattle.wb_model.proofs.Starter.{starter_registry, starter_opening}
 use Rattle.wb_model.specs.Past.{Opening}
 use Rattle.wb_model.specs.Rows.{rows}
 

@@ -14,10 +14,10 @@ use Rattle.wb_model.specs.Tables.{Case, report}
 use Rattle.wb_model.specs.Host.{Tables}
 use Rattle.wb_model.specs.Requests.{submission_fault, late_fault, mark}
 use Rattle.wb_model.specs.Legal.{ascends_from}
-use Rattle.wb_model.specs.Opened.{entries_of}
+use Rattle.wb_model.specs.Opened.{entries_of, is_numbering}
 use Rattle.wb_model.specs.SetUps.{are_apart}
-use Rattle.wb_model.specs.KeptRules.{is_named, has_public_answers, are_valid_after, is_numbering, same_receipt, AreKept}
-use Rattle.wb_model.specs.Starter.{starter_registry, starter_tables, starter_form}
+use Rattle.wb_model.specs.KeptRules.{is_named, has_public_answers, are_valid_after, same_receipt, AreKept}
+use Rattle.wb_model.proofs.Starter.{starter_registry, starter_tables, starter_form}
 use Rattle.wb_model.proofs.RowPasts.{after}
 use Rattle.wb_model.proofs.SetUpRows.{starter_lists, starter_is_set_up}
 

@@ -3,6 +3,7 @@ pub mod Dialogue
 pub mod Effects
 pub mod Unwinding
 pub mod AllTenants
+pub mod Starter
 pub mod StarterForm
 pub mod Drawn
 pub mod LiveActs

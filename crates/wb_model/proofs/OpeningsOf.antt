@@ -1,12 +1,11 @@
 -- What the rules of a setup, and those of kept rows, let through is what a host may be opened with.
-use Rattle.std.proofs.Common.{◌≡◌, inl, inr, ℕ, ◌≤◌, Bool, true, false, cond, eqb, not, List, [], ◌∷◌, Some, None, refl, sym, ap, ◌∙◌, subst, arith, ℤ}
+use Rattle.std.proofs.Common.{◌≡◌, ℕ, ◌≤◌, Bool, true, false, cond, eqb, not, List, [], ◌∷◌, Some, None, refl, sym, ap, ◌∙◌, subst, arith, ℤ}
 use Rattle.std.specs.Prelude.{◌==◌, ◌&&◌, ◌||◌, nat_lt, nat_le, map, filter, find, is_some, unwrap_or}
 use Rattle.std.specs.List.{list_all, list_any}
 use Rattle.std.proofs.lemmas.Bool.Decides.{nat_tests}
 use Rattle.wb_base.specs.declared.words.Digest.{Digest}
 use Rattle.wb_base.specs.AnswerList.{is_text}
 use Rattle.wb_base.specs.FormFaults.{is_good}
-use Rattle.wb_model.specs.declared.numbering.Numbering.{Numbering}
 use Rattle.wb_model.specs.declared.registry.ContextItem.{ContextItem}
 use Rattle.wb_model.specs.declared.registry.FormItem.{FormItem}
 use Rattle.wb_model.specs.declared.registry.Lists.{Lists}
@@ -19,9 +18,9 @@ use Rattle.wb_model.specs.Requests.{form_of_trail}
 use Rattle.wb_model.specs.Host.{Tables}
 use Rattle.wb_model.specs.Fits.{is_between, has_bytes}
 use Rattle.wb_model.specs.Legal.{ascends, ascends_from, are_readers, is_legal, last_at, AreSound, IsSound, AreLegal}
-use Rattle.wb_model.specs.Opened.{Ascend, AtMost, AreStarters, AreVersions, AreOrdered, Apart, has_turn, begun, AreBegunBy, HaveForms, IsNumbered, AreOpened}
+use Rattle.wb_model.specs.Opened.{Ascend, AtMost, AreVersions, AreOrdered, Apart, begun, AreBegunBy, HaveForms, AreOpened}
 use Rattle.wb_model.specs.SetUps.{is_offset, is_tenant_item, is_form_item, is_context_item, are_apart, are_ordered, is_user_before, is_version_before, is_context_before, AreSetUp}
-use Rattle.wb_model.specs.KeptRules.{is_numbering, same_receipt, AreKept}
+use Rattle.wb_model.specs.KeptRules.{same_receipt, AreKept}
 use Rattle.wb_model.specs.Openings.{no_settings, registry_of, empty_tables}
 use Rattle.wb_model.proofs.Receipts.{same_text}
 
@@ -127,7 +126,7 @@ set_up_opened lists up t = record {
   sound = registry_sound lists t up;
   versions = registry_versions lists t up;
   ordered = registry_ordered lists t up;
-  numbering = inl (refl, refl, refl);
+  numbering = refl;
   drawn = omega arith;
   ascend = tt;
   most = tt;
@@ -136,8 +135,7 @@ set_up_opened lists up t = record {
   forms = tt;
   receipts = tt;
   marks = λ r. refl;
-  sessions = tt;
-  logins = tt;
+  sessions = refl;
 }
 
 -- ---- kept rows
@@ -185,22 +183,12 @@ kept_apart (c ∷ cs) e =
     let parts = both (not (list_any (same_receipt c) cs)) (are_apart same_receipt cs) e in
     ((λ k is. none_other c cs k (grind (arith, parts.0)) is), kept_apart cs parts.1)
 
-kept_numbered : (n : Numbering) → is_numbering n ≡ true → IsNumbered n
-kept_numbered n e = by ((n.at == 0) && (n.drawn == 0) && (n.last == 0)) refl e
-  where
-    by : (b : Bool) → ((n.at == 0) && (n.drawn == 0) && (n.last == 0)) ≡ b → (b || (nat_le 1 n.drawn && nat_le n.drawn n.last)) ≡ true → IsNumbered n
-    by true is f =
-        let whole = both ((n.at == 0) && (n.drawn == 0)) (n.last == 0) is in
-        let rest = both (n.at == 0) (n.drawn == 0) whole.0 in
-        inl (grind (arith, nat_tests, rest.0), grind (arith, nat_tests, rest.1), grind (arith, nat_tests, whole.1))
-    by false is f = let parts = both (nat_le 1 n.drawn) (nat_le n.drawn n.last) f in inr (at_most 1 n.drawn parts.0, at_most n.drawn n.last parts.1)
-
 pub kept_opened : (at : ℕ) (lists : Lists) (tenant : ℕ) (t : Tables) → AreKept at lists tenant t → AreOpened at t
 kept_opened at lists tenant t kept = record {
   sound = subst IsSound (sym kept.registry) (registry_sound lists tenant kept.set_up);
   versions = subst (λ (g : Registry). AreVersions g.forms) (sym kept.registry) (registry_versions lists tenant kept.set_up);
   ordered = subst AreOrdered (sym kept.registry) (registry_ordered lists tenant kept.set_up);
-  numbering = kept_numbered t.plain.numbering kept.numbering;
+  numbering = kept.numbering;
   drawn = at_most t.plain.numbering.at at kept.drawn;
   ascend = kept_ascend 0 t.plain.cases kept.keys;
   most = kept_most t.plain.numbering.last t.plain.cases kept.numbers;
@@ -209,6 +197,5 @@ kept_opened at lists tenant t kept = record {
   forms = kept_forms t.plain.registry.forms t.plain.cases kept.forms;
   receipts = kept_apart t.plain.cases kept.receipts;
   marks = kept.marks;
-  sessions = subst AreStarters (sym kept.sessions) tt;
-  logins = subst (Apart has_turn) (sym kept.sessions) tt;
+  sessions = kept.sessions;
 }

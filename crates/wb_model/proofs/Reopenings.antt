@@ -42,7 +42,7 @@ nothing_opened at t = record {
   sound = record { notice = omega arith; contexts = tt };
   versions = tt;
   ordered = record { users = refl; forms = refl; contexts = refl };
-  numbering = inl (refl, refl, refl);
+  numbering = refl;
   drawn = omega arith;
   ascend = tt;
   most = tt;
@@ -51,8 +51,7 @@ nothing_opened at t = record {
   forms = tt;
   receipts = tt;
   marks = λ r. refl;
-  sessions = tt;
-  logins = tt;
+  sessions = refl;
 }
 
 pub left_opened : (past : Past AllOpened) → ((t : ℕ) → AreByVerdicts t (part t past)) → (t : ℕ) → AreOpened (left_time past) (left_tables past t)

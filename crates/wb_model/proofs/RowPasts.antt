@@ -1,5 +1,5 @@
 -- Pasts for rows: the starter tenant with one report, what refuses a command there, and what is answered.
-use Rattle.std.proofs.Common.{inr, Bool, cond, eqb, ◌≡◌, ℕ, ◌+◌, true, false, List, [], ◌∷◌, Option, Some, None, refl, arith, pos}
+use Rattle.std.proofs.Common.{Bool, cond, eqb, ◌≡◌, ℕ, ◌+◌, true, false, List, [], ◌∷◌, Option, Some, None, refl, arith, pos}
 use Rattle.std.specs.Prelude.{codes, is_some}
 use Rattle.jiff_core.specs.Calendar.{days_from_civil, day_count, days_of_years, days_of_months}
 use Rattle.wb_base.specs.Days.{date_at}
@@ -19,7 +19,7 @@ use Rattle.wb_model.specs.Requests.{Unchecked}
 use Rattle.wb_model.specs.Changes.{At, Answer}
 use Rattle.wb_model.specs.OnReports.{refusal_on, answer_on}
 use Rattle.wb_model.specs.Effects.{Effect, effect_of}
-use Rattle.wb_model.specs.Starter.{starter_registry, starter_tables}
+use Rattle.wb_model.proofs.Starter.{starter_registry, starter_tables}
 use Rattle.wb_model.specs.Past.{Past, Opening, Turn, registry, trail, case_of}
 use Rattle.wb_model.specs.Legal.{is_legal, IsSound}
 use Rattle.wb_model.specs.Opened.{entries_of, Opened}
@@ -61,11 +61,10 @@ opened = Opening (record {
     plain = record starter_tables.plain {
       numbering = record { at = after 0; drawn = 1; last = 1 };
       cases = opened_case ∷ [];
-      sessions = [];
     };
     sealed = opened_sealed;
   };
-  sound = record { sound = starter_sound; versions = ((omega arith, omega arith), tt); ordered = record { users = refl; forms = refl; contexts = refl }; numbering = inr (omega arith, omega arith); drawn = omega arith; ascend = (omega arith, tt); most = (omega arith, tt); begun = (omega arith, tt); legal = ((opened_legal, omega arith), tt); forms = (refl, tt); receipts = ((λ k is. refl), tt); marks = opened_marks; sessions = tt; logins = tt };
+  sound = record { sound = starter_sound; versions = ((omega arith, omega arith), tt); ordered = record { users = refl; forms = refl; contexts = refl }; numbering = refl; drawn = omega arith; ascend = (omega arith, tt); most = (omega arith, tt); begun = (omega arith, tt); legal = ((opened_legal, omega arith), tt); forms = (refl, tt); receipts = ((λ k is. refl), tt); marks = opened_marks; sessions = refl };
 })
 
 abbrev pub did : ℕ → ℕ → Command → Past Opened → Past Opened

@@ -17,7 +17,7 @@ use Rattle.wb_model.specs.Targets.{Nobody, Alone, On, entering, target}
 use Rattle.wb_model.specs.Changes.{At}
 use Rattle.wb_model.specs.Requests.{Checked}
 use Rattle.wb_model.specs.Submissions.{drawing, submission_refusal}
-use Rattle.wb_model.specs.Starter.{starter_registry, starter_tables, starter_salt, starter_user}
+use Rattle.wb_model.proofs.Starter.{starter_registry, starter_tables, starter_salt, starter_user}
 use Rattle.wb_model.proofs.RowPasts.{after}
 
 -- ---- texts

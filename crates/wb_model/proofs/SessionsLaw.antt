@@ -18,7 +18,7 @@ use Rattle.wb_model.specs.Rules.{change_alone}
 use Rattle.wb_model.proofs.Effects.{set_is}
 use Rattle.wb_model.specs.Host.{cases_after, ends, made, remaining, sessions_after}
 use Rattle.wb_model.specs.Past.{Past, Opening, Turn, registry, last, trail, change_at, live_reports, logins, is_ended, stands, standing_sessions, plain, turns, now, at_of, who_of, report_of, about, change_by, change_in, trail_of, drew}
-use Rattle.wb_model.specs.Opened.{Opened, IsWithin, AreWithin, IsOfUser, AreStarters}
+use Rattle.wb_model.specs.Opened.{Opened, IsWithin, AreWithin}
 use Rattle.wb_model.proofs.Found.{filter_both, filter_only, Held, held_filter, filter_held, held_append}
 use Rattle.wb_model.proofs.Fitting.{Fits}
 use Rattle.wb_model.proofs.PastLaw.{below_there, pushed, there_noted}
@@ -43,15 +43,6 @@ who_more k l (TheReporter n) le within = omega (arith, le, within)
 
 pub more_within : (turn k l : ℕ) (s : Session) → k ≤ l → Within turn k s → Within (turn + 1) l s
 more_within turn k l s le within = (let before : s.turn ≤ turn = within.0 in omega (arith, before), who_more k l s.who le within.1)
-
--- an opening's sessions are of turn 0 and of no report
-starters_within : (k : ℕ) (ss : List Session) → AreStarters ss → AreWithin 0 k ss
-starters_within k [] are = tt
-starters_within k (s ∷ ss) are = ((omega (arith, are.0.0), by s.who are.0.1), starters_within k ss are.1)
-  where
-    by : (w : Who) → IsOfUser w → IsWithin k w
-    by (TheUser u) is = tt
-    by (TheReporter n) is = absurd is
 
 pub are_within : (turn k : ℕ) (ss : List Session) (s : Session) → AreWithin turn k ss → Held s ss → Within turn k s
 are_within turn k [] s are h = absurd h
@@ -97,7 +88,7 @@ last_more false n = omega arith
 
 -- no login is of a turn or of a report to come
 pub logins_within : (past : Past Opened) (s : Session) → Held s (logins past) → Within (turns past) (last past) s
-logins_within (Opening o) s h = are_within 0 o.tables.plain.numbering.last o.tables.plain.sessions s (starters_within o.tables.plain.numbering.last o.tables.plain.sessions o.sound.sessions) h
+logins_within (Opening o) s h = absurd (subst (λ ss. Held s ss) o.sound.sessions h)
 logins_within (Turn e past) s h = by (held_append (logins past) (filter (lasts time (live_reports past time)) (made (change_at past e))) s h) (logins_within past s)
   where
     time : ℕ

@@ -13,7 +13,7 @@ use Rattle.wb_model.specs.declared.setting.AdminFault.TheVariants as admin
 use Rattle.wb_model.specs.Refusals.{not_found, form_faulty}
 use Rattle.wb_model.specs.Faults.{admin_told}
 use Rattle.wb_model.specs.Settings.{ToTenant, ToUser, ToContext, ToForm, user_fault, user_item, form_fault, next_version, proposal_refusal, ascending, ends_sessions}
-use Rattle.wb_model.specs.Starter.{starter_registry, starter_form, starter_salt}
+use Rattle.wb_model.proofs.Starter.{starter_registry, starter_form, starter_salt}
 
 -- ---- users
 

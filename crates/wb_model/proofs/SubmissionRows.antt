@@ -13,7 +13,7 @@ use Rattle.wb_model.specs.Requests.{Outcome, Checked}
 use Rattle.wb_model.specs.Submissions.{Drawing, submission_refusal}
 use Rattle.wb_model.specs.Effects.{effect_of}
 use Rattle.wb_model.specs.Rules.{refusal_alone}
-use Rattle.wb_model.specs.Starter.{starter_registry}
+use Rattle.wb_model.proofs.Starter.{starter_registry}
 use Rattle.wb_model.specs.Past.{Past, Turn, last, numbering, day, drawn}
 use Rattle.wb_model.specs.Opened.{Opened}
 use Rattle.wb_model.proofs.RowPasts.{after, at}

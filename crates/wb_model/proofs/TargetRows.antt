@@ -8,7 +8,7 @@ use Rattle.wb_model.specs.Refusals.{not_found, no_session, wrong_role, wrong_rig
 use Rattle.wb_model.specs.Tables.{Plain, TheUser, TheReporter}
 use Rattle.wb_model.specs.Commands.{Own, Staff, Names, Free, To_share}
 use Rattle.wb_model.specs.Targets.{Nobody, On, entering, returning, who_target, target}
-use Rattle.wb_model.specs.Starter.{starter_registry, starter_tables, starter_salt, starter_user}
+use Rattle.wb_model.proofs.Starter.{starter_registry, starter_tables, starter_salt, starter_user}
 use Rattle.wb_model.proofs.RowPasts.{opened_case}
 
 -- the starter tenant with one report, which user 1 reads

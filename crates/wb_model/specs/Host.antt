@@ -167,7 +167,3 @@ reply_to h f = reply_by (ruling_at h f) (purge_at h f).sealed
 -- the host after a turn
 abbrev pub host_after : Host → Frame → Host
 host_after h f = record { turns = h.turns + 1; now = time_at h f; tables = tables_after (purge_at h f) (at_frame h f) f.asked }
-
--- the host after a turn that was answered with want of memory or a keeper's fault: its purges are made at the next turn
-abbrev pub host_lost : Host → Frame → Host
-host_lost h f = record { turns = h.turns + 1; now = time_at h f; tables = h.tables }

@@ -1,5 +1,5 @@
 -- What the rules of kept rows give of one tenant's tables, at the greatest moment of the entries and draws of all.
-use Rattle.std.specs.Prelude.{◌≡◌, is_some, is_none, ℕ, ◌==◌, ◌&&◌, ◌||◌, not, nat_le, Bool, true, false, List, [], ◌∷◌, length, map, Option, Some, None}
+use Rattle.std.specs.Prelude.{◌≡◌, is_some, is_none, ℕ, ◌==◌, ◌&&◌, not, nat_le, Bool, true, false, List, [], ◌∷◌, length, map, Option, Some, None}
 use Rattle.std.specs.List.{list_all}
 use Rattle.std.specs.Option.{option_map_or}
 use Rattle.wb_base.specs.declared.callers.Role.{Role}
@@ -10,7 +10,6 @@ use Rattle.wb_model.specs.declared.entry.Actor.TheVariants as actors
 use Rattle.wb_model.specs.declared.entry.Deed.{Deed}
 use Rattle.wb_model.specs.declared.entry.Deed.TheVariants as deeds
 use Rattle.wb_model.specs.declared.entry.Entry.{Entry}
-use Rattle.wb_model.specs.declared.numbering.Numbering.{Numbering}
 use Rattle.wb_model.specs.declared.registry.FormItem.{FormItem}
 use Rattle.wb_model.specs.declared.registry.Lists.{Lists}
 use Rattle.wb_model.specs.declared.registry.UserItem.{UserItem}
@@ -20,7 +19,7 @@ use Rattle.wb_model.specs.Targets.{same_role}
 use Rattle.wb_model.specs.Requests.{form_of_trail, submission_fault, late_fault, mark}
 use Rattle.wb_model.specs.Host.{Tables}
 use Rattle.wb_model.specs.Legal.{ascends_from, is_legal, last_at}
-use Rattle.wb_model.specs.Opened.{begun, entries_of}
+use Rattle.wb_model.specs.Opened.{begun, entries_of, is_numbering}
 use Rattle.wb_model.specs.SetUps.{are_apart, AreSetUp}
 use Rattle.wb_model.specs.Openings.{registry_of}
 
@@ -61,11 +60,7 @@ abbrev pub are_valid_after : List FormItem → List Entry → Option Answered �
 are_valid_after forms trail None = true
 are_valid_after forms trail (Some given) = not (length given == 0) && option_map_or (λ (x : FormItem). is_none (late_fault x.form (answers trail) given)) (form_of_trail trail forms) false
 
--- ---- numbers and receipts
-
--- no number was drawn, or some were, and some of them on the day of the last draw
-abbrev pub is_numbering : Numbering → Bool
-is_numbering n = ((n.at == 0) && (n.drawn == 0) && (n.last == 0)) || (nat_le 1 n.drawn && nat_le n.drawn n.last)
+-- ---- receipts
 
 abbrev pub same_receipt : Case → Case → Bool
 same_receipt c d = is_text (receipt c.trail) (receipt d.trail)

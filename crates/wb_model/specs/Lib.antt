@@ -38,7 +38,6 @@ pub mod Fits
 pub mod SetUps
 pub mod Openings
 pub mod KeptRules
-pub mod Starter
 pub mod FrameTexts
 pub mod Heads
 pub mod Routes

@@ -1,5 +1,5 @@
 -- What a host of one tenant may be opened with.
-use Rattle.std.specs.Prelude.{is_some, map, ◌≡◌, ◌⊎◌, find, ℕ, ◌==◌, ◌<◌, ◌≤◌, Bool, true, List, [], ◌∷◌, Option, Some, None}
+use Rattle.std.specs.Prelude.{is_some, map, ◌≡◌, find, ℕ, ◌==◌, ◌&&◌, ◌||◌, ◌<◌, ◌≤◌, nat_le, Bool, true, List, [], ◌∷◌, Option, Some, None}
 use Rattle.wb_model.specs.declared.entry.Entry.{Entry}
 use Rattle.wb_model.specs.declared.numbering.Numbering.{Numbering}
 use Rattle.wb_model.specs.declared.registry.ContextItem.{ContextItem}
@@ -31,11 +31,6 @@ IsWithin k (TheReporter n) = n ≤ k
 abbrev pub AreWithin : ℕ → ℕ → List Session → Type 0
 AreWithin turn k [] = Unit {0}
 AreWithin turn k (s ∷ ss) = ((s.turn ≤ turn) × IsWithin k s.who) × AreWithin turn k ss
-
--- each context keeps its reports for a day at least
-abbrev pub AreKeeping : List ContextItem → Type 0
-AreKeeping [] = Unit {0}
-AreKeeping (c ∷ cs) = (1 ≤ c.retention) × AreKeeping cs
 
 -- the version of each form is from 1 to 99
 abbrev pub AreVersions : List FormItem → Type 0
@@ -76,17 +71,8 @@ AreBegunBy at [] = Unit {0}
 AreBegunBy at (c ∷ cs) = (begun c.trail ≤ at) × AreBegunBy at cs
 
 -- no number was drawn, or some were, and some of them on the day of the last draw
-abbrev pub IsNumbered : Numbering → Type 0
-IsNumbered n = ((n.at ≡ 0) × (n.drawn ≡ 0) × (n.last ≡ 0)) ⊎ ((1 ≤ n.drawn) × (n.drawn ≤ n.last))
-
-abbrev pub IsOfUser : Who → Type 0
-IsOfUser (TheUser u) = Unit {0}
-IsOfUser (TheReporter n) = ⊥
-
--- sessions of turn 0 and of users
-abbrev pub AreStarters : List Session → Type 0
-AreStarters [] = Unit {0}
-AreStarters (s ∷ ss) = ((s.turn ≡ 0) × IsOfUser s.who) × AreStarters ss
+abbrev pub is_numbering : Numbering → Bool
+is_numbering n = ((n.at == 0) && (n.drawn == 0) && (n.last == 0)) || (nat_le 1 n.drawn && nat_le n.drawn n.last)
 
 -- tables that a host may be opened with at a moment
 pub record AreOpened (at : ℕ) (t : Tables) : Type 0 where
@@ -96,7 +82,7 @@ pub record AreOpened (at : ℕ) (t : Tables) : Type 0 where
   pub versions : AreVersions t.plain.registry.forms
   pub ordered : AreOrdered t.plain.registry
   -- a numbering that draws may have left, and no draw is to come
-  pub numbering : IsNumbered t.plain.numbering
+  pub numbering : is_numbering t.plain.numbering ≡ true
   pub drawn : t.plain.numbering.at ≤ at
   -- the reports' numbers ascend and were drawn, each by a submission that is not after the last draw
   pub ascend : Ascend 0 t.plain.cases
@@ -109,9 +95,8 @@ pub record AreOpened (at : ℕ) (t : Tables) : Type 0 where
   pub receipts : Apart has_receipt t.plain.cases
   -- a report has identity answers exactly where its trail says so
   pub marks : (r : ℕ) → is_some (t.sealed r) ≡ has_identity (entries_of (report r t.plain.cases))
-  -- there is no session but the starter host's standing one, of turn 0 and of a user; this goes with that host
-  pub sessions : AreStarters t.plain.sessions
-  pub logins : Apart has_turn t.plain.sessions
+  -- no session stands
+  pub sessions : t.plain.sessions ≡ []
 
 -- one tenant's opening: a moment, and the tables
 pub record Opened : Type 0 where

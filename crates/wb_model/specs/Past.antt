@@ -234,7 +234,7 @@ abbrev pub is_lost : What → Bool
 is_lost Lost = true
 is_lost _ = false
 
--- what the host holds: the tables at the last turn that was not lost, or those that it was opened with, the starter host's standing session with them
+-- what the host holds: the tables at the last turn that was not lost, or those that it was opened with
 abbrev pub held : Past Opened → Tables
 held (Opening o) = o.tables
 held (Turn e past) = if is_lost e.what then held past else tables (Turn e past) (now (Turn e past))

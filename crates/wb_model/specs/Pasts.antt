@@ -50,9 +50,6 @@ time (Turn e past) = max (time past) e.moment
 abbrev pub tenancy : Past AllOpened → ℕ → ℕ → Tenancy
 tenancy past moment t = record { id = t; tables = tables (part t past) moment }
 
-abbrev pub all_tables : Past AllOpened → ℕ → List Tenancy
-all_tables past moment = map (tenancy past moment) (tenants past)
-
 -- what the host holds of a tenant
 abbrev pub held_tenancy : Past AllOpened → ℕ → Tenancy
 held_tenancy past t = record { id = t; tables = held (part t past) }

@@ -24,7 +24,6 @@ ghost use Rattle.wb_model.specs.declared.command.Command.TheVariants as commands
 ghost use Rattle.wb_model.specs.Readings.{Asks};
 ghost use Rattle.wb_base.specs.FormFaults.{is_good};
 ghost use Rattle.wb_base.specs.FormShape.{form_of};
-ghost use Rattle.wb_model.specs.Starter.{starter, starter_form, starter_form_text, starter_opening};
 ghost use Rattle.wb_model.specs.Requests.{Frame};
 ghost use Rattle.wb_model.specs.Host.{Host, purge_at, reply_to, host_after, tables_after};
 ghost use Rattle.wb_model.specs.Tenants.{Hosts, AllHostsAlike, OneLaterAlike, is_report_reader, hosts_reply, hosts_after, hosts_lost};
@@ -32,7 +31,7 @@ ghost use Rattle.wb_model.specs.declared.event.Event.{Event};
 ghost use Rattle.wb_model.specs.Absence.{begins_here, AreApart, DrawOthersAfter, without, gapped, all_gapped, first_last, BeginsAt, replies, past_with, without_place, replies_without, replies_after, is_purged_after};
 ghost use Rattle.wb_model.specs.Past.{registry, numbering, held, sealed, trail, last, live, is_lost, Past, Opening, Turn, now, live_reports, recent, standing_sessions, tables};
 ghost use Rattle.wb_model.specs.PastTurns.{verdict_at, reply_at, at_frame, what_at};
-ghost use Rattle.wb_model.specs.Opened.{IsNumbered, AreOrdered, AreOpened, Opened};
+ghost use Rattle.wb_model.specs.Opened.{is_numbering, AreOrdered, AreOpened, Opened};
 ghost use Rattle.wb_model.specs.Tables.{lasts};
 ghost use Rattle.wb_model.specs.Pasts.{AllOpened, part, tenants, time, standing_hosts, reply_in, with_turn, with_loss};
 ghost use Rattle.wb_model.specs.Alike.{HostsAlike, LaterAlike, SubmissionsAlike, is_reader};
@@ -86,12 +85,11 @@ pub fn alike_scripts_get_the_same_replies()
 
 /// The hosts that stand for a past answer as the past says, and then stand for the past with that turn, made or lost.
 ///
-/// This holds of every opening and of every list of turns. The starter host stands for its opening.
+/// This holds of every opening and of every list of turns.
 pub fn hosts_stand_for_their_past()
     ensures reply { (past : Past AllOpened) (f : Frame) → hosts_reply (standing_hosts past) f ≡ reply_in past f }
     ensures turn { (past : Past AllOpened) (f : Frame) → hosts_after (standing_hosts past) f ≡ standing_hosts (with_turn past f) }
     ensures loss { (past : Past AllOpened) (f : Frame) → hosts_lost (standing_hosts past) f ≡ standing_hosts (with_loss past f) }
-    ensures start { starter ≡ standing_hosts (Opening starter_opening) }
 {}
 
 /// The tables of one tenant's past with one more turn are one step on its tables.
@@ -148,7 +146,7 @@ pub fn what_is_set_stands_in_order()
 
 /// The numbering of each past is one that draws may have left: none, or some, of which some are of the last draw's day.
 pub fn a_numbering_is_left_by_draws()
-    ensures { (past : Past Opened) → IsNumbered (numbering past) }
+    ensures { (past : Past Opened) → is_numbering (numbering past) ≡ true }
 {}
 
 /// The live trails of a past that verdicts made are legal at each moment from its time on, and so are those that its host
@@ -165,12 +163,6 @@ pub fn verdicts_keep_trails_legal()
 /// A report has identity answers exactly where its trail says that some were given, with it or later.
 pub fn identity_answers_stand_where_the_trail_says_so()
     ensures { (past : Past Opened) (r : ℕ) → is_some (sealed past r) ≡ has_identity (trail past r) }
-{}
-
-/// The starter host's form is the one that its JSON text says, and it is good.
-pub fn the_starter_form_is_good()
-    ensures read { option_and_then form_of (read starter_form_text) ≡ Some starter_form }
-    ensures good { is_good starter_form ≡ true }
 {}
 
 /// The verdict on a request, its reply and the tables after its turn are told by the tables at its time, that time, the

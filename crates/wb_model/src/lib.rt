@@ -31,8 +31,8 @@ pub use laws::{
     absence_on_one_past, absence_over_scripts, alike_scripts_get_the_same_replies,
     an_accepted_submission_draws_a_number, hosts_stand_for_their_past,
     identity_answers_stand_where_the_trail_says_so, losses_are_told, sessions_stand_turn_by_turn,
-    setups_and_kept_rows_make_openings, the_starter_form_is_good, verdicts_keep_trails_legal,
-    what_is_not_refused_is_legal, what_is_set_stands_in_order,
+    setups_and_kept_rows_make_openings, verdicts_keep_trails_legal, what_is_not_refused_is_legal,
+    what_is_set_stands_in_order,
 };
 pub use numbering::Numbering;
 pub use registry::{ContextItem, FormItem, Lists, Rights, TenantItem, UserItem};

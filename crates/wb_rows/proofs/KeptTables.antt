@@ -14,9 +14,9 @@ use Rattle.wb_list.specs.Keyed.{IsAscending}
 use Rattle.wb_model.specs.declared.entry.Entry.{Entry}
 use Rattle.wb_model.specs.declared.numbering.Numbering.{Numbering}
 use Rattle.wb_model.specs.declared.registry.FormItem.{FormItem}
-use Rattle.wb_model.specs.KeptRules.{AreKept, are_valid_after, has_public_answers, is_named, is_numbering}
+use Rattle.wb_model.specs.KeptRules.{AreKept, are_valid_after, has_public_answers, is_named}
 use Rattle.wb_model.specs.Legal.{is_legal, last_at}
-use Rattle.wb_model.specs.Opened.{begun, entries_of}
+use Rattle.wb_model.specs.Opened.{begun, entries_of, is_numbering}
 use Rattle.wb_model.specs.Openings.{registry_of}
 use Rattle.wb_model.specs.Requests.{form_of_trail}
 use Rattle.wb_model.specs.SetUps.{AreSetUp, are_apart}

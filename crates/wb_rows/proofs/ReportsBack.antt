@@ -15,9 +15,9 @@ use Rattle.wb_model.specs.declared.numbering.Numbering.{Numbering}
 use Rattle.wb_model.specs.declared.registry.FormItem.{FormItem}
 use Rattle.wb_model.specs.declared.registry.Lists.{Lists}
 use Rattle.wb_model.specs.declared.registry.TenantItem.{TenantItem}
-use Rattle.wb_model.specs.KeptRules.{are_valid_after, has_public_answers, is_named, is_numbering}
+use Rattle.wb_model.specs.KeptRules.{are_valid_after, has_public_answers, is_named}
 use Rattle.wb_model.specs.Legal.{ascends, is_legal}
-use Rattle.wb_model.specs.Opened.{begun, entries_of}
+use Rattle.wb_model.specs.Opened.{begun, entries_of, is_numbering}
 use Rattle.wb_model.specs.Openings.{registry_of}
 use Rattle.wb_model.specs.SetUps.{has_tenant}
 use Rattle.wb_model.specs.Tables.{Case}

@@ -10,7 +10,8 @@ use Rattle.wb_kinds.specs.declared.item.NumberingItem.{NumberingItem}
 use Rattle.wb_model.specs.declared.entry.Entry.{Entry}
 use Rattle.wb_model.specs.declared.registry.FormItem.{FormItem}
 use Rattle.wb_model.specs.declared.registry.Lists.{Lists}
-use Rattle.wb_model.specs.KeptRules.{is_named, has_public_answers, are_valid_after, is_numbering}
+use Rattle.wb_model.specs.KeptRules.{is_named, has_public_answers, are_valid_after}
+use Rattle.wb_model.specs.Opened.{is_numbering}
 use Rattle.wb_model.specs.Openings.{registry_of}
 use Rattle.wb_model.specs.Trails.{Submission, submission_in, is_marked, has_identity}
 use Rattle.wb_rows.specs.Held.{Report}

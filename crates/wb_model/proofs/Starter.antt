@@ -1,6 +1,6 @@
--- The starter host: one tenant with four users, one form and two contexts, and a standing session of the first user.
-use Rattle.std.specs.Prelude.{ℕ, List, [], ◌∷◌, Bool, true, false, None, pos, codes, replicate}
-use Rattle.std.proofs.Common.{inl, arith, refl}
+-- The starter tenant, on which rows are computed: four users, one form and two contexts.
+use Rattle.std.specs.Prelude.{ℕ, List, [], ◌∷◌, Bool, true, false, None, pos, codes}
+use Rattle.std.proofs.Common.{arith, refl}
 use Rattle.wb_base.specs.declared.callers.Role.{Role}
 use Rattle.wb_base.specs.declared.callers.Role.TheVariants as roles
 use Rattle.wb_base.specs.declared.form.Form.{Form}
@@ -11,9 +11,8 @@ use Rattle.wb_base.specs.declared.words.Salt.{Salt}
 use Rattle.wb_model.specs.declared.registry.ContextItem.{ContextItem}
 use Rattle.wb_model.specs.declared.registry.UserItem.{UserItem}
 use Rattle.wb_base.specs.Secrets.{digest}
-use Rattle.wb_model.specs.Tables.{Registry, Session, TheUser}
+use Rattle.wb_model.specs.Tables.{Registry}
 use Rattle.wb_model.specs.Host.{Tables}
-use Rattle.wb_model.specs.Tenants.{Hosts}
 use Rattle.wb_model.specs.Pasts.{AllOpened}
 
 -- ---- the form
@@ -76,23 +75,15 @@ starter_registry = record {
   contexts = starter_context 1 (codes "Fraud") 30 1 ∷ starter_context 2 (codes "Safety") 10 2 ∷ [];
 }
 
--- user 1's session: of turn 0, with a secret of 32 zeros, and with the greatest moment, so that it does not end
-unfoldable pub starter_session : Session
-starter_session = record { turn = 0; digest = digest starter_salt (replicate 32 48); role = roles.Recipient; who = TheUser 1; at = 99_999_999_999 }
-
 abbrev pub starter_tables : Tables
 starter_tables = record {
-  plain = record { registry = starter_registry; numbering = record { at = 0; drawn = 0; last = 0 }; cases = []; sessions = starter_session ∷ [] };
+  plain = record { registry = starter_registry; numbering = record { at = 0; drawn = 0; last = 0 }; cases = []; sessions = [] };
   sealed = λ n. None;
 }
 
--- the host before its first turn
-unfoldable pub starter : Hosts
-starter = record { turns = 0; now = 0; list = record { id = 1; tables = starter_tables } ∷ [] }
-
--- it as an opening: at moment 0, with one tenant
+-- its opening: at moment 0, with one tenant
 unfoldable pub starter_opening : AllOpened
-unfolding starter_session starter_registry
+unfolding starter_registry
 starter_opening = record {
   at = 0;
   tenants = 1 ∷ [];
@@ -102,7 +93,7 @@ starter_opening = record {
     sound = record { notice = omega arith; contexts = ((omega arith, omega arith, refl), ((omega arith, omega arith, refl), tt)) };
     versions = ((omega arith, omega arith), tt);
     ordered = record { users = refl; forms = refl; contexts = refl };
-    numbering = inl (refl, refl, refl);
+    numbering = refl;
     drawn = omega arith;
     ascend = tt;
     most = tt;
@@ -111,7 +102,6 @@ starter_opening = record {
     forms = tt;
     receipts = tt;
     marks = λ r. refl;
-    sessions = ((refl, tt), tt);
-    logins = ((λ k is. refl), tt);
+    sessions = refl;
   };
 }
