@@ -5,7 +5,7 @@ use Rattle.std.proofs.lemmas.Bool.Decides.{nat_tests}
 use Rattle.wb_base.specs.declared.callers.Presented.{Presented}
 use Rattle.wb_base.specs.declared.callers.Presented.TheVariants as presented
 use Rattle.wb_base.specs.declared.callers.Role.{Role}
-use Rattle.wb_base.specs.Secrets.{digest}
+use Rattle.wb_base.specs.Secrets.{digest, same_digest}
 use Rattle.wb_custody.specs.declared.sealed.SealedItem.{SealedItem}
 use Rattle.wb_model.specs.declared.body.Told.{Told}
 use Rattle.wb_model.specs.declared.command.Asked.{Asked}
@@ -22,7 +22,7 @@ use Rattle.wb_model.specs.OnReports.{change_on}
 use Rattle.wb_model.specs.Requests.{Outcome, Request, plain_part}
 use Rattle.wb_model.specs.Rules.{change_alone, effect_at, verdict_on, verdict}
 use Rattle.wb_model.specs.Settings.{setting_of}
-use Rattle.wb_model.specs.Tables.{Registry, Plain, Case, Session, Who, TheUser, TheReporter, same_who, same_digest, session, user, report, lasts}
+use Rattle.wb_model.specs.Tables.{Registry, Plain, Case, Session, Who, TheUser, TheReporter, same_who, session, user, report, lasts}
 use Rattle.wb_model.specs.Targets.{Target, Nobody, Alone, On, some_user_target, own_case, who_target, session_target, target}
 use Rattle.wb_model.proofs.Effects.{comes_is, in_open_is, identity_is, share_is, transfer_is, decide_is, set_is}
 use Rattle.wb_model.proofs.Found.{find_true}

@@ -15,8 +15,8 @@ use Rattle.wb_model.specs.declared.event.What.{What}
 use Rattle.wb_model.specs.declared.event.What.TheVariants.{Idle}
 use Rattle.wb_model.specs.declared.registry.UserItem.{UserItem}
 use Rattle.wb_model.specs.Refusals.{bad_login, not_found, no_session, wrong_role, wrong_right}
-use Rattle.wb_base.specs.Secrets.{digest}
-use Rattle.wb_model.specs.Tables.{Registry, has_number, Plain, Case, Session, Who, TheUser, TheReporter, Registry, user, user_named, report, has_receipt, with_receipt, same_digest, session}
+use Rattle.wb_base.specs.Secrets.{digest, same_digest}
+use Rattle.wb_model.specs.Tables.{Registry, has_number, Plain, Case, Session, Who, TheUser, TheReporter, Registry, user, user_named, report, has_receipt, with_receipt, session}
 use Rattle.wb_model.specs.Targets.{Target, Nobody, Alone, On, same_role, finds, named_case, staff, user_target, own_case, reporter_target, some_user_target, who_target, session_target, entering, returning, unasked, needed_target, target, trail_at}
 use Rattle.wb_model.specs.Commands.{Right, Free, Need, Anyone, Any_session, Own, Staff, Names, need, has_right}
 use Rattle.wb_model.specs.Requests.{Outcome, Request, request, outline}

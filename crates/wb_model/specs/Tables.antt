@@ -16,7 +16,7 @@ use Rattle.wb_model.specs.declared.registry.TenantItem.{TenantItem}
 use Rattle.wb_model.specs.declared.registry.UserItem.{UserItem}
 use Rattle.wb_model.specs.declared.registry.FormItem.{FormItem}
 use Rattle.wb_model.specs.declared.registry.ContextItem.{ContextItem}
-use Rattle.wb_base.specs.Secrets.{digest}
+use Rattle.wb_base.specs.Secrets.{digest, same_digest}
 use Rattle.wb_model.specs.Trails.{receipt, expires}
 
 -- ---- what a tenant is set up with
@@ -99,9 +99,6 @@ stays cases (TheReporter n) = is_there n cases
 -- a session stands for 14,400 seconds
 abbrev pub lasts : ℕ → List Case → Session → Bool
 lasts now cases s = nat_lt now (s.at + 14_400) && stays cases s.who
-
-abbrev pub same_digest : Digest → Digest → Bool
-same_digest a b = is_text a.0 b.0
 
 -- the session that a request presents, where it stands
 abbrev pub session : Salt → Presented → List Session → Option Session

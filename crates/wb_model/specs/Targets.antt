@@ -9,10 +9,10 @@ use Rattle.wb_model.specs.declared.command.Command.{Command}
 use Rattle.wb_model.specs.declared.command.Command.TheVariants as commands
 use Rattle.wb_model.specs.declared.registry.UserItem.{UserItem}
 use Rattle.wb_base.specs.declared.words.Salt.{Salt}
-use Rattle.wb_base.specs.Secrets.{digest}
+use Rattle.wb_base.specs.Secrets.{digest, same_digest}
 use Rattle.wb_model.specs.Commands.{Right, Free, has_right, Need, Anyone, Any_session, Own, Staff, Names, need}
 use Rattle.wb_model.specs.Trails.{reads}
-use Rattle.wb_model.specs.Tables.{Plain, Case, Session, Who, TheUser, TheReporter, user, user_named, report, session, same_digest, with_receipt}
+use Rattle.wb_model.specs.Tables.{Plain, Case, Session, Who, TheUser, TheReporter, user, user_named, report, session, with_receipt}
 use Rattle.wb_model.specs.Refusals.{not_found, no_session, wrong_role, wrong_right, bad_login}
 
 -- ---- the target

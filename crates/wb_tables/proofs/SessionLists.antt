@@ -14,7 +14,7 @@ use Rattle.wb_base.specs.declared.callers.Principal.{Principal}
 use Rattle.wb_base.specs.declared.callers.Principal.TheVariants as principals
 use Rattle.wb_base.specs.declared.words.Digest.{Digest}
 use Rattle.wb_base.specs.declared.words.Salt.{Salt}
-use Rattle.wb_base.specs.Secrets.{digest}
+use Rattle.wb_base.specs.Secrets.{digest, same_digest}
 use Rattle.wb_list.specs.Keyed.{IsAscending, without_first}
 use Rattle.wb_access.specs.Sessions.{same_principal, is_of, is_standing, session_shown, opened}
 use Rattle.wb_access.specs.declared.sessions.Session.{Session as KeptSession}
@@ -22,7 +22,7 @@ use Rattle.wb_model.specs.Changes.{LogsIn}
 use Rattle.wb_model.specs.Host.{is_user, sessions_after}
 use Rattle.wb_model.specs.Opened.{Apart, has_turn}
 use Rattle.wb_model.specs.Past.{who_of}
-use Rattle.wb_model.specs.Tables.{Case, Session, Who, same_who, same_digest, lasts, stays, session as session_by}
+use Rattle.wb_model.specs.Tables.{Case, Session, Who, same_who, lasts, stays, session as session_by}
 use Rattle.wb_model.proofs.Eights.{fewer, eight}
 use Rattle.wb_model.proofs.EightsOf as eights
 use Rattle.wb_tables.specs.Kept.{is_session}

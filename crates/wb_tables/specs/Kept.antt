@@ -4,7 +4,8 @@ use Rattle.std.specs.List.{sum_by}
 use Rattle.wb_base.specs.declared.words.Digest.{Digest}
 use Rattle.wb_custody.specs.declared.sealed.SealedItem.{SealedItem}
 use Rattle.wb_custody.specs.SealedAnswers.{answers_of}
-use Rattle.wb_model.specs.Tables.{Plain, Session, lasts, same_digest}
+use Rattle.wb_base.specs.Secrets.{same_digest}
+use Rattle.wb_model.specs.Tables.{Plain, Session, lasts}
 use Rattle.wb_model.specs.Host.{Sealed, Tables, live_cases, purged}
 use Rattle.wb_model.specs.Tenants.{Tenancy}
 pub use Rattle.wb_tables.specs.Lives.{case_of, lives_on}
