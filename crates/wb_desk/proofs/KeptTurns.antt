@@ -31,7 +31,7 @@ use Rattle.wb_tables.specs.Places.{ArePlaces, IsAt}
 use Rattle.wb_tables.specs.Standing.{hosts_of}
 use Rattle.wb_tables.specs.declared.tenancy.Tenancy.{Tenancy as KeptTenancy}
 use Rattle.wb_desk.specs.Puts.{first_puts, puts_of, IsBatch}
-use Rattle.wb_desk.specs.SetUp.{AreSetUpRight}
+use Rattle.wb_opening.specs.SetUp.{AreSetUpRight}
 use Rattle.wb_desk.specs.Turns.{HasToKeep, KeepsAt, IsLeft, IsTurn, IsTurnAt, IsFrameAt, standing}
 use Rattle.wb_desk.specs.declared.batch.Lost.{Lost}
 use Rattle.wb_desk.specs.declared.batch.Lost.TheVariants as lost

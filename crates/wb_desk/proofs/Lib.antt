@@ -3,12 +3,7 @@ pub mod ChangeRows
 pub mod Changes
 pub mod KeptChanges
 pub mod KeptOpenings
-pub mod KeptReports
 pub mod KeptTurns
-pub mod LaterMoments
-pub mod NewTenants
-pub mod OpenedPlaces
-pub mod OwnRows
 pub mod OwnSessions
 pub mod PastTurns
 pub mod Rooms

@@ -21,7 +21,7 @@ use Rattle.wb_tables.specs.declared.proposal.Proposal.{Proposal}
 use Rattle.wb_tables.specs.declared.proposal.Proposal.TheVariants as proposals
 use Rattle.wb_tables.specs.declared.tenancy.Tenancy.{Tenancy as KeptTenancy}
 use Rattle.wb_desk.specs.Ready.{planned_change}
-use Rattle.wb_desk.specs.SetUp.{IsSetUpRight, AreSetUpRight}
+use Rattle.wb_opening.specs.SetUp.{IsSetUpRight, AreSetUpRight}
 
 -- what changes neither the id nor the registry
 pub right_same : (x y : Place) → y.id ≡ x.id → y.plain.registry ≡ x.plain.registry → IsSetUpRight x → IsSetUpRight y

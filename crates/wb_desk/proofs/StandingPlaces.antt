@@ -28,7 +28,7 @@ use Rattle.wb_tables.specs.Standing.{Standing, hosts_of}
 use Rattle.wb_tables.proofs.Indexes.{some_none}
 use Rattle.wb_tables.proofs.Lookups.{there-found}
 use Rattle.wb_desk.specs.Desks.{HasPast}
-use Rattle.wb_desk.specs.SetUp.{IsSetUpRight, AreSetUpRight}
+use Rattle.wb_opening.specs.SetUp.{IsSetUpRight, AreSetUpRight}
 
 -- ---- sessions
 

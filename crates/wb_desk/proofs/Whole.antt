@@ -14,7 +14,7 @@ use Rattle.wb_tables.specs.declared.tenancy.Tenancy.{Tenancy as KeptTenancy}
 use Rattle.wb_plan.specs.Plans.{Plans, at_of}
 use Rattle.wb_tables.specs.Places.{ArePlaces, IsAt, is_tenant}
 use Rattle.wb_desk.specs.Ready.{IsMadeAt}
-use Rattle.wb_desk.specs.SetUp.{AreSetUpRight}
+use Rattle.wb_opening.specs.SetUp.{AreSetUpRight}
 use Rattle.wb_tables.specs.Kept.{Place, place_of, tables_of, tenancy_of, live_place, purged_tenancy, sessions_at}
 use Rattle.wb_desk.specs.Turns.{IsTurnOver}
 use Rattle.wb_tables.proofs.Purges.{purged_places}

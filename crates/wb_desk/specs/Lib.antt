@@ -3,5 +3,4 @@ pub mod Kept
 pub mod Openings
 pub mod Puts
 pub mod Ready
-pub mod SetUp
 pub mod Turns

@@ -3,11 +3,8 @@
 
 mod batch;
 mod desk;
-mod moments;
 mod open;
-mod opening;
 mod ready;
-mod reports;
 mod setting;
 mod take;
 mod turn;

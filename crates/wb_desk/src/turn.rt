@@ -11,7 +11,7 @@ ghost use Rattle.wb_tables.specs.Kept.{place_of, plain_of, tables_of, tenancy_of
 ghost use Rattle.wb_tables.specs.Places.{IsPlace, ArePlaces, is_tenant, IsAt};
 ghost use Rattle.wb_tables.specs.declared.tenancy.Tenancy.{Tenancy as KeptTenancy};
 ghost use Rattle.wb_desk.specs.Ready.{IsOwn, IsMadeAt, planned_change};
-ghost use Rattle.wb_desk.specs.SetUp.{AreSetUpRight};
+ghost use Rattle.wb_opening.specs.SetUp.{AreSetUpRight};
 ghost use Rattle.wb_desk.specs.Turns.{IsTurnAt};
 
 use crate::batch::{Lost, keep};

@@ -48,10 +48,11 @@ fn a_host_is_not_opened_where_its_keeper_fails(rt: HostRuntime) -> Result<(), Fa
 /// A turn, its k, and what then stands: kept rows, live reports, sessions.
 type Step = (u64, Turn<'static>, (usize, u64, u64));
 
-// The k of the first step whose reply, or after which what stands, is not the wanted one.
+// The k of the first step whose reply, or after which what stands, is not the wanted one, or after which the host tells other rows
+// than are kept.
 fn first_unlike(host: &mut Host, steps: &[Step]) -> Result<Option<u64>, Fail> {
     for (k, turn, holds) in steps {
-        if !host.answers(*k, turn)? || host.holds() != *holds {
+        if !host.answers(*k, turn)? || host.holds() != *holds || !host.tells_its_rows()? {
             return Ok(Some(*k));
         }
     }

@@ -110,6 +110,11 @@ impl Host {
         (self.keeper.rows().len(), counts.live, counts.sessions)
     }
 
+    /// Whether the host tells the rows that are kept.
+    pub fn tells_its_rows(&self) -> Result<bool, Fail> {
+        Ok(self.desk.rows()?.as_slice() == self.keeper.rows())
+    }
+
     /// The rows that are kept.
     pub fn rows(&self) -> &[Row] {
         self.keeper.rows()

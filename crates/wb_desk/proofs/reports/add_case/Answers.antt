@@ -1,5 +1,0 @@
-use Rattle.wb_desk.proofs.KeptReports.{legal_submitted}
-use Rattle.wb_desk.proofs.reports.add_case.Goals as goal
-
-pub add-requires-clause-submitted : goal.add-requires-clause-submitted
-add-requires-clause-submitted c = legal_submitted c.requires.legal.0 c.args.item.case.items c.requires.legal.1

@@ -1,0 +1,3 @@
+pub mod HeldPlaces
+pub mod RowKinds
+pub mod SetUp
