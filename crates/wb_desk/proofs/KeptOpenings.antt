@@ -19,7 +19,7 @@ use Rattle.wb_rows.specs.Openings.{tables_of, tenancies_of, time_of, with_setup}
 use Rattle.wb_rows.specs.Openings as held
 use Rattle.wb_tables.specs.Kept.{tenancy_of}
 use Rattle.wb_tables.specs.Standing.{hosts_of}
-use Rattle.wb_tenants.specs.Joined.{joined}
+use Rattle.wb_setup.specs.Joined.{joined}
 use Rattle.wb_desk.specs.Desks.{IsDesk}
 use Rattle.wb_opening.specs.HeldPlaces.{held_places}
 use Rattle.wb_desk.specs.Openings.{IsOpenedOver}

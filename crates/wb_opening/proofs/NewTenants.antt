@@ -28,8 +28,8 @@ use Rattle.wb_rows.specs.Held.{Held}
 use Rattle.wb_rows.specs.Openings.{tables_of, tenancies_of, with_setup}
 use Rattle.wb_rows.specs.Openings as held
 use Rattle.wb_rows.specs.Puts.{tenant_put, tenant_puts}
-use Rattle.wb_tenants.specs.Joined.{joined}
-use Rattle.wb_tenants.specs.Keys.{tenant_key}
+use Rattle.wb_setup.specs.Joined.{joined}
+use Rattle.wb_setup.specs.Keys.{tenant_key}
 use Rattle.wb_opening.specs.HeldPlaces.{new_puts, new_tenancy, setup_puts}
 
 -- ---- filters

@@ -13,7 +13,7 @@ use Rattle.wb_rows.specs.Held.{Report, Held}
 use Rattle.wb_rows.specs.Openings.{case_of, cases_of, tables_of}
 use Rattle.wb_rows.specs.Puts.{tenant_puts}
 use Rattle.wb_tables.specs.Kept.{Place}
-use Rattle.wb_tenants.specs.Joined.{joined}
+use Rattle.wb_setup.specs.Joined.{joined}
 
 -- ---- the tenants
 

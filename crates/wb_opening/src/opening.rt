@@ -14,7 +14,7 @@ ghost use Rattle.wb_rows.specs.Puts.{tenant_put};
 ghost use Rattle.wb_rows.specs.ReportRules.{is_numbering_of};
 ghost use Rattle.wb_rows.specs.TrailRule.{is_legal_report};
 ghost use Rattle.wb_tables.specs.Kept.{place_of};
-ghost use Rattle.wb_tenants.specs.Keys.{AreInOrder};
+ghost use Rattle.wb_setup.specs.Keys.{AreInOrder};
 ghost use Rattle.wb_tenants.specs.Sets.{HasTenant};
 ghost use Rattle.wb_opening.specs.HeldPlaces.{bare, held_places, new_puts, new_tenancy, setup_puts};
 
@@ -26,8 +26,9 @@ use wb_custody::SealedTable;
 use wb_list::Items;
 use wb_model::{Numbering, TenantItem};
 use wb_rows::{NumberingItem, Tables, write};
+use wb_setup::kept_rows_and_a_setup_make_an_opening;
 use wb_tables::{Cases, Configuration, Sessions, Tenancy};
-use wb_tenants::{Registry, Setup, kept_rows_and_a_setup_make_an_opening};
+use wb_tenants::{Registry, Setup};
 
 // No number is drawn.
 fn nothing_drawn() -> Numbering

@@ -33,7 +33,7 @@ use Rattle.wb_model.specs.declared.registry.UserItem.{UserItem}
 use Rattle.wb_rows.specs.KeptItems.{tenant_in, numbering_in, user_in, form_in, context_in, entry_in, sealed_in, kept_of}
 use Rattle.wb_rows.proofs.ConfiguredRows.{versions_order}
 use Rattle.wb_rows.proofs.RowPuts.{key}
-use Rattle.wb_tenants.specs.Keys as keys
+use Rattle.wb_setup.specs.Keys as keys
 
 abbrev pub item_key : Item → Key
 item_key i = (item_row i).key

@@ -35,7 +35,7 @@ use Rattle.wb_rows.proofs.OwnedRows.{all_from, owned-rows}
 use Rattle.wb_rows.proofs.RowsBack.{is-read}
 use Rattle.wb_rows.proofs.RulesHold.{apart, none-blamed, none-breaking}
 use Rattle.wb_tenants.specs.Sets.{is_version}
-use Rattle.wb_tenants.proofs.Orders.{ids_ascend, ordered}
+use Rattle.wb_setup.proofs.Orders.{ids_ascend, ordered}
 
 -- ---- lists
 

@@ -35,8 +35,8 @@ use Rattle.wb_rows.proofs.HeldReports.{held-true}
 use Rattle.wb_rows.proofs.OwnedRows.{has_numbering}
 use Rattle.wb_rows.proofs.RowsBack.{together}
 use Rattle.wb_rows.proofs.TenantParts.{Rise, are-of, is_of, rises, rows-by-tenant, rows-of-one}
-use Rattle.wb_tenants.specs.Keys.{AreInOrder, key_cmp}
-use Rattle.wb_tenants.proofs.Orders.{ids_ascend}
+use Rattle.wb_setup.specs.Keys.{AreInOrder, key_cmp}
+use Rattle.wb_setup.proofs.Orders.{ids_ascend}
 use Rattle.wb_tenants.proofs.TenantRuns.{not_above}
 
 -- what is held is in order, and of tenants that are there, each of which has its numbering

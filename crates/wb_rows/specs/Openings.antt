@@ -13,7 +13,7 @@ use Rattle.wb_model.specs.Tables.{Case}
 use Rattle.wb_model.specs.Tenants.{Tenancy}
 use Rattle.wb_rows.specs.Held.{Report, Held}
 use Rattle.wb_rows.specs.ReportRules.{is_numbering_of}
-use Rattle.wb_tenants.specs.Joined.{joined}
+use Rattle.wb_setup.specs.Joined.{joined}
 
 -- ---- the tables of a tenant
 

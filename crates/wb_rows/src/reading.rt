@@ -19,7 +19,7 @@ ghost use Rattle.wb_rows.specs.Judged.{AreBlames, judged, judged_kept, judged_re
 ghost use Rattle.wb_rows.specs.Openings.{tables_of, tenancies_of, time_of};
 ghost use Rattle.wb_rows.specs.Places.{entry_key, pair_cmp, sealed_place};
 ghost use Rattle.wb_rows.specs.TrailRule.{is_legal_report, reports_of};
-ghost use Rattle.wb_tenants.specs.Keys.{AreInOrder};
+ghost use Rattle.wb_setup.specs.Keys.{AreInOrder};
 
 use crate::RowFault;
 use crate::cases::CaseItem;

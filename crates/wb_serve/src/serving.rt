@@ -6,7 +6,7 @@ ghost use Rattle.wb_base.specs.Outside.{Rose};
 ghost use Rattle.wb_model.specs.declared.registry.Lists.{Lists};
 ghost use Rattle.wb_model.specs.Rows.{rows_of};
 ghost use Rattle.wb_tables.specs.Standing.{Standing, hosts_of};
-ghost use Rattle.wb_tenants.specs.Setups.{setup as lists_in};
+ghost use Rattle.wb_setup.specs.Setups.{setup as lists_in};
 ghost use Rattle.wb_rows.specs.Held.{Held};
 ghost use Rattle.wb_rows.specs.Judged.{judged};
 ghost use Rattle.wb_front.specs.Attended.{clock_of, RoseOften};

@@ -10,8 +10,8 @@ use Rattle.wb_model.specs.Rows.{rows}
 use Rattle.wb_model.specs.Tenants.{Hosts}
 use Rattle.wb_rows.specs.Held.{Held}
 use Rattle.wb_rows.specs.Judged.{judged}
-use Rattle.wb_tenants.specs.declared.setup.SetupFault.TheVariants as faults
-use Rattle.wb_tenants.specs.Setups.{setup as lists_in}
+use Rattle.wb_setup.specs.declared.setup.SetupFault.TheVariants as faults
+use Rattle.wb_setup.specs.Setups.{setup as lists_in}
 use Rattle.wb_wire.specs.FrameReading.{Progress}
 use Rattle.wb_wire.specs.SetupReading.{TookSetup, TookSetupPart, TookSetupAll, after_setup}
 use Rattle.wb_wire.specs.SetupText.{NoSetup}

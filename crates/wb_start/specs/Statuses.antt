@@ -3,8 +3,8 @@ use Rattle.std.specs.Prelude.{ℕ, ◌++◌, List, [], codes, decimal}
 use Rattle.wb_base.specs.declared.rows.Key.{Key}
 use Rattle.wb_rows.specs.declared.faults.RowFault.{RowFault}
 use Rattle.wb_rows.specs.declared.faults.RowFault.TheVariants.{BadRow, BadSet, Memory as RowsMemory}
-use Rattle.wb_tenants.specs.declared.setup.SetupFault.{SetupFault}
-use Rattle.wb_tenants.specs.declared.setup.SetupFault.TheVariants.{Text, Rule, Memory as SetupMemory}
+use Rattle.wb_setup.specs.declared.setup.SetupFault.{SetupFault}
+use Rattle.wb_setup.specs.declared.setup.SetupFault.TheVariants.{Text, Rule, Memory as SetupMemory}
 use Rattle.wb_start.specs.declared.status.Status.{Status}
 use Rattle.wb_start.specs.declared.status.Status.TheVariants.{Done, Usage, ReadFault, WriteFault, NoMemory, BadFrame, Setup, OpenFault, KeptRows, TooLong, ListenFault}
 

@@ -14,7 +14,7 @@ use Rattle.wb_model.specs.declared.registry.TenantItem.{TenantItem}
 use Rattle.wb_model.specs.declared.setting.AdminFault.{AdminFault}
 use Rattle.wb_model.specs.Openings.{registry_of}
 use Rattle.wb_model.specs.Rows.{row, settings_data}
-use Rattle.wb_tenants.specs.Keys.{tenant_key}
+use Rattle.wb_setup.specs.Keys.{tenant_key}
 use Rattle.wb_tenants.specs.Sets.{HasTenant, set_tenant, with_settings}
 use Rattle.wb_tenants.proofs.LookUps.{tenant-found}
 use Rattle.wb_tenants.proofs.TenantSettings.{found_is}

@@ -14,8 +14,8 @@ use Rattle.wb_model.specs.declared.registry.ContextItem.{ContextItem}
 use Rattle.wb_model.specs.Openings.{registry_of, no_settings}
 use Rattle.wb_model.specs.Settings.{form_key}
 use Rattle.wb_model.specs.SetUps.{has_tenant}
-use Rattle.wb_tenants.specs.Joined.{joined}
-use Rattle.wb_tenants.specs.Keys.{key_cmp, tenant_key}
+use Rattle.wb_setup.specs.Joined.{joined}
+use Rattle.wb_setup.specs.Keys.{key_cmp, tenant_key}
 use Rattle.wb_tenants.specs.Sets.{is_tenant}
 use Rattle.wb_tenants.proofs.LookUps.{tenant-found}
 use Rattle.wb_tenants.proofs.TenantParts.{part-beside}

@@ -7,7 +7,7 @@ use Rattle.wb_list.specs.Keyed.{has_key}
 use Rattle.wb_model.specs.declared.registry.ContextItem.{ContextItem}
 use Rattle.wb_model.specs.declared.registry.TenantItem.{TenantItem}
 use Rattle.wb_model.specs.declared.registry.UserItem.{UserItem}
-use Rattle.wb_tenants.specs.Keys.{tenant_key, key_cmp, user_key, context_key}
+use Rattle.wb_setup.specs.Keys.{tenant_key, key_cmp, user_key, context_key}
 use Rattle.wb_model.specs.Tables.{user, context}
 use Rattle.wb_tenants.specs.Sets.{is_tenant}
 

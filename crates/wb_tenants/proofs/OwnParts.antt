@@ -9,7 +9,7 @@ use Rattle.wb_model.specs.declared.registry.FormItem.{FormItem}
 use Rattle.wb_model.specs.declared.registry.ContextItem.{ContextItem}
 use Rattle.wb_model.specs.Openings.{registry_of, no_settings}
 use Rattle.wb_tenants.specs.Owned.{own_lists}
-use Rattle.wb_tenants.specs.Keys.{AreInOrder, tenant_key, key_cmp, user_key, version_key, context_key}
+use Rattle.wb_setup.specs.Keys.{AreInOrder, tenant_key, key_cmp, user_key, version_key, context_key}
 use Rattle.wb_tenants.specs.Sets.{HasTenant, is_tenant}
 
 module _ {X : Type 0} (p : X → Bool) where

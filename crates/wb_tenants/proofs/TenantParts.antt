@@ -8,7 +8,7 @@ use Rattle.std.specs.List.{AllByRecursion}
 use Rattle.std.specs.List.Sorted.{IsStrictlySortedBy}
 use Rattle.std.specs.Ordering.{nat_cmp, match_ordering, ordering_then, MatchOrdering}
 use Rattle.wb_list.specs.Keyed.{IsAscending, insert_item}
-use Rattle.wb_tenants.specs.Keys.{key_cmp}
+use Rattle.wb_setup.specs.Keys.{key_cmp}
 
 pub other : (a b : ℕ) → a ≢ b → (a == b) ≡ false
 other a b ne = elim (cases_Bool (a == b)) [

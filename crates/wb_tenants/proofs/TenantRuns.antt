@@ -7,7 +7,7 @@ use Rattle.std.specs.declared.cmp.Ordering.{Ordering}
 use Rattle.std.specs.declared.cmp.Ordering.TheVariants.{Less, Equal, Greater}
 use Rattle.wb_list.specs.Keyed.{IsAscending, IsRun}
 use Rattle.wb_tenants.proofs.Runs.{before_parted, within_parted, run_between}
-use Rattle.wb_tenants.specs.Keys.{Key, key_cmp}
+use Rattle.wb_setup.specs.Keys.{Key, key_cmp}
 
 not_less : Greater ≡ Less → ⊥
 not_less e = absurd cc

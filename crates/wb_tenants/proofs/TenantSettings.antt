@@ -11,7 +11,7 @@ use Rattle.wb_model.specs.declared.command.SettingsSet.{SettingsSet}
 use Rattle.wb_model.specs.declared.registry.TenantItem.{TenantItem}
 use Rattle.wb_model.specs.Openings.{registry_of, no_settings}
 use Rattle.wb_model.specs.declared.registry.Lists.{Lists}
-use Rattle.wb_tenants.specs.Keys.{tenant_key}
+use Rattle.wb_setup.specs.Keys.{tenant_key}
 use Rattle.wb_model.specs.Settings.{OfTenant, configured}
 use Rattle.wb_tenants.specs.Sets.{HasTenant, is_tenant, set_tenant, with_settings}
 use Rattle.wb_tenants.proofs.LookUps.{tenant-found}

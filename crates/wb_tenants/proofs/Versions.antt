@@ -9,7 +9,7 @@ use Rattle.wb_base.specs.FormShape.{keep}
 use Rattle.wb_list.specs.Keyed.{IsAscending, has_key}
 use Rattle.wb_model.specs.declared.registry.FormItem.{FormItem}
 use Rattle.wb_model.specs.Settings.{form_key}
-use Rattle.wb_tenants.specs.Keys.{Key, key_cmp, version_key}
+use Rattle.wb_setup.specs.Keys.{Key, key_cmp, version_key}
 use Rattle.wb_tenants.specs.Sets.{is_version, version_of}
 use Rattle.wb_tenants.proofs.LookUps.{find-part}
 

@@ -13,7 +13,7 @@ use Rattle.wb_model.specs.declared.registry.UserItem.{UserItem}
 use Rattle.wb_model.specs.Openings.{registry_of}
 use Rattle.wb_model.specs.Settings.{user_item, context_item, form_item}
 use Rattle.wb_model.specs.Tables.{user}
-use Rattle.wb_tenants.specs.Keys.{tenant_key, key_cmp, user_key, version_key, context_key}
+use Rattle.wb_setup.specs.Keys.{tenant_key, key_cmp, user_key, version_key, context_key}
 
 -- its lists, and how many more users, form versions and contexts it takes without memory
 pub record Roomed : Type 0 where

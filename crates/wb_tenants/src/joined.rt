@@ -2,16 +2,16 @@
 ghost use Rattle.std.specs.Prelude.{◌≡◌, ◌==◌, ◌++◌, [], ◌∷◌, ℕ, not, filter, fold, IfOk, OnOk};
 ghost use Rattle.std.specs.List.{list_any};
 ghost use Rattle.wb_list.specs.Keyed.{IsAscending, insert_item};
-ghost use Rattle.wb_tenants.specs.Joined.{joined as joined_lists, others_of, lists_with};
-ghost use Rattle.wb_tenants.specs.Keys.{AreInOrder};
+ghost use Rattle.wb_setup.specs.Joined.{joined as joined_lists, others_of, lists_with};
+ghost use Rattle.wb_setup.specs.Keys.{AreInOrder};
 
+use crate::Registry;
 use crate::form_copies::copy_form;
-use crate::ordered::{Placed, add};
-use crate::{Registry, Setup};
 use std::alloc::Global;
 use wb_base::{Memory, Tenant};
 use wb_list::{Items, TryClone};
 use wb_model::{ContextItem, FormItem, Lists, TenantItem, UserItem};
+use wb_setup::{Placed, Setup, add};
 
 /// What a setup adds: an item of a tenant, which can be copied.
 pub trait Added: Placed {

@@ -1,5 +1,5 @@
 //! What is set is set in its tenant alone, and is there what the definitions say; and what is kept of a tenant stays whole beside a setup.
-ghost use Rattle.std.specs.Prelude.{◌≡◌, ◌≢◌, ℕ, true, List, Ok};
+ghost use Rattle.std.specs.Prelude.{◌≡◌, ◌≢◌, ℕ, true};
 ghost use Rattle.wb_base.specs.declared.form.Form.{Form as FormOf};
 ghost use Rattle.wb_model.specs.declared.command.ContextSet.{ContextSet};
 ghost use Rattle.wb_model.specs.declared.command.SettingsSet.{SettingsSet};
@@ -7,11 +7,10 @@ ghost use Rattle.wb_model.specs.declared.command.UserSet.{UserSet};
 ghost use Rattle.wb_model.specs.declared.registry.Lists.{Lists};
 ghost use Rattle.wb_model.specs.Openings.{registry_of};
 ghost use Rattle.wb_model.specs.Settings.{OfUser, OfForm, OfContext, OfTenant, configured, context_item, ends_sessions, form_item};
-ghost use Rattle.wb_model.specs.SetUps.{AreSetUp, has_tenant};
-ghost use Rattle.wb_tenants.specs.Joined.{joined};
-ghost use Rattle.wb_tenants.specs.Keys.{AreInOrder};
+ghost use Rattle.wb_model.specs.SetUps.{has_tenant};
+ghost use Rattle.wb_setup.specs.Joined.{joined};
+ghost use Rattle.wb_setup.specs.Keys.{AreInOrder};
 ghost use Rattle.wb_tenants.specs.Sets.{HasTenant, set_user, with_context, with_user, with_form, with_settings};
-ghost use Rattle.wb_tenants.specs.Setups.{setup};
 
 /// What `Registry::set_user` makes of the lists is, for its tenant, what the accepted setting makes of the tenant's
 /// registry, and every other tenant's registry is as it was.
@@ -41,14 +40,4 @@ pub fn settings_are_set_in_their_tenant_alone()
 /// What `Registry::of` makes of the lists is, for a kept tenant, its registry as it was kept, whatever the setup says.
 pub fn a_kept_tenant_stays_whole()
     ensures { (setup kept : Lists) (t : ℕ) → has_tenant kept t ≡ true → registry_of (joined setup kept) t ≡ registry_of kept t }
-{}
-
-/// The lists that a setup gives are such as an opening asks for.
-pub fn a_setup_gives_an_opening()
-    ensures { (bytes : List ℕ) (lists : Lists) → setup bytes ≡ Ok lists → AreSetUp lists }
-{}
-
-/// What is kept, with what a setup adds of other tenants, is such as an opening asks for where both are.
-pub fn kept_rows_and_a_setup_make_an_opening()
-    ensures { (setup kept : Lists) → AreSetUp setup → AreSetUp kept → AreSetUp (joined setup kept) }
 {}

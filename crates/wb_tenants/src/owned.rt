@@ -3,7 +3,7 @@ ghost use Rattle.std.specs.Prelude.{◌≡◌, ◌==◌, ◌-◌, ◌≤◌, ℕ
 ghost use Rattle.std.specs.List.Sorted.{IsPartitionPoint};
 ghost use Rattle.std.specs.Ordering.{nat_cmp, is_lt, is_le};
 ghost use Rattle.wb_list.specs.Keyed.{IsAscending};
-ghost use Rattle.wb_tenants.specs.Keys.{key_cmp};
+ghost use Rattle.wb_setup.specs.Keys.{key_cmp};
 
 use wb_base::Tenant;
 use wb_model::{FormItem, UserItem};

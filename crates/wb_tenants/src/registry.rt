@@ -4,16 +4,16 @@ ghost use Rattle.std.specs.Option.{option_copied};
 ghost use Rattle.wb_base.specs.FormShape.{keep};
 ghost use Rattle.wb_model.specs.Openings.{registry_of};
 ghost use Rattle.wb_model.specs.Tables.{user as user_in, user_named as user_named_in, context as context_in, newest_form as newest_form_in};
-ghost use Rattle.wb_tenants.specs.Keys.{AreInOrder};
+ghost use Rattle.wb_setup.specs.Keys.{AreInOrder};
 ghost use Rattle.wb_tenants.specs.Sets.{is_tenant, is_version, version_of};
 
-use crate::ordered::{find_in, form_place};
 use crate::owned::part;
 use crate::spare::Spare;
 use std::alloc::Global;
 use std::marker::Model;
 use wb_base::{Tenant, Text, UserId};
 use wb_model::{ContextItem, FormItem, Lists, TenantItem, UserItem};
+use wb_setup::{find_in, form_place};
 
 /// The tenants of a host, seen as their lists and the room that these have for more.
 #[derive(Drop)]
@@ -26,7 +26,7 @@ pub struct Registry {
 
 impl Model for Registry {
     ghost use Rattle.std.specs.Prelude.{◌-◌, length};
-    ghost use Rattle.wb_tenants.specs.Keys.{AreInOrder};
+    ghost use Rattle.wb_setup.specs.Keys.{AreInOrder};
     ghost use Rattle.wb_tenants.specs.Sets.{Roomed};
 
     ghost Value = { Roomed };

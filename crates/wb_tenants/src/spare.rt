@@ -3,12 +3,12 @@ ghost use Rattle.std.specs.Prelude.{◌≡◌, ◌<◌, true, find, is_some, len
 ghost use Rattle.std.specs.Vec.{vec_len, vec_capacity};
 ghost use Rattle.wb_list.specs.Keyed.{IsAscending, has_key, insert_item};
 
-use crate::ordered::{Placed, insert_at, place_of, replace_at};
 use std::alloc::Global;
 use std::marker::Model;
 use std::mem;
 use wb_base::Memory;
 use wb_list::Items;
+use wb_setup::{Placed, insert_at, place_of, replace_at};
 
 /// An empty `Vec`, seen as how many items it takes without memory.
 #[derive(Drop)]

@@ -11,8 +11,8 @@ use Rattle.wb_model.specs.declared.registry.Lists.{Lists}
 use Rattle.wb_rows.specs.declared.faults.RowFault.{RowFault}
 use Rattle.wb_rows.specs.Held.{Held}
 use Rattle.wb_rows.specs.Judged.{judged}
-use Rattle.wb_tenants.specs.declared.setup.SetupFault.{SetupFault}
-use Rattle.wb_tenants.specs.Setups.{setup as lists_in}
+use Rattle.wb_setup.specs.declared.setup.SetupFault.{SetupFault}
+use Rattle.wb_setup.specs.Setups.{setup as lists_in}
 use Rattle.wb_wire.specs.SetupReading.{TookSetup}
 use Rattle.wb_wire.specs.SetupText.{setup_text, IsSetup}
 use Rattle.whistle.specs.Runs.{script_text, RanOn, RanNot, Ran}

@@ -6,8 +6,8 @@ use Rattle.wb_model.specs.declared.registry.Lists.{Lists}
 use Rattle.wb_rows.specs.declared.faults.RowFault.{RowFault}
 use Rattle.wb_rows.specs.Held.{Held}
 use Rattle.wb_rows.specs.Judged.{judged}
-use Rattle.wb_tenants.specs.declared.setup.SetupFault.{SetupFault}
-use Rattle.wb_tenants.specs.Setups.{setup as lists_in}
+use Rattle.wb_setup.specs.declared.setup.SetupFault.{SetupFault}
+use Rattle.wb_setup.specs.Setups.{setup as lists_in}
 use Rattle.whistle.specs.declared.harbour.TheConstants.{HARBOUR}
 use Rattle.wb_start.specs.declared.status.Status.{Status}
 use Rattle.wb_start.specs.declared.status.Status.TheVariants.{Done, Usage, ReadFault, WriteFault, NoMemory, BadFrame, Setup, OpenFault, KeptRows, TooLong, ListenFault}

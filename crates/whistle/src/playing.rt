@@ -8,7 +8,7 @@ ghost use Rattle.wb_model.specs.declared.registry.Lists.{Lists};
 ghost use Rattle.wb_model.specs.FrameTexts.{IsFrame};
 ghost use Rattle.wb_rows.specs.Held.{Held};
 ghost use Rattle.wb_rows.specs.Judged.{judged};
-ghost use Rattle.wb_tenants.specs.Setups.{setup as lists_in};
+ghost use Rattle.wb_setup.specs.Setups.{setup as lists_in};
 ghost use Rattle.wb_wire.specs.SetupText.{IsSetup};
 ghost use Rattle.whistle.specs.Runs.{Ran, script_text};
 

@@ -10,8 +10,8 @@ use Rattle.wb_rows.specs.Held.{held_by}
 use Rattle.wb_rows.specs.Openings.{with_setup}
 use Rattle.wb_tables.specs.declared.tenancy.Tenancy.{Tenancy as KeptTenancy}
 use Rattle.wb_tables.specs.Kept.{place_of}
-use Rattle.wb_tenants.specs.Joined.{joined}
-use Rattle.wb_tenants.specs.Keys.{tenant_key}
+use Rattle.wb_setup.specs.Joined.{joined}
+use Rattle.wb_setup.specs.Keys.{tenant_key}
 use Rattle.wb_opening.specs.HeldPlaces.{AreToCome, bare, held_places, new_puts, with_reports}
 use Rattle.wb_opening.proofs.KeptReports.{ids, held_ids, held_reports, none_come_yet}
 use Rattle.wb_opening.proofs.NewTenants.{same_puts}

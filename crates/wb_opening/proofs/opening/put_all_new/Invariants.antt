@@ -1,7 +1,7 @@
 use Rattle.std.proofs.Common.{◌≡◌, ◌++◌, drop, map}
 use Rattle.std.specs.List.{list_any}
 use Rattle.std.specs.Prelude.{◌==◌}
-use Rattle.wb_tenants.specs.Keys.{tenant_key}
+use Rattle.wb_setup.specs.Keys.{tenant_key}
 use Rattle.wb_opening.specs.HeldPlaces.{new_puts}
 use Rattle.wb_opening.proofs.opening.put_all_new.Given as goal
 

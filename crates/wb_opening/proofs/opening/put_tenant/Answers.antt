@@ -3,7 +3,7 @@ use Rattle.std.specs.Prelude.{OnOk}
 use Rattle.wb_base.specs.declared.rows.Row.{Row}
 use Rattle.wb_base.specs.declared.rows.Change.TheVariants.{Put}
 use Rattle.wb_model.specs.SetUps.{tenant_ids}
-use Rattle.wb_tenants.proofs.Orders.{ids_ascend}
+use Rattle.wb_setup.proofs.Orders.{ids_ascend}
 use Rattle.wb_opening.proofs.OwnRows.{new_rows}
 use Rattle.wb_opening.proofs.opening.put_tenant.Goals as goal
 

@@ -23,7 +23,7 @@ use Rattle.wb_rows.proofs.RowsBack.{rows-back}
 use Rattle.wb_rows.proofs.TablesBack.{not-refused, same-read}
 use Rattle.wb_rows.proofs.FitItems.{tenants-fit, forms-fit}
 use Rattle.wb_rows.proofs.ItemOrder.{items_ascend, lists-order, entries-order, sealed-order}
-use Rattle.wb_tenants.specs.Keys.{AreInOrder}
+use Rattle.wb_setup.specs.Keys.{AreInOrder}
 use Rattle.wb_rows.proofs.reading.read.Goals as goal
 
 pub judge-requires-clause-tenants : goal.judge-requires-clause-tenants

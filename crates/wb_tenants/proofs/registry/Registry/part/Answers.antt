@@ -1,7 +1,7 @@
 use Rattle.std.proofs.Common.{◌≡◌, refl, sym, ap, ◌∙◌, subst}
 use Rattle.wb_model.specs.declared.registry.Lists.{Lists}
 use Rattle.wb_model.specs.Openings.{registry_of}
-use Rattle.wb_tenants.specs.Keys.{AreInOrder}
+use Rattle.wb_setup.specs.Keys.{AreInOrder}
 use Rattle.wb_tenants.specs.Owned.{own_lists}
 use Rattle.wb_tenants.specs.Sets.{HasTenant}
 use Rattle.wb_tenants.proofs.OwnParts.{own_order, own_registry, own_there}

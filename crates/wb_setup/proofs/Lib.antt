@@ -1,0 +1,12 @@
+pub mod Walks
+pub mod TomlViews
+pub mod Readers
+pub mod Puts
+pub mod Orders
+pub mod Recipients
+pub mod GivenRanges
+pub mod Groups
+pub mod GivenForms
+pub mod Joining
+pub mod OtherLists
+pub mod GivenLists

@@ -1,5 +1,0 @@
-use Rattle.wb_tenants.proofs.GivenLists.{setup_is_set_up}
-use Rattle.wb_tenants.proofs.laws.a_setup_gives_an_opening.Goals as goal
-
-pub returns : goal.returns
-returns c = setup_is_set_up

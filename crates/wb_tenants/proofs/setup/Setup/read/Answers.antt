@@ -1,6 +1,0 @@
-use Rattle.std.proofs.Common.{rules}
-use Rattle.wb_tenants.proofs.GivenLists.{setup_is_set_up}
-use Rattle.wb_tenants.proofs.setup.Setup.read.Goals as goal
-
-pub returns-in-Ok-with_tenants-clause-set_up : goal.returns-in-Ok-with_tenants-clause-set_up
-returns-in-Ok-with_tenants-clause-set_up c = setup_is_set_up c.args.bytes.now c.in-Ok-with_tenants.lists (search rules)
