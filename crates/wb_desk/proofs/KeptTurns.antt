@@ -20,11 +20,12 @@ use Rattle.wb_model.specs.Targets.{target}
 use Rattle.wb_model.specs.declared.body.Told.{Told}
 use Rattle.wb_model.specs.Tenants.{Tenancy, Hosts, tenant_at, one, hosts_after}
 use Rattle.wb_model.proofs.Keeping.{keeps_in}
-use Rattle.wb_plan.specs.declared.plan.At.{At as KeptAt}
+use Rattle.wb_looks.specs.declared.turn.At.{At as KeptAt}
 use Rattle.wb_plan.specs.declared.plan.Plan.{Plan}
 use Rattle.wb_plan.specs.declared.plan.Planned.{Planned}
 use Rattle.wb_plan.specs.declared.plan.Planned.TheVariants as planned
-use Rattle.wb_plan.specs.Plans.{Plans, at_of, begins, change_of}
+use Rattle.wb_looks.specs.Looks.{at_of}
+use Rattle.wb_plan.specs.Plans.{Plans, begins, change_of}
 use Rattle.wb_tables.specs.Dead.{any_dead}
 use Rattle.wb_tables.specs.Kept.{Place, place_of, tables_of, tenancy_of, sessions_at}
 use Rattle.wb_tables.specs.Places.{ArePlaces, IsAt}

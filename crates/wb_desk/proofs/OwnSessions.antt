@@ -28,11 +28,12 @@ use Rattle.wb_model.proofs.Effects.{comes_is, in_open_is, identity_is, share_is,
 use Rattle.wb_model.proofs.Found.{find_true}
 use Rattle.wb_model.proofs.Leaving.{apart_filter}
 use Rattle.wb_model.proofs.Receipts.{HasOwn, verdict_own as receipt_own}
-use Rattle.wb_plan.specs.declared.plan.At.{At as KeptAt}
+use Rattle.wb_looks.specs.declared.turn.At.{At as KeptAt}
 use Rattle.wb_plan.specs.declared.plan.Plan.{Plan}
 use Rattle.wb_plan.specs.declared.plan.Planned.{Planned}
 use Rattle.wb_plan.specs.declared.plan.Planned.TheVariants as planned
-use Rattle.wb_plan.specs.Plans.{IsFit, Plans, at_of, begins, change_of as planned_change_of}
+use Rattle.wb_looks.specs.Looks.{at_of}
+use Rattle.wb_plan.specs.Plans.{IsFit, Plans, begins, change_of as planned_change_of}
 use Rattle.wb_tables.specs.Kept.{Place, place_of, plain_of, tables_of, live_place, live_plain}
 use Rattle.wb_tables.specs.Logins.{who_seen}
 use Rattle.wb_tables.specs.Places.{ArePlaces}

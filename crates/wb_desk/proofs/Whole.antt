@@ -8,10 +8,11 @@ use Rattle.wb_model.specs.declared.body.Told.{Told}
 use Rattle.wb_model.specs.Commands.{tenant_of}
 use Rattle.wb_model.specs.Tenants.{Tenancy, without_tenant}
 use Rattle.wb_model.specs.Host.{purged, tables_after}
-use Rattle.wb_plan.specs.declared.plan.At.{At as KeptAt}
+use Rattle.wb_looks.specs.declared.turn.At.{At as KeptAt}
 use Rattle.wb_plan.specs.declared.plan.Plan.{Plan}
 use Rattle.wb_tables.specs.declared.tenancy.Tenancy.{Tenancy as KeptTenancy}
-use Rattle.wb_plan.specs.Plans.{Plans, at_of}
+use Rattle.wb_looks.specs.Looks.{at_of}
+use Rattle.wb_plan.specs.Plans.{Plans}
 use Rattle.wb_tables.specs.Places.{ArePlaces, IsAt, is_tenant}
 use Rattle.wb_desk.specs.Ready.{IsMadeAt}
 use Rattle.wb_opening.specs.SetUp.{AreSetUpRight}

@@ -375,11 +375,6 @@ found_good p (x ∷ xs) item all e = by (λ f. found_good p xs item all.1 f) (p 
 pub trail_form_good : (trail : List Entry) (forms : List FormItem) (item : FormItem) → AreGoodForms forms → form_of_trail trail forms ≡ Some item → is_good item.form ≡ true
 trail_form_good trail forms item all e = found_good (λ x. (x.id == trails.form trail) && (x.version == trails.version trail)) forms item all e
 
-pub few_at : (i : ℕ) (cs : List Report) (x : Report) → AreFewRequests (map case_of cs) → i < length cs → x ≡ get_or cs i x → length (requests x.case.items) ≤ 100
-few_at i [] x all lt is = absurd (omega (arith, lt))
-few_at zero (c ∷ cs) x all lt is = subst (λ (r : Report). length (requests r.case.items) ≤ 100) (sym is) all.0
-few_at (suc i) (c ∷ cs) x all lt is = few_at i cs x all.1 (omega (arith, lt)) is
-
 pub few_there : (n : ℕ) (cs : List Case) (case : Case) → AreFewRequests cs → report n cs ≡ Some case → length (requests case.trail) ≤ 100
 few_there n [] case all e = absurd cc
 few_there n (c ∷ cs) case all e = by (λ f. few_there n cs case all.1 f) (has_number n c) e

@@ -39,7 +39,8 @@ use Rattle.wb_plan.specs.declared.step.Step.{Step}
 use Rattle.wb_plan.specs.declared.step.Step.TheVariants as steps
 use Rattle.wb_plan.specs.declared.step.Writing.{Writing}
 use Rattle.wb_plan.specs.Plans.{IsPlan, Gives, PlansOn, change_of}
-use Rattle.wb_plan.specs.Steps.{Alike, Answers, Bars, DoesLike, IsAsked, IsLook, IsNote, IsPutIn, IsSetting, IsSound, IsSoundAsk, IsStep, IsTold, IsWriting, SetsIn, WritesDown, WritesIn, barred, doing_of, most_of, seen}
+use Rattle.wb_looks.specs.Looks.{IsLook, seen}
+use Rattle.wb_plan.specs.Steps.{Alike, Answers, Bars, DoesLike, IsAsked, IsNote, IsPutIn, IsSetting, IsSound, IsSoundAsk, IsStep, IsTold, IsWriting, SetsIn, WritesDown, WritesIn, barred, doing_of, most_of}
 
 -- ---- plans that only answer
 

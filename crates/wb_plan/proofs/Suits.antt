@@ -19,7 +19,7 @@ use Rattle.wb_model.specs.Requests.{outline}
 use Rattle.wb_model.proofs.Found.{Held}
 use Rattle.wb_model.proofs.Fitting.{target_held}
 use Rattle.wb_model.proofs.Placed.{on_placed}
-use Rattle.wb_plan.specs.Suited.{is_entry, is_return, is_free, is_staffed, is_owned, suits}
+use Rattle.wb_looks.specs.Suited.{is_entry, is_return, is_free, is_staffed, is_owned, suits}
 
 or_true : (b : Bool) → (b || true) ≡ true
 or_true true = refl

@@ -1,5 +1,2 @@
-pub mod Needs
 pub mod Plans
 pub mod Steps
-pub mod Suited
-pub mod Targeted

@@ -27,13 +27,9 @@ use Rattle.wb_tables.specs.Kept.{plain_of, live_plain}
 use Rattle.wb_tables.specs.Logins.{AreEarlier, login_of, session_of, who_seen}
 use Rattle.wb_tables.specs.Noted.{IsReady}
 use Rattle.wb_tables.specs.Receipted.{is_submitted}
-use Rattle.wb_plan.specs.declared.plan.At.{At as KeptAt}
 use Rattle.wb_plan.specs.declared.plan.Plan.{Plan}
 use Rattle.wb_plan.specs.declared.plan.Planned.{Planned}
 use Rattle.wb_plan.specs.declared.plan.Planned.TheVariants as planned
-
-abbrev pub at_of : KeptAt → At
-at_of at = record { time = at.time; turn = at.turn; words = at.words }
 
 -- a report begins with an entry
 abbrev pub begins : List Entry → Change

@@ -50,7 +50,7 @@ use Rattle.wb_tables.specs.declared.proposal.Proposal.TheVariants as proposals
 use Rattle.wb_tables.specs.Configured.{IsSound as IsSoundProposal, fault_of, proposal_of, row_of}
 use Rattle.wb_tables.specs.Logins.{who_seen}
 use Rattle.wb_tables.specs.Noted.{IsReady}
-use Rattle.wb_plan.specs.declared.plan.At.{At as KeptAt}
+use Rattle.wb_looks.specs.declared.turn.At.{At as KeptAt}
 use Rattle.wb_plan.specs.declared.plan.Plan.{Plan}
 use Rattle.wb_plan.specs.declared.plan.Planned.{Planned}
 use Rattle.wb_plan.specs.declared.plan.Planned.TheVariants as planned
@@ -64,8 +64,9 @@ use Rattle.wb_plan.specs.declared.step.Setting.{Setting}
 use Rattle.wb_plan.specs.declared.step.Step.{Step}
 use Rattle.wb_plan.specs.declared.step.Step.TheVariants as steps
 use Rattle.wb_plan.specs.declared.step.Writing.{Writing}
-use Rattle.wb_plan.specs.Plans.{at_of, PlansOn, IsFitAtOnce, IsLogin, tables_at}
-use Rattle.wb_plan.specs.Targeted.{told_of}
+use Rattle.wb_looks.specs.Looks.{at_of}
+use Rattle.wb_plan.specs.Plans.{PlansOn, IsFitAtOnce, IsLogin, tables_at}
+use Rattle.wb_looks.specs.Targeted.{told_of}
 
 -- ---- what is done on a report
 
@@ -114,23 +115,6 @@ IsSoundAsk by (asks.Bars fault) = Unit {0}
 -- so many days are those that a context keeps its reports, or one where it keeps them for none
 abbrev pub IsRetention : ℕ → ℕ → Type 0
 IsRetention days kept = (days ≡ kept) ⊎ ((kept ≡ 0) × (days ≡ 1))
-
--- ---- what is shown
-
--- the request looks at something, which may not be there
-abbrev pub IsLook : Effect → Type 0
-IsLook (effects.Looks view) = Unit {0}
-IsLook effects.Misses = Unit {0}
-IsLook _ = ⊥
-
--- what it is shown
-abbrev pub seen : At → Plain → Option Who → Effect → Told
-seen at p who (effects.Looks view) = shown at p who view
-seen at p who _ = not_found
-
--- the reply shows the open context of an id with the newest version of its form
-abbrev pub ShowsOpen : Registry → ℕ → Told → Type 0
-ShowsOpen g c t = (x : ContextItem) (form : FormItem) → context c g.contexts ≡ Some x → newest_form x.form g.forms ≡ Some form → t ≡ told 200 (context_view x form)
 
 -- ---- steps
 

@@ -7,11 +7,11 @@ ghost use Rattle.wb_model.specs.Json.{told};
 ghost use Rattle.wb_model.specs.ShortViews.{request_view as request_data};
 ghost use Rattle.wb_plan.specs.Steps.{Answers, WritesDown, doing_of};
 
-use crate::refused::Refusal;
 use crate::sessions::done;
 use crate::step::{Asks, Doing, Step, Writing, refusing};
 use std::alloc::Global;
 use wb_base::Memory;
+use wb_looks::Refusal;
 use wb_model::{Act, Body, Move, Told};
 use wb_tables::{Report, Who};
 use wb_views::request_view;

@@ -11,12 +11,12 @@ ghost use Rattle.wb_plan.specs.Steps.{GivesAfter, GivesIdentity, WritesDown};
 ghost use Rattle.wb_tables.specs.Kept.{plain_of};
 ghost use Rattle.wb_tables.specs.Places.{IsLookedUp};
 
-use crate::refused::{Refusal, refuse_answers};
 use crate::sessions::done;
 use crate::step::{Doing, Step, Writing, refusing, telling};
 use std::alloc::Global;
 use wb_base::{AnswerFault, Answers, Form, Memory};
 use wb_list::TryClone;
+use wb_looks::{Refusal, refuse_answers};
 use wb_model::{Act, Deed, Entry, FormItem, Told};
 use wb_tables::{Report, Tenancy, Who};
 use wb_trigger::check_identity;

@@ -1,21 +1,13 @@
 //! What a turn is going to answer and to change.
 ghost use Rattle.std.specs.Prelude.{◌≡◌, IfOk};
-ghost use Rattle.wb_plan.specs.Targeted.{told_of};
+ghost use Rattle.wb_looks.specs.Targeted.{told_of};
 
-use crate::refused::{Refusal, refuse};
 use std::alloc::Global;
-use wb_base::{Answers, Memory, Moment, Number, Row, Words};
+use wb_base::{Answers, Memory, Number, Row};
 use wb_case::Case;
+use wb_looks::{Refusal, refuse};
 use wb_model::{Entry, Told};
 use wb_tables::{Login, Proposal, Who};
-
-/// A turn: its time, its number and its random words.
-#[derive(Clone, Copy, Debug, PartialEq, Eq)]
-pub struct At {
-    pub time: Moment,
-    pub turn: u64,
-    pub words: Words,
-}
 
 /// A report that begins: it has its first entry, and its identity answers where there are any.
 #[derive(Drop)]

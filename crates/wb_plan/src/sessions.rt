@@ -3,13 +3,15 @@ ghost use Rattle.std.specs.Prelude.{◌≡◌, IfOk};
 ghost use Rattle.wb_model.specs.Json.{told};
 ghost use Rattle.wb_model.specs.Logins.{new_session, welcome as welcome_told};
 ghost use Rattle.wb_model.specs.ShortViews.{done_view as done_data};
-ghost use Rattle.wb_plan.specs.Plans.{at_of, IsLogin};
+ghost use Rattle.wb_looks.specs.Looks.{at_of};
+ghost use Rattle.wb_plan.specs.Plans.{IsLogin};
 ghost use Rattle.wb_tables.specs.Logins.{login_of, who_seen};
 
-use crate::plan::{At, Plan, Planned};
+use crate::plan::{Plan, Planned};
 use std::alloc::Global;
 use wb_access::{digest, secret};
 use wb_base::{Memory, Role};
+use wb_looks::At;
 use wb_model::{Body, Told};
 use wb_tables::{Login, Tenancy, Who};
 use wb_views::{done_view, session_view};

@@ -12,11 +12,11 @@ ghost use Rattle.wb_plan.specs.Steps.{IsProposed};
 ghost use Rattle.wb_tables.specs.Kept.{plain_of};
 ghost use Rattle.wb_tables.specs.Places.{IsLookedUp};
 
-use crate::refused::{Refusal, refuse_form};
 use crate::sessions::done;
 use crate::step::{Setting, Step, refusing, telling};
 use std::alloc::Global;
 use wb_base::{Form, FormFault, Memory, UserId};
+use wb_looks::{Refusal, refuse_form};
 use wb_model::{Body, ContextSet, SettingsSet, Told, UserSet};
 use wb_tables::{Proposal, Tenancy};
 use wb_tenants::{copy_context, copy_form, copy_settings, copy_user};

@@ -1,12 +1,12 @@
 //! What is left to do for a plan.
 ghost use Rattle.std.specs.Prelude.{◌≡◌, IfOk};
 ghost use Rattle.wb_plan.specs.Steps.{IsTold};
-ghost use Rattle.wb_plan.specs.Targeted.{told_of};
+ghost use Rattle.wb_looks.specs.Targeted.{told_of};
 
 use crate::plan::{Plan, answering};
-use crate::refused::{Refusal, refuse};
 use std::alloc::Global;
 use wb_base::{Answers, Memory, Number};
+use wb_looks::{Refusal, refuse};
 use wb_model::{Act, CaseFault, Entry, Move, Told};
 use wb_tables::{Proposal, Who};
 

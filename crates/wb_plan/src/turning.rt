@@ -6,7 +6,8 @@ ghost use Rattle.wb_model.specs.Fits.{fits};
 ghost use Rattle.wb_model.specs.Host.{purged};
 ghost use Rattle.wb_model.specs.Tables.{is_there, report as report_by};
 ghost use Rattle.wb_model.specs.declared.entry.Entry.{Entry as EntryValue};
-ghost use Rattle.wb_plan.specs.Plans.{at_of, HasRoom, IsFit, IsFitAtOnce, IsRoomy, Plans};
+ghost use Rattle.wb_looks.specs.Looks.{at_of};
+ghost use Rattle.wb_plan.specs.Plans.{HasRoom, IsFit, IsFitAtOnce, IsRoomy, Plans};
 ghost use Rattle.wb_plan.specs.Steps.{IsJudged, IsReadyFor, IsSound, SetsIn, WritesIn, most_of};
 ghost use Rattle.wb_tables.specs.Configured.{IsSound as IsSoundProposal};
 ghost use Rattle.wb_tables.specs.Indexed.{AreFewRequests};
@@ -14,13 +15,13 @@ ghost use Rattle.wb_tables.specs.Kept.{case_of, place_of, plain_of, tables_of};
 ghost use Rattle.wb_tables.specs.Logins.{AreEarlier, session_of, who_seen};
 ghost use Rattle.wb_tables.specs.Places.{IsLookedUp};
 
-use crate::plan::{At, Configuring, Noted, Plan, Planned, refused};
-use crate::refused::Refusal;
+use crate::plan::{Configuring, Noted, Plan, Planned, refused};
 use crate::step::{Doing, Judged, Setting, Step, Writing};
 use crate::stepping::step_of;
 use std::alloc::Global;
 use wb_base::{Memory, Moment, Number};
 use wb_custody::SealedTable;
+use wb_looks::{At, Refusal};
 use wb_model::{Act, Actor, AdminFault, Asked, CaseFault, CustodyFault, Move};
 use wb_tables::{Cases, Proposal, Tenancy, Who};
 

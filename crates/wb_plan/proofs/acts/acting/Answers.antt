@@ -1,6 +1,6 @@
 use Rattle.std.proofs.Common.{Some, sym, subst}
 use Rattle.wb_model.specs.Tables.{TheUser}
-use Rattle.wb_plan.specs.Plans.{at_of}
+use Rattle.wb_looks.specs.Looks.{at_of}
 use Rattle.wb_plan.specs.Steps.{IsAsked}
 use Rattle.wb_plan.proofs.acts.acting.Goals as goal
 

@@ -1,4 +1,4 @@
-use Rattle.wb_plan.specs.Plans.{at_of}
+use Rattle.wb_looks.specs.Looks.{at_of}
 use Rattle.wb_tables.specs.Kept.{live_plain, plain_of}
 use Rattle.wb_plan.proofs.Families.{submit_plan}
 use Rattle.wb_plan.proofs.stepping.by_anyone.Goals as goal

@@ -5,7 +5,7 @@ use Rattle.wb_model.specs.Host.{purged}
 use Rattle.wb_model.specs.Tables.{TheUser}
 use Rattle.wb_tables.specs.declared.tenancy.Who.TheVariants as kept
 use Rattle.wb_tables.specs.Kept.{case_of, place_of, tables_of}
-use Rattle.wb_plan.specs.Plans.{at_of}
+use Rattle.wb_looks.specs.Looks.{at_of}
 use Rattle.wb_plan.specs.Steps.{IsAsked}
 use Rattle.wb_plan.proofs.Families.{answers_fit, identity_step, names_unanswered, sealed_there}
 use Rattle.wb_plan.proofs.Steps.{asked_step}

@@ -8,7 +8,7 @@ use Rattle.wb_model.specs.Views.{reporter_view}
 use Rattle.wb_model.specs.Tables.{TheReporter}
 use Rattle.wb_tables.specs.declared.tenancy.Who.TheVariants as kept
 use Rattle.wb_tables.specs.Kept.{case_of, place_of, tables_of}
-use Rattle.wb_plan.specs.Plans.{at_of}
+use Rattle.wb_looks.specs.Looks.{at_of}
 use Rattle.wb_plan.specs.Steps.{IsAsked}
 use Rattle.wb_plan.proofs.Families.{given_step, own_step, sealed_there, unanswered}
 use Rattle.wb_plan.proofs.Steps.{asked_step}

@@ -4,7 +4,8 @@ use Rattle.wb_model.specs.declared.command.Command.TheVariants as commands
 use Rattle.wb_model.specs.Commands.{tenant_of}
 use Rattle.wb_model.specs.Effects.{Sets}
 use Rattle.wb_model.specs.Settings.{ToTenant, ToUser, ToContext}
-use Rattle.wb_plan.specs.Plans.{at_of, tables_at}
+use Rattle.wb_looks.specs.Looks.{at_of}
+use Rattle.wb_plan.specs.Plans.{tables_at}
 use Rattle.wb_plan.proofs.Families.{proposed_fit, proposed_step}
 use Rattle.wb_plan.proofs.stepping.by_staff.Goals as goal
 

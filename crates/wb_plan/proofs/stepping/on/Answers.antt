@@ -7,7 +7,7 @@ use Rattle.wb_model.specs.Targets.{target, On}
 use Rattle.wb_model.proofs.Leaving.{apart_filter}
 use Rattle.wb_tables.specs.Kept.{case_of, live_plain, place_of, plain_of, tables_of}
 use Rattle.wb_tables.specs.Logins.{who_seen}
-use Rattle.wb_plan.specs.Plans.{at_of}
+use Rattle.wb_looks.specs.Looks.{at_of}
 use Rattle.wb_plan.specs.Steps.{IsStep}
 use Rattle.wb_plan.proofs.Families.{few_filtered, few_there, found_passes}
 use Rattle.wb_plan.proofs.Suits.{reporter_number, target_there}

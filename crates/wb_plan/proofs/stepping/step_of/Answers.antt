@@ -1,6 +1,6 @@
 use Rattle.std.proofs.Common.{◌≡◌, true, sym, subst}
 use Rattle.wb_tables.specs.Kept.{live_plain, plain_of}
-use Rattle.wb_plan.specs.Suited.{suits}
+use Rattle.wb_looks.specs.Suited.{suits}
 use Rattle.wb_plan.proofs.Suits.{suited}
 use Rattle.wb_plan.proofs.stepping.step_of.Goals as goal
 

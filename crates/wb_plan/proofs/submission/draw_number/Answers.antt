@@ -2,8 +2,8 @@ use Rattle.std.proofs.Common.{sym, ap, ◌∙◌}
 use Rattle.std.specs.Option.{option_map}
 use Rattle.std.proofs.lemmas.Result.{IfOk-weaker}
 use Rattle.wb_model.specs.Requests.{submission_fault, public, secret, mark}
-use Rattle.wb_plan.specs.Plans.{at_of}
-use Rattle.wb_plan.specs.Targeted.{told_of}
+use Rattle.wb_looks.specs.Looks.{at_of}
+use Rattle.wb_looks.specs.Targeted.{told_of}
 use Rattle.wb_tables.specs.Kept.{plain_of, live_plain}
 use Rattle.wb_plan.proofs.Results.{ok_both}
 use Rattle.wb_plan.proofs.Steps.{refused_plan}

@@ -1,7 +1,7 @@
 use Rattle.std.proofs.Common.{◌∙◌}
 use Rattle.std.proofs.lemmas.Result.{IfOk-weaker}
 use Rattle.wb_model.specs.Requests.{submission_fault}
-use Rattle.wb_plan.specs.Plans.{at_of}
+use Rattle.wb_looks.specs.Looks.{at_of}
 use Rattle.wb_tables.specs.Kept.{plain_of, live_plain}
 use Rattle.wb_plan.proofs.Steps.{refused_plan}
 use Rattle.wb_plan.proofs.Submissions.{newest_good, faulted}

@@ -7,7 +7,7 @@ use Rattle.wb_model.specs.Tables.{is_there}
 use Rattle.wb_model.specs.Targets.{target}
 use Rattle.wb_tables.specs.Kept.{Place, live_plain, place_of, plain_of, tables_of}
 use Rattle.wb_tables.proofs.Lookups.{there-found}
-use Rattle.wb_plan.specs.Plans.{at_of}
+use Rattle.wb_looks.specs.Looks.{at_of}
 use Rattle.wb_plan.specs.Steps.{IsStep, IsWriting}
 use Rattle.wb_plan.proofs.Families.{writing_found, written_fit}
 use Rattle.wb_plan.proofs.Results.{ok_both}

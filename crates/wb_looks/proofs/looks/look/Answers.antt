@@ -1,5 +1,5 @@
 use Rattle.wb_model.specs.Tenants.{healthy}
-use Rattle.wb_plan.proofs.looks.look.Goals as goal
+use Rattle.wb_looks.proofs.looks.look.Goals as goal
 
 pub returns-in-Health-clause-told : goal.returns-in-Health-clause-told
 unfolding healthy

@@ -7,10 +7,10 @@ use Rattle.wb_model.specs.Refusals.{not_found, no_session, wrong_role, wrong_rig
 use Rattle.wb_model.specs.Targets.{Target, Nobody, Alone, On}
 use Rattle.wb_tables.specs.Kept.{case_of}
 use Rattle.wb_tables.specs.Logins.{who_seen}
-use Rattle.wb_plan.specs.declared.refused.Refusal.{Refusal}
-use Rattle.wb_plan.specs.declared.refused.Refusal.TheVariants as refusals
-use Rattle.wb_plan.specs.declared.target.Target.{Target as KeptTarget}
-use Rattle.wb_plan.specs.declared.target.Target.TheVariants as targets
+use Rattle.wb_looks.specs.declared.refused.Refusal.{Refusal}
+use Rattle.wb_looks.specs.declared.refused.Refusal.TheVariants as refusals
+use Rattle.wb_looks.specs.declared.target.Target.{Target as KeptTarget}
+use Rattle.wb_looks.specs.declared.target.Target.TheVariants as targets
 
 abbrev pub told_of : Refusal → Told
 told_of refusals.NotFound = not_found

@@ -1,7 +1,7 @@
 use Rattle.std.proofs.Common.{arith}
 use Rattle.wb_tables.proofs.NotedReports.{custodied_at}
-use Rattle.wb_plan.proofs.Families.{few_at}
-use Rattle.wb_plan.proofs.looks.custodied_rows.Goals as goal
+use Rattle.wb_looks.proofs.FewRequests.{few_at}
+use Rattle.wb_looks.proofs.looks.custodied_rows.Goals as goal
 
 pub push_requests-requires-clause-custodied : goal.push_requests-requires-clause-custodied
 push_requests-requires-clause-custodied c = custodied_at c.loop-report.report-index c.args.cases.now c.report-item.result c.requires.custodied (omega (arith, c.loop-report-test.true)) c.report-item.is

@@ -1,7 +1,7 @@
 //! The routes: which tenant a command names, and who may call them.
 ghost use Rattle.std.specs.Prelude.{◌≡◌};
 ghost use Rattle.wb_model.specs.Commands.{need as needed_by, tenant_of as tenant_of_command};
-ghost use Rattle.wb_plan.specs.Needs.{need_of};
+ghost use Rattle.wb_looks.specs.Needs.{need_of};
 
 use wb_base::Role;
 use wb_model::Command;

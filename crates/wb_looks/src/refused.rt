@@ -3,7 +3,7 @@ ghost use Rattle.std.specs.Prelude.{◌≡◌, IfOk};
 ghost use Rattle.wb_model.specs.Faults.{was_detail as was_detail_of};
 ghost use Rattle.wb_model.specs.Refusals.{answer_code as answer_code_of, form_code as form_code_of, faulty, form_faulty, refused};
 ghost use Rattle.wb_views.specs.RefusalBodies.{detail_of};
-ghost use Rattle.wb_plan.specs.Targeted.{told_of};
+ghost use Rattle.wb_looks.specs.Targeted.{told_of};
 
 use std::alloc::Global;
 use wb_base::{AnswerFault, FormFault, Memory, Text};

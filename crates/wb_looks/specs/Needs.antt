@@ -1,9 +1,9 @@
 -- What the code's words for who may call a route stand for.
 use Rattle.wb_model.specs.Commands.{Right, Free, To_postpone, To_share, To_transfer, Need, Anyone, Any_session, Own, Staff, Names}
-use Rattle.wb_plan.specs.declared.routes.Right.{Right as CodeRight}
-use Rattle.wb_plan.specs.declared.routes.Right.TheVariants as rights
-use Rattle.wb_plan.specs.declared.routes.Need.{Need as CodeNeed}
-use Rattle.wb_plan.specs.declared.routes.Need.TheVariants as needs
+use Rattle.wb_looks.specs.declared.routes.Right.{Right as CodeRight}
+use Rattle.wb_looks.specs.declared.routes.Right.TheVariants as rights
+use Rattle.wb_looks.specs.declared.routes.Need.{Need as CodeNeed}
+use Rattle.wb_looks.specs.declared.routes.Need.TheVariants as needs
 
 abbrev pub right_of : CodeRight → Right
 right_of rights.Free = Free

@@ -3,7 +3,7 @@ use Rattle.json.specs.Print.{escape_byte}
 use Rattle.wb_model.specs.declared.body.Told.{Told}
 use Rattle.wb_model.specs.Tenants.{healthy}
 use Rattle.wb_model.specs.ShortViews.{health_view}
-use Rattle.wb_plan.proofs.health.healthy.Goals as goal
+use Rattle.wb_looks.proofs.health.healthy.Goals as goal
 
 abbrev told : List ℕ → Told
 told body = record { status = 200; body = body }

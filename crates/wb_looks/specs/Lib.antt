@@ -1,0 +1,4 @@
+pub mod Looks
+pub mod Needs
+pub mod Suited
+pub mod Targeted
