@@ -12,9 +12,10 @@ use Rattle.wb_model.specs.Pasts.{AllOpened}
 use Rattle.wb_model.specs.SetUps.{has_tenant, tenant_ids}
 use Rattle.wb_model.specs.Tables.{Case, has_receipt}
 use Rattle.wb_model.specs.Tenants.{Tenancy, Hosts}
-use Rattle.wb_rows.specs.declared.faults.RowFault.{RowFault}
-use Rattle.wb_rows.specs.declared.faults.RowFault.TheVariants.{BadRow, BadSet, Memory}
-use Rattle.wb_rows.specs.Held.{Report, Held}
+use Rattle.wb_row_rules.specs.declared.faults.RowFault.{RowFault}
+use Rattle.wb_row_rules.specs.declared.faults.RowFault.TheVariants.{BadRow, BadSet, Memory}
+use Rattle.wb_row_rules.specs.Reports.{Report}
+use Rattle.wb_rows.specs.Held.{Held}
 use Rattle.wb_rows.specs.Judged.{judged}
 use Rattle.wb_rows.specs.Openings.{case_of, cases_of, tables_of, time_of, with_setup}
 use Rattle.wb_rows.specs.Puts.{tenant_puts}

@@ -3,7 +3,7 @@ use Rattle.std.specs.Prelude.{Bool, true, false, not, ◌&&◌, ◌||◌, Some, 
 use Rattle.wb_model.specs.declared.command.Command.{Command}
 use Rattle.wb_model.specs.declared.command.Command.TheVariants as commands
 use Rattle.wb_model.specs.declared.route.Route.TheVariants as routes
-use Rattle.wb_model.specs.Commands.{Need, Anyone, Any_session, Own, Staff, Names, need, is_of}
+use Rattle.wb_model.specs.Commands.{Need, Anyone, Any_session, Own, Staff, need, is_of}
 use Rattle.wb_model.specs.Past.{named}
 use Rattle.wb_model.specs.Tables.{TheUser, TheReporter}
 use Rattle.wb_model.specs.Targets.{Target, Nobody, Alone, On}

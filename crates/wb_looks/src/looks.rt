@@ -19,8 +19,8 @@ ghost use Rattle.wb_tables.specs.Kept.{case_of, plain_of, live_plain, lives_on};
 ghost use Rattle.wb_tables.specs.Places.{IsLookedUp};
 
 use crate::health::healthy;
-use crate::turn::At;
 use crate::refused::{Refusal, refuse};
+use crate::turn::At;
 use std::alloc::Global;
 use wb_base::{Day, Memory, Text, UserId};
 use wb_model::{Body, Command, Custodied, Due, Listed, Told};

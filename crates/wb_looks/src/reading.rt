@@ -8,8 +8,8 @@ ghost use Rattle.wb_model.specs.Tables.{disablings as disablings_of};
 ghost use Rattle.wb_model.specs.Views.{recipient_view as recipient_data, reporter_view as reporter_data, identity_view as identity_data};
 ghost use Rattle.wb_tables.specs.Kept.{case_of};
 
-use crate::turn::At;
 use crate::refused::{Refusal, refuse};
+use crate::turn::At;
 use std::alloc::Global;
 use wb_base::{Answers, Memory, Tenant, UserId};
 use wb_custody::SealedTable;

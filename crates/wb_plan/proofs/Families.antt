@@ -1,5 +1,5 @@
 -- Steps of logins and logouts, of settings, of identity answers that are given and shown, and of commands without answers.
-use Rattle.std.proofs.Common.{◌≡◌, inl, inr, ℕ, ◌≤◌, ◌<◌, Bool, true, false, cond, find, get_or, zero, suc, List, [], ◌∷◌, length, map, Option, Some, None, refl, sym, ap, ◌∙◌, subst, arith}
+use Rattle.std.proofs.Common.{◌≡◌, inl, inr, ℕ, ◌≤◌, Bool, true, false, cond, find, List, [], ◌∷◌, length, map, Option, Some, None, refl, sym, ap, ◌∙◌, subst, arith}
 use Rattle.std.specs.Prelude.{filter, if◌then◌else◌, is_some, not, nat_le, unwrap_or, ◌&&◌, ◌==◌}
 use Rattle.std.specs.Option.{option_map_or}
 use Rattle.std.proofs.lemmas.Bool.Decides.{nat_tests}
@@ -24,19 +24,18 @@ use Rattle.wb_model.specs.declared.entry.Entry.{Entry}
 use Rattle.wb_model.specs.declared.registry.FormItem.{FormItem}
 use Rattle.wb_model.specs.declared.registry.UserItem.{UserItem}
 use Rattle.wb_model.specs.Access.{requests, in_force}
-use Rattle.wb_model.specs.Changes.{At, Verdict, Refused, Accepted, Nothing, LogsIn, LogsOut, Answer, Says, Shows_own, Shows_identity, judged}
+use Rattle.wb_model.specs.Changes.{At, Verdict, Refused, Accepted, Nothing, LogsIn, LogsOut, Says, Shows_own, Shows_identity, judged}
 use Rattle.wb_model.specs.Commands.{need}
 use Rattle.wb_model.specs.Doings.{Acts, actor_of, doing_entry, doing_told}
 use Rattle.wb_model.specs.Faults.{admin_told, case_told}
-use Rattle.wb_model.specs.Effects.{Effect, Misses, Reads, Writes, Comes, Goes, Sets, TheIdentity, ToReporter, effect_of, comes, goes}
-use Rattle.wb_model.specs.Host.{Sealed, Tables, purged, said, reply_by, change_of as verdict_change}
+use Rattle.wb_model.specs.Effects.{Effect, Misses, Writes, Comes, Goes, Sets, effect_of, goes}
+use Rattle.wb_model.specs.Host.{Sealed, Tables, purged}
 use Rattle.wb_model.specs.Json.{told}
 use Rattle.wb_model.specs.Logins.{new_session, welcome}
-use Rattle.wb_model.specs.OnReports.{refusal_on, change_on, answer_on, has_grant}
 use Rattle.wb_model.specs.Past.{named}
 use Rattle.wb_model.specs.Refusals.{not_found, faulty}
 use Rattle.wb_model.specs.Refusing.{refuses_where}
-use Rattle.wb_model.specs.Requests.{Outcome, Unchecked, Checked, outline, outcome, identity_outcome, late_fault, form_of_trail, sealed_part, secret_of}
+use Rattle.wb_model.specs.Requests.{Outcome, Unchecked, outline, outcome, identity_outcome, late_fault, form_of_trail, sealed_part, secret_of}
 use Rattle.wb_model.specs.Rules.{refusal_alone, change_alone, answer_alone}
 use Rattle.wb_model.specs.Settings as settings
 use Rattle.wb_model.specs.Settings.{Proposal, in_range, proposal_refusal, proposal_told}
@@ -46,11 +45,10 @@ use Rattle.wb_model.specs.Tables.{Registry, Plain, Case, Session, Who, TheUser, 
 use Rattle.wb_model.specs.Targets.{Target, Alone, On}
 use Rattle.wb_model.specs.Trails as trails
 use Rattle.wb_model.specs.Views.{reporter_view, identity_view}
-use Rattle.wb_tables.specs.Configured.{IsSound as IsSoundProposal, proposal_of}
-use Rattle.wb_tables.specs.Indexed.{AreCustodied, AreFewRequests}
+use Rattle.wb_tables.specs.Indexed.{AreFewRequests}
 use Rattle.wb_tables.specs.Kept.{Place, live_plain, plain_of, tables_of}
 use Rattle.wb_tables.specs.Lives.{case_of}
-use Rattle.wb_tables.specs.Logins.{AreEarlier, login_of, session_of, who_seen}
+use Rattle.wb_tables.specs.Logins.{AreEarlier, session_of, who_seen}
 use Rattle.wb_tables.specs.Places.{AreGoodForms}
 use Rattle.wb_tables.specs.declared.tenancy.Report.{Report}
 use Rattle.wb_tables.specs.declared.tenancy.Tenancy.{Tenancy as KeptTenancy}
@@ -62,7 +60,7 @@ use Rattle.wb_tables.proofs.Lookups.{find_kept, there-found, kept as kept_by}
 use Rattle.wb_plan.specs.Plans.{IsFit, IsFitAtOnce, IsLogin, IsPlan, PlansSubmission, Gives, change_of}
 use Rattle.wb_plan.specs.declared.step.Asks.{Asks}
 use Rattle.wb_plan.specs.declared.step.Asks.TheVariants as asked
-use Rattle.wb_plan.specs.Steps.{Alike, Answers, Enters, EntersAs, GivesBy, GivesIdentity, GivesUnder, IsFitStep, IsNote, IsProposed, IsSound, IsStep, IsTold, IsWriting, IsWritten, Leaves, WritesDown, WritesIn, doing_of}
+use Rattle.wb_plan.specs.Steps.{Alike, Answers, Enters, EntersAs, GivesBy, GivesIdentity, GivesUnder, IsFitStep, IsNote, IsProposed, IsSound, IsStep, IsTold, IsWriting, Leaves, WritesDown, WritesIn, doing_of}
 use Rattle.wb_plan.specs.declared.plan.Plan.{Plan}
 use Rattle.wb_plan.specs.declared.plan.Planned.{Planned}
 use Rattle.wb_plan.specs.declared.plan.Planned.TheVariants as planned

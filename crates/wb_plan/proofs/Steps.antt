@@ -1,5 +1,5 @@
 -- Steps by what a request does: what is refused, shown, written and set; and the plans of what is written and set.
-use Rattle.std.proofs.Common.{◌≡◌, inl, inr, ℕ, Bool, true, false, cond, List, [], ◌∷◌, Option, Some, None, refl, sym, ap, ◌∙◌, subst, arith}
+use Rattle.std.proofs.Common.{◌≡◌, inl, inr, ℕ, true, List, [], Option, Some, None, refl, sym, ap, ◌∙◌, subst, arith}
 use Rattle.std.specs.Prelude.{option_map, nat_le}
 use Rattle.std.specs.Option.{option_or, option_map_or}
 use Rattle.std.proofs.lemmas.Bool.Decides.{nat_tests}
@@ -21,7 +21,7 @@ use Rattle.wb_model.specs.Settings as settings
 use Rattle.wb_model.specs.Settings.{proposal_refusal}
 use Rattle.wb_model.specs.Submissions.{drawing, outcome_refusal}
 use Rattle.wb_model.specs.Tables.{Registry, Plain, Case, Who, report}
-use Rattle.wb_model.specs.Targets.{Target, Nobody, Alone, On, trail_at}
+use Rattle.wb_model.specs.Targets.{Target, Alone, On, trail_at}
 use Rattle.wb_tables.specs.declared.proposal.Proposal.{Proposal as KeptProposal}
 use Rattle.wb_tables.specs.declared.proposal.Proposal.TheVariants as proposals
 use Rattle.wb_tables.specs.declared.tenancy.Report.{Report}

@@ -1,6 +1,6 @@
 -- The target of a command is one that suits it, and a report that it is on is there.
-use Rattle.std.proofs.Common.{◌≡◌, inl, inr, ℕ, Bool, true, false, cond, find, List, [], ◌∷◌, Option, Some, None, refl, sym, ap, ◌∙◌, subst, arith}
-use Rattle.std.specs.Prelude.{◌&&◌, ◌||◌, ◌==◌}
+use Rattle.std.proofs.Common.{◌≡◌, inl, inr, ℕ, Bool, true, false, cond, List, [], ◌∷◌, Option, Some, None, refl, sym, ap, ◌∙◌, arith}
+use Rattle.std.specs.Prelude.{◌&&◌, ◌||◌}
 use Rattle.wb_base.specs.Secrets.{digest, same_digest}
 use Rattle.std.proofs.lemmas.Bool.Decides.{nat_tests}
 use Rattle.wb_base.specs.declared.callers.Presented.{Presented}
@@ -13,13 +13,13 @@ use Rattle.wb_model.specs.declared.registry.UserItem.{UserItem}
 use Rattle.wb_model.specs.Commands.{Right, Free, has_right, Need, Anyone, Any_session, Own, Staff, Names, need}
 use Rattle.wb_model.specs.Opened.{Apart}
 use Rattle.wb_model.specs.Tables.{Plain, Case, Session, Who, TheUser, TheReporter, has_number, user, report, session}
-use Rattle.wb_model.specs.Targets.{Target, Nobody, Alone, On, same_role, finds, named_case, staff, user_target, own_case, reporter_target, some_user_target, who_target, session_target, entering, returning, unasked, needed_target, target}
+use Rattle.wb_model.specs.Targets.{Target, Nobody, Alone, On, same_role, finds, named_case, user_target, own_case, reporter_target, some_user_target, who_target, session_target, entering, returning, unasked, needed_target, target}
 use Rattle.wb_model.specs.Refusals.{not_found, wrong_role, wrong_right, bad_login}
 use Rattle.wb_model.specs.Requests.{outline}
 use Rattle.wb_model.proofs.Found.{Held}
 use Rattle.wb_model.proofs.Fitting.{target_held}
 use Rattle.wb_model.proofs.Placed.{on_placed}
-use Rattle.wb_looks.specs.Suited.{is_entry, is_return, is_free, is_staffed, is_owned, suits}
+use Rattle.wb_looks.specs.Suited.{is_entry, is_return, is_free, is_owned, suits}
 
 or_true : (b : Bool) → (b || true) ≡ true
 or_true true = refl

@@ -8,10 +8,8 @@ use Rattle.wb_base.specs.declared.faults.AnswerFault.{AnswerFault}
 use Rattle.wb_base.specs.declared.form.Form.{Form}
 use Rattle.wb_case.specs.Plans.{IsInRange}
 use Rattle.wb_model.specs.declared.act.Act.TheVariants as acts
-use Rattle.wb_model.specs.declared.registry.ContextItem.{ContextItem}
 use Rattle.wb_model.specs.declared.registry.FormItem.{FormItem}
 use Rattle.wb_model.specs.declared.registry.UserItem.{UserItem}
-use Rattle.wb_model.specs.declared.act.Act.{Act}
 use Rattle.wb_model.specs.declared.act.CaseFault.{CaseFault}
 use Rattle.wb_model.specs.declared.command.Asked.{Asked}
 use Rattle.wb_model.specs.declared.command.Command.{Command}
@@ -35,11 +33,9 @@ use Rattle.wb_model.specs.Host.{Sealed, Tables}
 use Rattle.wb_model.specs.Legal.{is_reporter, right_actor}
 use Rattle.wb_model.specs.Refusals.{not_found, faulty}
 use Rattle.wb_model.specs.Requests.{outline, outcome, sealed_part, form_of_trail}
-use Rattle.wb_model.specs.Rules.{shown}
 use Rattle.wb_model.specs.Settings.{Proposal, proposal_told, proposal_refusal}
 use Rattle.wb_model.specs.Submissions.{outcome_refusal}
-use Rattle.wb_model.specs.TenantViews.{context_view}
-use Rattle.wb_model.specs.Tables.{Registry, Plain, Case, Who, TheUser, context, newest_form, report}
+use Rattle.wb_model.specs.Tables.{Registry, Plain, Case, Who, TheUser, report}
 use Rattle.wb_model.specs.Targets.{Target, Alone, On}
 use Rattle.wb_tables.specs.declared.tenancy.Tenancy.{Tenancy as KeptTenancy}
 use Rattle.wb_tables.specs.declared.tenancy.Report.{Report}

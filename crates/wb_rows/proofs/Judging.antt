@@ -3,14 +3,15 @@ use Rattle.std.proofs.Common.{◌≡◌, List, Option, Some, None, Result, Ok, E
 use Rattle.std.specs.Option.{option_or}
 use Rattle.std.specs.Prelude.{IfOk, IfErr}
 use Rattle.wb_base.specs.declared.rows.Key.{Key}
-use Rattle.wb_rows.specs.declared.faults.RowFault.{RowFault}
+use Rattle.wb_row_rules.specs.declared.faults.RowFault.{RowFault}
 use Rattle.wb_rows.specs.declared.items.Kept.{Kept}
 use Rattle.wb_rows.specs.declared.report_rules.Blames.{Blames}
 use Rattle.wb_rows.specs.Blame.{first_breaking, blamed}
-use Rattle.wb_rows.specs.Held.{Report, Held}
+use Rattle.wb_row_rules.specs.Reports.{Report}
+use Rattle.wb_rows.specs.Held.{Held}
 use Rattle.wb_rows.specs.Judged.{AreBlames, report_fault, held, unless, judged_reports}
-use Rattle.wb_rows.specs.Places.{sealed_key}
-use Rattle.wb_rows.specs.ReportRules.{is_right_seal}
+use Rattle.wb_row_rules.specs.Places.{sealed_key}
+use Rattle.wb_row_rules.specs.ReportRules.{is_right_seal}
 
 abbrev pub blamed_by : Blames → Option Key → Option RowFault
 blamed_by b seal = blamed 6 b.wrong (blamed 7 b.undrawn (blamed 8 (option_or b.unsealed seal) (blamed 9 b.receipt (blamed 10 b.numbering None))))

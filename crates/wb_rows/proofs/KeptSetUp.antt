@@ -28,7 +28,7 @@ use Rattle.wb_rows.specs.Judged.{judged}
 use Rattle.wb_rows.specs.ReadItems.{items_in}
 use Rattle.wb_rows.specs.KeptItems.{kept_of}
 use Rattle.wb_rows.specs.ListRules.{follows, has_tenant_rows, has_version, is_right_context, list_fault}
-use Rattle.wb_rows.specs.Places.{context_key, form_key, user_key}
+use Rattle.wb_row_rules.specs.Places.{context_key, form_key, user_key}
 use Rattle.wb_rows.proofs.FitItems.{contexts-fit, forms-fit, tenants-fit, users-fit}
 use Rattle.wb_rows.proofs.ItemOrder.{item_key, items_ascend, lists-order, rows_of_items}
 use Rattle.wb_rows.proofs.OwnedRows.{all_from, owned-rows}

@@ -24,13 +24,13 @@ use Rattle.wb_model.specs.Tables.{report}
 use Rattle.wb_model.specs.Trails.{has_identity, is_marked, submission_in}
 use Rattle.wb_model.proofs.Found.{Held as In, find_held, find_true}
 use Rattle.wb_rows.specs.declared.items.Kept.{Kept}
-use Rattle.wb_rows.specs.Held.{Report}
+use Rattle.wb_row_rules.specs.Reports.{Report}
 use Rattle.wb_rows.specs.HeldItems.{report_items, trail_items}
 use Rattle.wb_rows.specs.Judged.{held as tables_read}
 use Rattle.wb_rows.specs.Openings.{case_of, cases_of, numbering_of, tables_of, time_of}
-use Rattle.wb_rows.specs.Places.{pair_cmp, report_place}
-use Rattle.wb_rows.specs.ReportRules.{are_late_answers, has_its_seal, has_right_answers, is_by_draw, is_drawn, is_late_after, is_numbering_of, is_report, is_right_entry, is_right_numbering, is_right_seal, same_receipt}
-use Rattle.wb_rows.specs.TrailRule.{is_legal_report, offset, reports_of}
+use Rattle.wb_row_rules.specs.Places.{pair_cmp, report_place}
+use Rattle.wb_row_rules.specs.ReportRules.{are_late_answers, has_its_seal, has_right_answers, is_by_draw, is_drawn, is_late_after, is_numbering_of, is_report, is_right_entry, is_right_numbering, is_right_seal, same_receipt}
+use Rattle.wb_row_rules.specs.TrailRule.{is_legal_report, offset, reports_of}
 use Rattle.wb_rows.proofs.HeldReports.{begins-so, cases-all, firsts-all, found-own, held-true, items-held, numbers-ascend, report-found, report_with, trail-all}
 use Rattle.wb_rows.proofs.KeptMoments.{draws-past, last-past}
 use Rattle.wb_rows.proofs.KeptReceipts.{receipts-apart}

@@ -5,11 +5,6 @@ pub mod Ascending
 pub mod AscendingRows
 pub mod NewTenants
 pub mod ItemOrder
-pub mod Freedom
-pub mod OpenTrails
-pub mod Fitting
-pub mod GrowingTrails
-pub mod Lookups
 pub mod ReportOrder
 pub mod FitItems
 pub mod SealedOnes

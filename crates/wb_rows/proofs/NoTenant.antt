@@ -11,10 +11,10 @@ use Rattle.wb_model.specs.declared.registry.Lists.{Lists}
 use Rattle.wb_model.specs.Openings.{empty_tables, registry_of}
 use Rattle.wb_model.specs.SetUps.{has_tenant}
 use Rattle.wb_rows.specs.declared.items.Kept.{Kept}
-use Rattle.wb_rows.specs.Held.{Report}
+use Rattle.wb_row_rules.specs.Reports.{Report}
 use Rattle.wb_rows.specs.Judged.{held}
 use Rattle.wb_rows.specs.Openings.{case_of, tables_of}
-use Rattle.wb_rows.specs.ReportRules.{is_numbering_of}
+use Rattle.wb_row_rules.specs.ReportRules.{is_numbering_of}
 use Rattle.wb_rows.proofs.OwnedRows.{AreOwned}
 
 module _ (lists : Lists) (t : ℕ) (absent : has_tenant lists t ≡ false) {X : Type 0} (tenant : X → ℕ) (wanted : X → Bool) (is : (x : X) → wanted x ≡ true → tenant x ≡ t) where

@@ -13,14 +13,15 @@ use Rattle.wb_model.specs.Openings.{empty_tables, registry_of}
 use Rattle.wb_model.specs.Rows.{rows_of as rows_of_tenants}
 use Rattle.wb_model.specs.SetUps.{has_tenant}
 use Rattle.wb_rows.specs.declared.items.Kept.{Kept}
-use Rattle.wb_rows.specs.Held.{Report, Held}
+use Rattle.wb_row_rules.specs.Reports.{Report}
+use Rattle.wb_rows.specs.Held.{Held}
 use Rattle.wb_rows.specs.HeldRows.{rows_of}
 use Rattle.wb_rows.specs.Judged.{held as tables_read, judged}
 use Rattle.wb_rows.specs.KeptItems.{kept_of}
 use Rattle.wb_rows.specs.ListRules.{has_tenant_rows}
 use Rattle.wb_rows.specs.Blame.{first_breaking}
 use Rattle.wb_rows.specs.Openings.{tables_of, tenancies_of, time_of}
-use Rattle.wb_rows.specs.Places.{pair_cmp, report_place}
+use Rattle.wb_row_rules.specs.Places.{pair_cmp, report_place}
 use Rattle.wb_rows.specs.ReadItems.{items_in}
 use Rattle.wb_rows.proofs.FitItems.{entries-fit}
 use Rattle.wb_rows.proofs.HeldReports.{firsts-all}

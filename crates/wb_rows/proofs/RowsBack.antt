@@ -14,16 +14,17 @@ use Rattle.wb_kinds.specs.Items.{is_in_range, item_row}
 use Rattle.wb_model.specs.declared.registry.Lists.{Lists}
 use Rattle.wb_model.specs.Openings.{registry_of}
 use Rattle.wb_model.specs.Trails.{has_identity}
-use Rattle.wb_rows.specs.declared.faults.RowFault.{RowFault}
+use Rattle.wb_row_rules.specs.declared.faults.RowFault.{RowFault}
 use Rattle.wb_rows.specs.declared.items.Kept.{Kept}
-use Rattle.wb_rows.specs.Held.{Report, Held}
+use Rattle.wb_row_rules.specs.Reports.{Report}
+use Rattle.wb_rows.specs.Held.{Held}
 use Rattle.wb_rows.specs.HeldRows.{settings_row, numbering_row, user_row, form_row, context_row, list_rows, rows_of}
 use Rattle.wb_rows.specs.Judged.{report_fault, held, unless, judged_reports, judged_items, judged}
 use Rattle.wb_rows.specs.KeptItems.{kept_of}
 use Rattle.wb_rows.specs.ListRules.{list_fault}
 use Rattle.wb_rows.specs.ReadItems.{items_in}
-use Rattle.wb_rows.specs.ReportRules.{are_late_answers, is_report, is_right_seal}
-use Rattle.wb_rows.specs.TrailRule.{reports_of}
+use Rattle.wb_row_rules.specs.ReportRules.{are_late_answers, is_report, is_right_seal}
+use Rattle.wb_row_rules.specs.TrailRule.{reports_of}
 use Rattle.wb_rows.proofs.ItemKinds.{by_kinds, entry_row, sealed_row}
 use Rattle.wb_rows.proofs.ItemOrder.{entries-order, items_ascend, item_key, rows_of_items, sealed-order}
 use Rattle.wb_rows.proofs.ReportOrder.{reports_ascend}

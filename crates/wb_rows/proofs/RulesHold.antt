@@ -8,12 +8,12 @@ use Rattle.wb_custody.specs.declared.sealed.SealedItem.{SealedItem}
 use Rattle.wb_kinds.specs.declared.item.EntryItem.{EntryItem}
 use Rattle.wb_model.specs.SetUps.{are_apart}
 use Rattle.wb_rows.specs.declared.items.Kept.{Kept}
-use Rattle.wb_rows.specs.declared.faults.RowFault.{RowFault}
+use Rattle.wb_row_rules.specs.declared.faults.RowFault.{RowFault}
 use Rattle.wb_rows.specs.Blame.{blamed, first_breaking, first_repeated}
-use Rattle.wb_rows.specs.Held.{Report}
+use Rattle.wb_row_rules.specs.Reports.{Report}
 use Rattle.wb_rows.specs.Judged.{first_undrawn, first_unsealed, report_fault}
-use Rattle.wb_rows.specs.Places.{entry_key, numbering_key, sealed_key}
-use Rattle.wb_rows.specs.ReportRules.{has_its_seal, is_drawn, is_right_entry, is_right_numbering, is_right_seal, same_receipt}
+use Rattle.wb_row_rules.specs.Places.{entry_key, numbering_key, sealed_key}
+use Rattle.wb_row_rules.specs.ReportRules.{has_its_seal, is_drawn, is_right_entry, is_right_numbering, is_right_seal, same_receipt}
 
 -- ---- a rule that is not broken
 

@@ -18,20 +18,21 @@ use Rattle.wb_model.specs.declared.registry.FormItem.{FormItem}
 use Rattle.wb_model.specs.declared.registry.TenantItem.{TenantItem}
 use Rattle.wb_model.specs.declared.registry.UserItem.{UserItem}
 use Rattle.wb_model.specs.SetUps.{AreSetUp, has_tenant}
-use Rattle.wb_rows.specs.declared.faults.RowFault.{RowFault}
-use Rattle.wb_rows.specs.declared.faults.RowFault.TheVariants as faults
+use Rattle.wb_row_rules.specs.declared.faults.RowFault.{RowFault}
+use Rattle.wb_row_rules.specs.declared.faults.RowFault.TheVariants as faults
 use Rattle.wb_rows.specs.declared.items.Kept.{Kept}
 use Rattle.wb_rows.specs.Blame.{blamed}
 use Rattle.wb_rows.specs.Good.{AreGood}
-use Rattle.wb_rows.specs.Held.{Report, Held}
+use Rattle.wb_row_rules.specs.Reports.{Report}
+use Rattle.wb_rows.specs.Held.{Held}
 use Rattle.wb_rows.specs.HeldItems.{entry_items, items_of, sealed_items}
 use Rattle.wb_rows.specs.HeldRows.{rows_of}
 use Rattle.wb_rows.specs.Judged.{held as tables_read, judged, judged_items, judged_kept, judged_reports, report_fault, unless}
 use Rattle.wb_rows.specs.ListRules.{has_tenant_rows}
-use Rattle.wb_rows.specs.Places.{entry_key, numbering_key, sealed_key}
+use Rattle.wb_row_rules.specs.Places.{entry_key, numbering_key, sealed_key}
 use Rattle.wb_rows.specs.ReadItems.{items_in}
-use Rattle.wb_rows.specs.ReportRules.{has_its_seal, is_right_entry, is_right_numbering, is_right_seal, same_receipt}
-use Rattle.wb_rows.specs.TrailRule.{reports_of}
+use Rattle.wb_row_rules.specs.ReportRules.{has_its_seal, is_right_entry, is_right_numbering, is_right_seal, same_receipt}
+use Rattle.wb_row_rules.specs.TrailRule.{reports_of}
 use Rattle.wb_rows.proofs.HeldReports.{all-true, held-true}
 use Rattle.wb_rows.proofs.ItemsBack.{items-read, kept_by, kinds-of-items, rows-of-items}
 use Rattle.wb_rows.proofs.ListsBack.{held_any, none-at-fault, none_breaks, none_repeats}

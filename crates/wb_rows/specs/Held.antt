@@ -3,19 +3,9 @@ use Rattle.std.specs.Prelude.{ℕ, List, map, Option}
 use Rattle.wb_base.specs.AnswerList.{Answered}
 use Rattle.wb_custody.specs.SealedAnswers.{answers_of}
 use Rattle.wb_kinds.specs.declared.item.NumberingItem.{NumberingItem}
-use Rattle.wb_model.specs.declared.entry.Entry.{Entry}
 use Rattle.wb_model.specs.declared.registry.Lists.{Lists}
-use Rattle.wb_rows.specs.declared.cases.CaseItem.{CaseItem}
+use Rattle.wb_row_rules.specs.Reports.{Report, case_report}
 use Rattle.wb_rows.specs.declared.tables.Tables.{Tables}
-
--- a report and its trail
-pub record Report : Type 0 where
-  pub tenant : ℕ
-  pub number : ℕ
-  pub trail : List Entry
-
-abbrev pub case_report : CaseItem → Report
-case_report x = record { tenant = x.tenant; number = x.number; trail = x.case.items }
 
 -- the tables of all tenants
 pub record Held : Type 0 where

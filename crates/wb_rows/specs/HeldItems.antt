@@ -6,7 +6,8 @@ use Rattle.wb_kinds.specs.declared.item.EntryItem.{EntryItem}
 use Rattle.wb_kinds.specs.declared.item.Item.{Item}
 use Rattle.wb_kinds.specs.declared.item.Item.TheVariants.{Settings, Numbering, User, Form, Context, Entry, Sealed}
 use Rattle.wb_model.specs.declared.entry.Entry.{Entry as EntryData}
-use Rattle.wb_rows.specs.Held.{Report, Held}
+use Rattle.wb_row_rules.specs.Reports.{Report}
+use Rattle.wb_rows.specs.Held.{Held}
 
 -- the entries of a trail, from a place on
 abbrev pub trail_items : ℕ → ℕ → ℕ → List EntryData → List EntryItem

@@ -10,7 +10,8 @@ use Rattle.wb_model.specs.declared.registry.Lists.{Lists}
 use Rattle.wb_model.specs.declared.registry.TenantItem.{TenantItem}
 use Rattle.wb_model.specs.declared.registry.UserItem.{UserItem}
 use Rattle.wb_model.specs.Rows.{row, settings_data, numbering_data, user_data, context_data, entries_from, sealed_row}
-use Rattle.wb_rows.specs.Held.{Report, Held}
+use Rattle.wb_row_rules.specs.Reports.{Report}
+use Rattle.wb_rows.specs.Held.{Held}
 
 abbrev pub settings_row : TenantItem → Row
 settings_row x = row 1 x.tenant 0 0 (settings_data x)

@@ -5,18 +5,19 @@ use Rattle.wb_base.specs.declared.rows.Key.{Key}
 use Rattle.wb_base.specs.declared.rows.Row.{Row}
 use Rattle.wb_custody.specs.SealedAnswers.{answers_of}
 use Rattle.wb_kinds.specs.declared.item.Item.{Item}
-use Rattle.wb_rows.specs.declared.faults.RowFault.{RowFault}
-use Rattle.wb_rows.specs.declared.faults.RowFault.TheVariants.{BadSet}
+use Rattle.wb_row_rules.specs.declared.faults.RowFault.{RowFault}
+use Rattle.wb_row_rules.specs.declared.faults.RowFault.TheVariants.{BadSet}
 use Rattle.wb_rows.specs.declared.items.Kept.{Kept}
 use Rattle.wb_rows.specs.declared.report_rules.Blames.{Blames}
 use Rattle.wb_rows.specs.Blame.{first_breaking, first_repeated, blamed}
-use Rattle.wb_rows.specs.Held.{Report, Held}
+use Rattle.wb_row_rules.specs.Reports.{Report}
+use Rattle.wb_rows.specs.Held.{Held}
 use Rattle.wb_rows.specs.KeptItems.{kept_of}
 use Rattle.wb_rows.specs.ListRules.{list_fault}
-use Rattle.wb_rows.specs.Places.{entry_key, numbering_key, sealed_key}
+use Rattle.wb_row_rules.specs.Places.{entry_key, numbering_key, sealed_key}
 use Rattle.wb_rows.specs.ReadItems.{items_in}
-use Rattle.wb_rows.specs.ReportRules.{is_right_entry, is_drawn, has_its_seal, is_right_seal, same_receipt, is_right_numbering}
-use Rattle.wb_rows.specs.TrailRule.{reports_of}
+use Rattle.wb_row_rules.specs.ReportRules.{is_right_entry, is_drawn, has_its_seal, is_right_seal, same_receipt, is_right_numbering}
+use Rattle.wb_row_rules.specs.TrailRule.{reports_of}
 
 -- the first row of rule 7: an entry, or identity answers, of a number that was not drawn
 abbrev pub first_undrawn : Kept → Option Key

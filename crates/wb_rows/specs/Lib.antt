@@ -3,16 +3,10 @@ pub mod HeldRows
 pub mod Puts
 pub mod ReadItems
 pub mod KeptItems
-pub mod Places
 pub mod Blame
 pub mod ListRules
 pub mod Marks
 pub mod NameTies
-pub mod Legality
-pub mod TrailRule
-pub mod OpenReports
-pub mod Growing
-pub mod ReportRules
 pub mod Judged
 pub mod ReceiptTies
 pub mod Openings

@@ -9,30 +9,29 @@ ghost use Rattle.wb_model.specs.KeptRules.{AreKept};
 ghost use Rattle.wb_model.specs.Openings.{registry_of, empty_tables};
 ghost use Rattle.wb_model.specs.Rows.{rows_of as rows_of_tenants};
 ghost use Rattle.wb_model.specs.SetUps.{AreSetUp, has_tenant, is_tenant_item, is_form_item};
-ghost use Rattle.wb_rows.specs.declared.faults.RowFault.TheVariants as faults;
+ghost use Rattle.wb_row_rules.specs.declared.faults.RowFault.TheVariants as faults;
 ghost use Rattle.wb_rows.specs.declared.items.Kept.{Kept as KeptData};
-ghost use Rattle.wb_rows.specs.Growing.{IsTrailFault};
+ghost use Rattle.wb_row_rules.specs.Growing.{IsTrailFault};
 ghost use Rattle.wb_rows.specs.Good.{AreGood};
-ghost use Rattle.wb_rows.specs.Held.{Held, case_report, held_by};
+ghost use Rattle.wb_row_rules.specs.Reports.{case_report};
+ghost use Rattle.wb_rows.specs.Held.{Held, held_by};
 ghost use Rattle.wb_rows.specs.HeldRows.{rows_of};
 ghost use Rattle.wb_rows.specs.Judged.{AreBlames, judged, judged_kept, judged_reports};
 ghost use Rattle.wb_rows.specs.Openings.{tables_of, tenancies_of, time_of};
-ghost use Rattle.wb_rows.specs.Places.{entry_key, pair_cmp, sealed_place};
-ghost use Rattle.wb_rows.specs.TrailRule.{is_legal_report, reports_of};
+ghost use Rattle.wb_row_rules.specs.Places.{entry_key, pair_cmp, sealed_place};
+ghost use Rattle.wb_row_rules.specs.TrailRule.{is_legal_report, reports_of};
 ghost use Rattle.wb_setup.specs.Keys.{AreInOrder};
 
-use crate::RowFault;
-use crate::cases::CaseItem;
 use crate::items::{Kept, read_items, sort_items};
 use crate::list_rules::list_fault;
 use crate::report_rules::{Blames, find_blames, first_wrong_seal, report_fault};
 use crate::tables::Tables;
-use crate::trails::reports;
 use std::alloc::Global;
 use wb_base::{Memory, Row};
 use wb_custody::{SealedItem, SealedTable};
 use wb_kinds::{EntryItem, NumberingItem};
 use wb_list::{Items, Sorted};
+use wb_row_rules::{CaseItem, RowFault, reports};
 use wb_tenants::Registry;
 
 // The table of identity answers, each put behind all that are there.

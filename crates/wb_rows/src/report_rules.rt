@@ -4,31 +4,29 @@ ghost use Rattle.std.specs.List.{list_all};
 ghost use Rattle.std.specs.Option.{option_or};
 ghost use Rattle.wb_model.specs.SetUps.{is_form_item};
 ghost use Rattle.wb_rows.specs.Blame.{first_breaking, first_repeated as first_repeated_in, blamed};
-ghost use Rattle.wb_rows.specs.Held.{case_report};
-ghost use Rattle.wb_rows.specs.Places.{entry_key as entry_key_of, sealed_key as sealed_key_of, numbering_key as numbering_key_of};
-ghost use Rattle.wb_rows.specs.ReportRules.{is_right_entry as is_right_entry_in, is_drawn as is_drawn_in, has_its_seal as has_its_seal_in, is_right_seal as is_right_seal_in, same_receipt, is_right_numbering as is_right_numbering_in};
+ghost use Rattle.wb_row_rules.specs.Reports.{case_report};
+ghost use Rattle.wb_row_rules.specs.Places.{entry_key as entry_key_of, sealed_key as sealed_key_of, numbering_key as numbering_key_of};
+ghost use Rattle.wb_row_rules.specs.ReportRules.{is_right_entry as is_right_entry_in, is_drawn as is_drawn_in, has_its_seal as has_its_seal_in, is_right_seal as is_right_seal_in, same_receipt, is_right_numbering as is_right_numbering_in};
 
-use crate::RowFault;
-use crate::cases::CaseItem;
-use crate::keys::{entry_key, numbering_key, sealed_key};
-use crate::named::is_right_entry;
-use crate::numbers::{is_drawn, is_right_numbering};
 use crate::repeated::{Marked, first_repeated};
-use crate::seals::{has_its_seal, is_right_seal};
 use std::alloc::Global;
 use wb_base::{Digest, Key, Memory, Tenant};
 use wb_custody::SealedItem;
 use wb_kinds::{EntryItem, NumberingItem};
 use wb_list::Sorted;
 use wb_model::Deed;
+use wb_row_rules::{
+    CaseItem, RowFault, entry_key, has_its_seal, is_drawn, is_right_entry, is_right_numbering,
+    is_right_seal, numbering_key, sealed_key,
+};
 use wb_tenants::Registry;
 
 impl Marked for EntryItem {
     ghost use Rattle.std.specs.Option.{option_map};
     ghost use Rattle.wb_model.specs.Trails.{submission_in};
-    ghost use Rattle.wb_rows.specs.Places.{entry_key as entry_key_of};
+    ghost use Rattle.wb_row_rules.specs.Places.{entry_key as entry_key_of};
     ghost use Rattle.wb_rows.specs.ReceiptTies.{receipts_tie};
-    ghost use Rattle.wb_rows.specs.ReportRules.{same_receipt};
+    ghost use Rattle.wb_row_rules.specs.ReportRules.{same_receipt};
 
     type Mark = (Tenant, Digest);
 

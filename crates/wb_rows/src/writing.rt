@@ -1,17 +1,18 @@
 //! Tables written as rows.
 ghost use Rattle.std.specs.Prelude.{◌≡◌, ◌++◌, IfOk, OnOk, map};
 ghost use Rattle.wb_custody.specs.SealedAnswers.{answers_of};
-ghost use Rattle.wb_rows.specs.Held.{case_report, held_by};
+ghost use Rattle.wb_row_rules.specs.Reports.{case_report};
+ghost use Rattle.wb_rows.specs.Held.{held_by};
 ghost use Rattle.wb_rows.specs.HeldRows.{settings_row as settings_row_of, numbering_row as numbering_row_of, user_row as user_row_of, form_row as form_row_of, context_row as context_row_of, trail_rows, sealed_rows, list_rows, rows_of};
 ghost use Rattle.wb_model.specs.Rows.{entries_from, sealed_row as sealed_row_of};
 
-use crate::cases::CaseItem;
 use crate::tables::Tables;
 use std::alloc::Global;
 use wb_base::{Memory, Row};
 use wb_custody::SealedTable;
 use wb_kinds::{NumberingItem, entry_row, numbering_row, sealed_row};
 use wb_model::{ContextItem, FormItem, TenantItem, UserItem};
+use wb_row_rules::CaseItem;
 use wb_tenants::{context_row, form_row, settings_row, user_row};
 
 /// What has a row.

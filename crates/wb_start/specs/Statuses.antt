@@ -1,8 +1,8 @@
 -- The line of a status, which standard error gets, and the number that the program ends with.
 use Rattle.std.specs.Prelude.{ℕ, ◌++◌, List, [], codes, decimal}
 use Rattle.wb_base.specs.declared.rows.Key.{Key}
-use Rattle.wb_rows.specs.declared.faults.RowFault.{RowFault}
-use Rattle.wb_rows.specs.declared.faults.RowFault.TheVariants.{BadRow, BadSet, Memory as RowsMemory}
+use Rattle.wb_row_rules.specs.declared.faults.RowFault.{RowFault}
+use Rattle.wb_row_rules.specs.declared.faults.RowFault.TheVariants.{BadRow, BadSet, Memory as RowsMemory}
 use Rattle.wb_setup.specs.declared.setup.SetupFault.{SetupFault}
 use Rattle.wb_setup.specs.declared.setup.SetupFault.TheVariants.{Text, Rule, Memory as SetupMemory}
 use Rattle.wb_start.specs.declared.status.Status.{Status}

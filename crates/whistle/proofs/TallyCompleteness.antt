@@ -3,7 +3,7 @@ use Rattle.std.proofs.Common.{◌≡◌, ◌⊎◌, inl, inr, ℕ, List, Option,
 use Rattle.wb_base.specs.declared.rows.Row.{Row}
 use Rattle.wb_base.specs.Outside.{Rose}
 use Rattle.wb_model.specs.declared.registry.Lists.{Lists}
-use Rattle.wb_rows.specs.declared.faults.RowFault.{RowFault}
+use Rattle.wb_row_rules.specs.declared.faults.RowFault.{RowFault}
 use Rattle.wb_rows.specs.Held.{Held}
 use Rattle.wb_rows.specs.Judged.{judged}
 use Rattle.wb_setup.specs.declared.setup.SetupFault.{SetupFault}

@@ -1,8 +1,8 @@
-use Rattle.std.proofs.Common.{◌≡◌, ◌≤◌, length, Some, sym, ap, ◌∙◌, subst}
+use Rattle.std.proofs.Common.{◌≡◌, ◌≤◌, length, sym, ap, ◌∙◌, subst}
 use Rattle.std.proofs.lemmas.Result.{IfOk-weaker}
 use Rattle.wb_model.specs.Host.{purged}
 use Rattle.wb_model.specs.Requests.{outline}
-use Rattle.wb_model.specs.Tables.{has_number, is_live, report, TheReporter}
+use Rattle.wb_model.specs.Tables.{has_number, is_live, TheReporter}
 use Rattle.wb_model.specs.Targets.{target, On}
 use Rattle.wb_model.proofs.Leaving.{apart_filter}
 use Rattle.wb_tables.specs.Kept.{case_of, live_plain, place_of, plain_of, tables_of}

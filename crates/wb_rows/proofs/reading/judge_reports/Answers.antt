@@ -7,8 +7,8 @@ use Rattle.wb_rows.specs.declared.items.Kept.{Kept}
 use Rattle.wb_rows.specs.declared.report_rules.Blames.{Blames}
 use Rattle.wb_rows.specs.Blame.{first_breaking, first_repeated}
 use Rattle.wb_rows.specs.Judged.{AreBlames, judged_reports}
-use Rattle.wb_rows.specs.Places.{entry_key, numbering_key, sealed_key}
-use Rattle.wb_rows.specs.ReportRules.{is_right_entry, is_drawn, has_its_seal, same_receipt, is_right_numbering}
+use Rattle.wb_row_rules.specs.Places.{entry_key, numbering_key, sealed_key}
+use Rattle.wb_row_rules.specs.ReportRules.{is_right_entry, is_drawn, has_its_seal, same_receipt, is_right_numbering}
 use Rattle.wb_rows.proofs.Judging.{ok-then, err-then}
 use Rattle.wb_rows.proofs.reading.judge_reports.Goals as goal
 

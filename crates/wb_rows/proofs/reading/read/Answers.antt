@@ -5,13 +5,13 @@ use Rattle.wb_base.specs.KeptRows.{key_cmp}
 use Rattle.wb_list.specs.Keyed.{IsAscending}
 use Rattle.wb_model.specs.SetUps.{is_tenant_item, is_form_item}
 use Rattle.wb_rows.specs.declared.items.Kept.{Kept}
-use Rattle.wb_rows.specs.Places.{entry_key, pair_cmp, sealed_place}
+use Rattle.wb_row_rules.specs.Places.{entry_key, pair_cmp, sealed_place}
 use Rattle.wb_rows.specs.ReadItems.{items_in}
 use Rattle.wb_kinds.specs.declared.item.Item.{Item}
 use Rattle.wb_kinds.specs.Items.{is_in_range}
 use Rattle.wb_base.specs.declared.rows.Row.{Row}
-use Rattle.wb_rows.specs.declared.faults.RowFault.{RowFault}
-use Rattle.wb_rows.specs.declared.faults.RowFault.TheVariants as faults
+use Rattle.wb_row_rules.specs.declared.faults.RowFault.{RowFault}
+use Rattle.wb_row_rules.specs.declared.faults.RowFault.TheVariants as faults
 use Rattle.wb_rows.specs.Held.{Held, held_by}
 use Rattle.wb_rows.specs.KeptItems.{kept_of}
 use Rattle.wb_rows.proofs.KeptSetUp.{read-set-up}

@@ -1,0 +1,5 @@
+pub mod Freedom
+pub mod OpenTrails
+pub mod Fitting
+pub mod GrowingTrails
+pub mod Lookups

@@ -1,0 +1,7 @@
+pub mod Reports
+pub mod Places
+pub mod Legality
+pub mod TrailRule
+pub mod OpenReports
+pub mod Growing
+pub mod ReportRules
