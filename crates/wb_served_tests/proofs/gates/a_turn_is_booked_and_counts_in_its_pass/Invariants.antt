@@ -1,0 +1,7 @@
+use Rattle.wb_served_tests.proofs.gates.a_turn_is_booked_and_counts_in_its_pass.Given as goal
+
+abbrev pub ghosts-book-A-Ledger : goal.ghosts-book-A-Ledger
+ghosts-book-A-Ledger g a = record { name = a.turns.name; parts = a.turns.parts }
+
+abbrev pub ghosts-book-B-Ledger : goal.ghosts-book-B-Ledger
+ghosts-book-B-Ledger g a = record { name = a.numbers.name; parts = a.numbers.parts }

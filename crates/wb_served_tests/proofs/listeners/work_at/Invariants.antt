@@ -1,0 +1,7 @@
+use Rattle.wb_served_tests.proofs.listeners.work_at.Given as goal
+
+abbrev pub ghosts-work_on-A-Ledger : goal.ghosts-work_on-A-Ledger
+ghosts-work_on-A-Ledger g a = record { name = a.turns.name; parts = a.turns.parts }
+
+abbrev pub ghosts-work_on-B-Ledger : goal.ghosts-work_on-B-Ledger
+ghosts-work_on-B-Ledger g a = record { name = a.numbers.name; parts = a.numbers.parts }
