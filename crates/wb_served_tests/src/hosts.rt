@@ -21,6 +21,9 @@ pub const ROOM: usize = 1_000_000;
 /// The question for the host's health.
 pub const HEALTH: &str = "GET /health HTTP/1.1\r\nHost: h\r\n\r\n";
 
+/// The question for what the public sees of a tenant.
+pub const PUBLIC: &str = "GET /t/1 HTTP/1.1\r\nHost: h\r\n\r\n";
+
 /// A keeper that holds nothing and fails at these calls.
 pub fn keeper(alloc: Global, fail: &[u64]) -> Result<MemKeeper, Fail> {
     Ok(MemKeeper::new(Vec::new(alloc), fail.to_vec(alloc)?))
@@ -92,7 +95,7 @@ pub fn station(
 ) -> Result<Station<MemListener, MemTicker>, Fail> {
     let mut content = Vec::new(alloc);
     for _ in 0..links {
-        content.push(link(alloc, HEALTH.as_bytes(), 0, ROOM, &[])?)?;
+        content.push(link(alloc, PUBLIC.as_bytes(), 0, ROOM, &[])?)?;
     }
     let mut fail = Vec::new(alloc);
     for before in 0..fails {

@@ -22,6 +22,10 @@ const SERVE: &str = "serve --setup s --listen 127.0.0.1:80 --workers 2";
 
 const NO_WORKERS: &str = "serve --setup s --listen 127.0.0.1:80";
 
+/// How the reply ends that shows what the public sees of the setup's tenant.
+const SEEN: &str =
+    "\r\n\r\n{\"contexts\":[{\"id\":1,\"name\":\"Fraud\"},{\"id\":2,\"name\":\"Safety\"}],\"name\":\"Harbour City\",\"tenant\":1}";
+
 /// How many bytes a setup's text has at most.
 const LIMIT: usize = 1_048_576;
 
@@ -157,12 +161,13 @@ fn keeper_of(alloc: Global, text: &str, fail: &[u64]) -> Result<MemKeeper, Fail>
     Ok(keeper)
 }
 
-// How many links came back with a reply.
+// How many links came back with what the public sees of the tenant that the setup sets up.
 fn replied(stations: &[Station<MemListener, MemTicker>]) -> usize {
     let mut count = 0;
     for station in stations {
         for link in station.listener.came() {
-            if link.got().starts_with(b"HTTP/1.1 200 OK\r\n") {
+            let got = link.got();
+            if got.starts_with(b"HTTP/1.1 200 OK\r\n") && got.ends_with(SEEN.as_bytes()) {
                 count = usize::saturating_add(count, 1);
             }
         }
