@@ -1,3 +1,3 @@
 mod OneOfKey
-mod Ties
+mod ReceiptTables
 mod Logins

@@ -1,17 +1,35 @@
 -- Receipts of reports, found by tenant and digest.
-use Rattle.std.specs.Prelude.{ℕ, ◌==◌, ◌&&◌, Bool, List, find, Option}
+use Rattle.std.specs.Prelude.{ℕ, ◌==◌, ◌&&◌, Bool, List, find, Option, Some, None, option_map, if◌then◌else◌}
 use Rattle.wb_base.specs.Secrets.{same_digest}
 use Rattle.wb_base.specs.declared.words.Digest.{Digest}
-use Rattle.wb_access.specs.declared.receipts.Receipt.{Receipt}
+
+-- the receipt of a tenant's report of a number, told by its digest
+pub record Receipt : Type 0 where
+  pub tenant : ℕ
+  pub digest : Digest
+  pub number : ℕ
 
 -- a receipt is the tenant's with that digest
 abbrev pub is_receipt : ℕ → Digest → Receipt → Bool
 is_receipt tenant digest receipt = (receipt.tenant == tenant) && same_digest receipt.digest digest
 
--- the receipt of a tenant with a digest
-abbrev pub receipt_of : ℕ → Digest → List Receipt → Option Receipt
-receipt_of tenant digest receipts = find (is_receipt tenant digest) receipts
+-- the number of the tenant's report whose receipt has a digest
+abbrev pub number_of : ℕ → Digest → List Receipt → Option ℕ
+number_of tenant digest receipts = option_map (λ (r : Receipt). r.number) (find (is_receipt tenant digest) receipts)
 
 -- a receipt is of the tenant's report of that number
 abbrev pub is_of_report : ℕ → ℕ → Receipt → Bool
 is_of_report tenant number receipt = (receipt.tenant == tenant) && (receipt.number == number)
+
+-- the number that is found for a receipt of tenant t, once the receipts of a report are gone
+abbrev pub unless_of : ℕ → ℕ → ℕ → Option ℕ → Option ℕ
+unless_of tenant number t None = None
+unless_of tenant number t (Some n) = if (t == tenant) && (n == number) then None else Some n
+
+-- what a receipt is found by in the table
+abbrev pub entry_key : ℕ → Digest → ℕ × List ℕ
+entry_key tenant digest = (tenant, digest.0)
+
+-- an entry of the table as a receipt
+abbrev pub receipt_at : (ℕ × List ℕ) × ℕ → Receipt
+receipt_at entry = record { tenant = entry.0.0; digest = record { 0 = entry.0.1 }; number = entry.1 }

@@ -1,5 +1,5 @@
 -- Sessions: which one a caller shows, how long they last, and which stand after a login.
-use Rattle.std.specs.Prelude.{ℕ, ◌+◌, ◌==◌, ◌&&◌, Bool, false, not, nat_lt, nat_le, List, [], ◌∷◌, ◌++◌, if◌then◌else◌, filter, find, count_by, Option, None}
+use Rattle.std.specs.Prelude.{ℕ, ◌+◌, ◌==◌, ◌&&◌, Bool, false, nat_lt, List, [], ◌∷◌, ◌++◌, if◌then◌else◌, find, count_by, Option, None}
 use Rattle.wb_list.specs.Keyed.{without_first}
 use Rattle.wb_base.specs.Secrets.{digest, same_digest}
 use Rattle.wb_base.specs.declared.callers.Presented.{Presented}

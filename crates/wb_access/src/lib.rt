@@ -9,7 +9,7 @@ mod sessions;
 
 pub use digests::{check_secret, digest};
 pub use faults::AccessFault;
-pub use receipts::{Receipt, ReceiptBox};
+pub use receipts::ReceiptBox;
 pub use secrets::{draw, secret};
 pub use sessions::{Session, SessionTable};
 

@@ -1,72 +1,39 @@
 //! The receipts of live reports.
-ghost use Rattle.std.specs.Prelude.{◌≡◌, ◌+◌, ◌<◌, ◌≤◌, ◌↔◌, ℕ, [], None, Some, IsOk, OnOk, IfErr, filter, not, if◌then◌else◌};
+ghost use Rattle.std.specs.Prelude.{◌≡◌, ◌+◌, ◌<◌, ◌≤◌, ◌==◌, ◌&&◌, ◌↔◌, ℕ, [], None, Some, IsOk, OnOk, IfErr, filter, not, if◌then◌else◌};
 ghost use Rattle.wb_base.specs.declared.words.Digest.{Digest as Code};
-ghost use Rattle.std.specs.Option.{option_map};
-ghost use Rattle.wb_list.specs.Keyed.{insert_item};
-ghost use Rattle.wb_access.specs.Receipts.{is_receipt, receipt_of, is_of_report};
+ghost use Rattle.wb_base.specs.Secrets.{same_digest};
+ghost use Rattle.wb_access.specs.Receipts.{number_of, is_of_report, entry_key, unless_of};
 
 use crate::AccessFault;
 use std::alloc::Global;
-use std::cmp::Ordering;
+use std::collections::HashMap;
 use std::marker::Model;
 use wb_base::{Digest, Number, Tenant};
-use wb_list::{ItemTest, Keyed, Sorted};
 
-/// The receipt of a report.
-#[derive(Clone, Copy, Debug, PartialEq, Eq)]
-pub struct Receipt {
-    pub tenant: Tenant,
-    /// The digest of its digits under the tenant's salt.
-    pub digest: Digest,
-    pub number: Number,
+// What a receipt is found by.
+fn key(tenant: Tenant, digest: &Digest) -> (u32, [u8; 32])
+    ensures { result ≡ entry_key tenant digest.now }
+{
+    let bytes = digest.0;
+    (tenant.id(), bytes)
 }
 
-impl Keyed for Receipt {
-    type Key = (Tenant, Digest);
-
-    ghost key_of = { λ receipt. (receipt.tenant, receipt.digest) };
-
-    fn compare(&self, key: &(Tenant, Digest)) -> Ordering {
-        self.tenant.cmp(&key.0).then(self.digest.cmp(&key.1))
-    }
-
-    fn compare_to(&self, other: &Receipt) -> Ordering {
-        self.tenant
-            .cmp(&other.tenant)
-            .then(self.digest.cmp(&other.digest))
-    }
-}
-
-/// The receipts of a report.
-#[derive(Drop)]
-struct OfReport {
-    tenant: Tenant,
-    number: Number,
-}
-
-impl ItemTest<Receipt> for OfReport {
-    ghost use Rattle.wb_access.specs.Receipts.{is_of_report};
-
-    ghost passes = { λ report receipt. is_of_report report.tenant report.number receipt };
-
-    fn passes(&self, receipt: &Receipt) -> bool {
-        receipt.tenant == self.tenant && receipt.number == self.number
-    }
-}
-
-/// Receipts in the order of tenant and digest, each such pair once, seen as their list and its spare room.
+/// The receipts of reports, each tenant and digest once, seen as their list, in no order that is told, and its spare room.
+/// Nothing moves as one is put in, so its cost does not grow with the others.
 #[derive(Drop)]
 pub struct ReceiptBox {
-    receipts: Sorted<Receipt>,
+    numbers: HashMap<(u32, [u8; 32]), Number>,
 }
 
 impl Model for ReceiptBox {
+    ghost use Rattle.std.specs.Prelude.{map};
+    ghost use Rattle.std.specs.HashMap.{spare};
     ghost use Rattle.wb_list.specs.Room.{Room};
-    ghost use Rattle.wb_access.specs.declared.receipts.Receipt.{Receipt as Item};
+    ghost use Rattle.wb_access.specs.Receipts.{Receipt, receipt_at};
 
-    ghost Value = { Room Item };
+    ghost Value = { Room Receipt };
 
-    ghost view = { λ box. box.receipts };
+    ghost view = { λ box. record { items = map receipt_at box.numbers.entries; spare = spare box.numbers } };
 }
 
 impl ReceiptBox {
@@ -75,25 +42,27 @@ impl ReceiptBox {
         ensures { result.items ≡ [] }
     {
         ReceiptBox {
-            receipts: Sorted::new(alloc),
+            numbers: HashMap::new(alloc),
         }
     }
 
     /// Makes room for one more.
     pub fn reserve(&mut self) -> Result<(), AccessFault>
-        ensures items { self.new.items ≡ self.old.items }
+        ensures found { (t : ℕ) (d : Code) → number_of t d self.new.items ≡ number_of t d self.old.items }
         ensures room { OnOk result (1 ≤ self.new.spare) }
         ensures enough { 1 ≤ self.old.spare → IsOk result }
         ensures kept { self.old.spare ≤ self.new.spare }
         ensures memory { IfErr result (λ fault. fault ≡ AccessFault.Memory) }
     {
-        self.receipts.reserve(1)?;
-        Ok(())
+        match self.numbers.reserve(1) {
+            Ok(()) => Ok(()),
+            Err(_) => Err(AccessFault::Memory),
+        }
     }
 
     /// Whether a receipt may still be given to a report of a tenant.
     pub fn free(&self, tenant: Tenant, digest: &Digest) -> Result<(), AccessFault>
-        ensures free { IsOk result ↔ (receipt_of tenant digest.now self.now.items ≡ None) }
+        ensures free { IsOk result ↔ (number_of tenant digest.now self.now.items ≡ None) }
         ensures taken { IfErr result (λ fault. fault ≡ AccessFault.ReceiptTaken) }
     {
         match self.find(tenant, digest) {
@@ -105,34 +74,28 @@ impl ReceiptBox {
     /// Adds a receipt that is free, into room that was made. It takes no memory.
     pub fn add(&mut self, tenant: Tenant, digest: Digest, number: Number)
         requires room { 0 < self.old.spare }
-        requires free { receipt_of tenant digest self.old.items ≡ None }
-        ensures items { self.new.items ≡ insert_item ⟦<(Tenant, Digest) as Ord>⟧.cmp (λ receipt. (receipt.tenant, receipt.digest)) self.old.items record { tenant = tenant; digest = digest; number = number } }
-        ensures found { (t : ℕ) (d : Code) → receipt_of t d self.new.items ≡ (if is_receipt t d (record { tenant = tenant; digest = digest; number = number }) then Some (record { tenant = tenant; digest = digest; number = number }) else receipt_of t d self.old.items) }
+        requires free { number_of tenant digest self.old.items ≡ None }
+        ensures found { (t : ℕ) (d : Code) → number_of t d self.new.items ≡ (if (tenant == t) && same_digest digest d then Some number else number_of t d self.old.items) }
         ensures room { self.old.spare ≤ self.new.spare + 1 }
     {
-        self.receipts.add(Receipt {
-            tenant,
-            digest,
-            number,
-        });
+        let added: Result<_, _> = self.numbers.insert(key(tenant, &digest), number);
+        added.unwrap();
     }
 
-    /// The number of the report with a receipt, found by binary search.
+    /// The number of the report with a receipt.
     pub fn find(&self, tenant: Tenant, digest: &Digest) -> Option<Number>
-        ensures { result ≡ option_map (λ receipt. receipt.number) (receipt_of tenant digest.now self.now.items) }
+        ensures { result ≡ number_of tenant digest.now self.now.items }
     {
-        match self.receipts.find(&(tenant, *digest)) {
-            Some(receipt) => Some(receipt.number),
-            None => None,
-        }
+        self.numbers.get(&key(tenant, digest)).copied()
     }
 
-    /// Drops the receipts of a report, as it is purged. It looks at all receipts once; what an item that is taken
-    /// out of a sorted `Vec` costs is as much, since all items behind it move.
+    /// Drops the receipts of a report, as it is purged. It looks at all receipts once.
     pub fn remove(&mut self, tenant: Tenant, number: Number)
         ensures items { self.new.items ≡ filter (λ receipt. not (is_of_report tenant number receipt)) self.old.items }
+        ensures found { (t : ℕ) (d : Code) → number_of t d self.new.items ≡ unless_of tenant number t (number_of t d self.old.items) }
         ensures kept { self.old.spare ≤ self.new.spare }
     {
-        self.receipts.drop_passing(&OfReport { tenant, number });
+        self.numbers
+            .retain(|key, of| key.0 != tenant.id() || *of != number);
     }
 }

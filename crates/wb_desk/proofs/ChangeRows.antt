@@ -31,7 +31,7 @@ use Rattle.wb_rows.proofs.ConfiguredRows.{configured_rows}
 use Rattle.wb_rows.proofs.NotedRows.{noted_rows}
 use Rattle.wb_rows.proofs.RowPuts.{AreSame}
 use Rattle.wb_tables.specs.Configured.{fault_of, row_of, setting_of}
-use Rattle.wb_tables.specs.Kept.{Place, place_of, live_place}
+use Rattle.wb_tables.specs.Kept.{PlainTenancy, place_of, live_place}
 use Rattle.wb_tables.specs.declared.proposal.Proposal.{Proposal}
 use Rattle.wb_tables.specs.declared.proposal.Proposal.TheVariants as proposals
 use Rattle.wb_tables.specs.declared.tenancy.Tenancy.{Tenancy as KeptTenancy}
@@ -42,7 +42,7 @@ use Rattle.wb_desk.proofs.Rooms.{live_report}
 -- ---- what is asked of a change
 
 -- an entry comes to a report that is there, and a setting has its row and a version that may be
-abbrev pub IsPuttable : Place → Planned → Type 0
+abbrev pub IsPuttable : PlainTenancy → Planned → Type 0
 IsPuttable x (planned.Notes n) = is_there n.number x.plain.cases ≡ true
 IsPuttable x (planned.Configures c) = (c.row ≡ setting_row x.id x.plain.registry (setting_of x.id x.plain.registry c.proposal)) × IsVersion (setting_of x.id x.plain.registry c.proposal)
 IsPuttable x planned.Nothing = Unit {0}
@@ -83,7 +83,7 @@ puttable time spare x (planned.Configures c) h = (
 
 -- ---- the rows over the tables before and after a purge
 
-pub live_puts : (now time : ℕ) (x : Place) (c : Planned) → Apart has_number x.plain.cases → IsPuttable (live_place time x) c → puts_of now (live_place time x) c ≡ puts_of now x c
+pub live_puts : (now time : ℕ) (x : PlainTenancy) (c : Planned) → Apart has_number x.plain.cases → IsPuttable (live_place time x) c → puts_of now (live_place time x) c ≡ puts_of now x c
 live_puts now time x planned.Nothing apart h = refl
 live_puts now time x (planned.Begins o) apart h = by o.case.items
   where
@@ -97,7 +97,7 @@ live_puts now time x (planned.Configures c) apart h = refl
 
 -- ---- the rows after it
 
-puts_same : (now : ℕ) (x : Place) (entry : Entry) (es : List Entry) (secret : Option Answered) → first_puts now x (entry ∷ es) secret ≡ opened_puts texts x.id now entry secret x.plain
+puts_same : (now : ℕ) (x : PlainTenancy) (entry : Entry) (es : List Entry) (secret : Option Answered) → first_puts now x (entry ∷ es) secret ≡ opened_puts texts x.id now entry secret x.plain
 puts_same now x entry es None = refl
 puts_same now x entry es (Some a) = refl
 
@@ -111,7 +111,7 @@ kinds_same [] before after y z same = refl
 kinds_same (f ∷ fs) before after y z same = λ i. of_same f before after y z same.0 i ++ kinds_same fs before after y z same.1 i
 
 -- a tenant as a place
-abbrev pub as_place : Tenancy → Place
+abbrev pub as_place : Tenancy → PlainTenancy
 as_place y = record { id = y.id; plain = y.tables.plain }
 
 abbrev pub made_one : ℕ → Planned → Tenancy → Tenancy

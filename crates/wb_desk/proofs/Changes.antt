@@ -11,7 +11,7 @@ use Rattle.wb_plan.specs.declared.plan.Plan.{Plan}
 use Rattle.wb_plan.specs.declared.plan.Planned.{Planned}
 use Rattle.wb_plan.specs.declared.plan.Planned.TheVariants as planned
 use Rattle.wb_plan.specs.Plans.{Plans, Gives, begins, change_of, given_of}
-use Rattle.wb_tables.specs.Kept.{Place, tables_of, sealed_of}
+use Rattle.wb_tables.specs.Kept.{PlainTenancy, tables_of, sealed_of}
 use Rattle.wb_tables.proofs.Purges.{same_tables}
 
 -- what is made of purged tables is what the plan says
@@ -27,6 +27,6 @@ planned_tables id t u at a plan h e = e ∙ (by plan.change h.given ∙ sym (ap 
     by (planned.Configures c) is = refl
 
 -- what is made of a tenant and of identity answers
-pub tables_made : (items new : List SealedItem) (x y : Place) (time : ℕ) (ch : Change) (given : Option Answered) → y.id ≡ x.id → y.plain ≡ plain_after time ch x.plain → ((n : ℕ) → answers_of new x.id n ≡ sealed_after ch x.plain.numbering.last given (sealed_of items x.id) n)
+pub tables_made : (items new : List SealedItem) (x y : PlainTenancy) (time : ℕ) (ch : Change) (given : Option Answered) → y.id ≡ x.id → y.plain ≡ plain_after time ch x.plain → ((n : ℕ) → answers_of new x.id n ≡ sealed_after ch x.plain.numbering.last given (sealed_of items x.id) n)
     → tables_of new y ≡ changed time ch given (tables_of items x)
 tables_made items new x y time ch given id plain here = same_tables (tables_of new y) (changed time ch given (tables_of items x)) plain (λ n. ap (λ t. answers_of new t n) id ∙ here n)

@@ -27,7 +27,7 @@ use Rattle.wb_plan.specs.declared.plan.Planned.TheVariants as planned
 use Rattle.wb_looks.specs.Looks.{at_of}
 use Rattle.wb_plan.specs.Plans.{Plans, begins, change_of}
 use Rattle.wb_tables.specs.Dead.{any_dead}
-use Rattle.wb_tables.specs.Kept.{Place, place_of, tables_of, tenancy_of, sessions_at}
+use Rattle.wb_tables.specs.Kept.{PlainTenancy, place_of, tables_of, tenancy_of, sessions_at}
 use Rattle.wb_tables.specs.Places.{ArePlaces, IsAt}
 use Rattle.wb_tables.specs.Standing.{hosts_of}
 use Rattle.wb_tables.specs.declared.tenancy.Tenancy.{Tenancy as KeptTenancy}
@@ -41,27 +41,27 @@ use Rattle.wb_desk.proofs.Tenants.{at_turn, at_frame_is, names_tenant, found_at}
 
 -- ---- a batch that is not empty
 
-any_same : (now : ℕ) (items : List SealedItem) (xs : List Place) → list_any (λ (x : Tenancy). list_any (λ c. not (is_live x.tables.plain.registry.settings now c)) x.tables.plain.cases) (map (tenancy_of items) xs) ≡ any_dead now xs
+any_same : (now : ℕ) (items : List SealedItem) (xs : List PlainTenancy) → list_any (λ (x : Tenancy). list_any (λ c. not (is_live x.tables.plain.registry.settings now c)) x.tables.plain.cases) (map (tenancy_of items) xs) ≡ any_dead now xs
 any_same now items [] = refl
 any_same now items (x ∷ xs) = ap (λ b. list_any (λ c. not (is_live x.plain.registry.settings now c)) x.plain.cases || b) (any_same now items xs)
 
 -- a purge is something to keep
-pub dead_keeps : (xs : List Place) (items : List SealedItem) (at : KeptAt) (asked : Asked) → any_dead at.time xs ≡ true → KeepsAt xs items at asked
+pub dead_keeps : (xs : List PlainTenancy) (items : List SealedItem) (at : KeptAt) (asked : Asked) → any_dead at.time xs ≡ true → KeepsAt xs items at asked
 dead_keeps xs items at asked dead = λ turns now f p. inl (any_same (max now f.moment) items xs ∙ (ap (λ m. any_dead m xs) p.time ∙ dead))
 
 -- what is put or dropped
-batch_some : (now : ℕ) (xs : List Place) (puts batch : List RowChange) → IsBatch now xs puts batch → batch ≢ [] → (any_dead now xs ≡ true) ⊎ (puts ≢ [])
+batch_some : (now : ℕ) (xs : List PlainTenancy) (puts batch : List RowChange) → IsBatch now xs puts batch → batch ≢ [] → (any_dead now xs ≡ true) ⊎ (puts ≢ [])
 batch_some now xs puts batch b some = by (any_dead now xs) refl
   where
     by : (a : Bool) → any_dead now xs ≡ a → (any_dead now xs ≡ true) ⊎ (puts ≢ [])
     by true e = inl e
     by false e = inr (λ none. some (b.is ∙ (ap (λ l. l ++ puts) (b.none e) ∙ none)))
 
-keeps_by : (xs : List Place) (items : List SealedItem) (at : KeptAt) (asked : Asked) (puts : List RowChange) → puts ≡ [] → (any_dead at.time xs ≡ true) ⊎ (puts ≢ []) → KeepsAt xs items at asked
+keeps_by : (xs : List PlainTenancy) (items : List SealedItem) (at : KeptAt) (asked : Asked) (puts : List RowChange) → puts ≡ [] → (any_dead at.time xs ≡ true) ⊎ (puts ≢ []) → KeepsAt xs items at asked
 keeps_by xs items at asked puts e (inl dead) = dead_keeps xs items at asked dead
 keeps_by xs items at asked puts e (inr some) = absurd (some e)
 
-pub keeps_without : (xs : List Place) (items : List SealedItem) (at : KeptAt) (asked : Asked) (batch : List RowChange) → IsBatch at.time xs [] batch → batch ≢ [] → KeepsAt xs items at asked
+pub keeps_without : (xs : List PlainTenancy) (items : List SealedItem) (at : KeptAt) (asked : Asked) (batch : List RowChange) → IsBatch at.time xs [] batch → batch ≢ [] → KeepsAt xs items at asked
 keeps_without xs items at asked batch b some = keeps_by xs items at asked [] refl (batch_some at.time xs [] batch b some)
 
 -- the verdict of a turn's frame
@@ -71,7 +71,7 @@ ruled turns now f at asked t p =
     ∙ (ap (λ (a : At). ruling (purged at.time t) a f.asked) (at_frame_is turns now f at asked p) ∙ ap (λ (a : Asked). ruling (purged at.time t) (at_of at) a) p.asked_of)
 
 -- a change whose rows are put is kept
-kept_puts : (now t : ℕ) (g : Registry) (x : Place) (c : Planned) → puts_of now x c ≢ [] → IsKept (change_of t g c)
+kept_puts : (now t : ℕ) (g : Registry) (x : PlainTenancy) (c : Planned) → puts_of now x c ≢ [] → IsKept (change_of t g c)
 kept_puts now t g x planned.Nothing put = absurd (put refl)
 kept_puts now t g x (planned.Begins o) put = by o.case.items put
   where
@@ -122,17 +122,17 @@ keeps_at upto t i at asked items ks d plan batch all is named h b some = by (bat
 
 -- ---- a lost turn
 
-pub lost_turn : (xs : List Place) (items : List SealedItem) (ys : List Place) (new : List SealedItem) (at : KeptAt) (asked : Asked) (why : Lost) → IsLeft xs items ys new → KeepsAt xs items at asked → IsTurnAt xs items at asked (Err why) ys new
+pub lost_turn : (xs : List PlainTenancy) (items : List SealedItem) (ys : List PlainTenancy) (new : List SealedItem) (at : KeptAt) (asked : Asked) (why : Lost) → IsLeft xs items ys new → KeepsAt xs items at asked → IsTurnAt xs items at asked (Err why) ys new
 lost_turn xs items ys new at asked lost.Keeper left keeps = (left, keeps)
 lost_turn xs items ys new at asked lost.Memory left keeps = (left, λ health. keeps)
 
 -- what holds of the tables after it
-pub right_of : (xs : List Place) (items : List SealedItem) (at : KeptAt) (asked : Asked) (result : Result Told Lost) (ys : List Place) (new : List SealedItem) → IsTurnAt xs items at asked result ys new → AreSetUpRight 0 xs → AreSetUpRight 0 ys
+pub right_of : (xs : List PlainTenancy) (items : List SealedItem) (at : KeptAt) (asked : Asked) (result : Result Told Lost) (ys : List PlainTenancy) (new : List SealedItem) → IsTurnAt xs items at asked result ys new → AreSetUpRight 0 xs → AreSetUpRight 0 ys
 right_of xs items at asked (Ok told) ys new turn = turn.set_up
 right_of xs items at asked (Err lost.Keeper) ys new turn = subst (AreSetUpRight 0) (sym turn.0.places)
 right_of xs items at asked (Err lost.Memory) ys new turn = subst (AreSetUpRight 0) (sym turn.0.places)
 
-pub sessions_of : (xs : List Place) (items : List SealedItem) (at : KeptAt) (asked : Asked) (result : Result Told Lost) (ys : List Place) (new : List SealedItem) → IsTurnAt xs items at asked result ys new → sessions_at ys ≤ sessions_at xs + 1
+pub sessions_of : (xs : List PlainTenancy) (items : List SealedItem) (at : KeptAt) (asked : Asked) (result : Result Told Lost) (ys : List PlainTenancy) (new : List SealedItem) → IsTurnAt xs items at asked result ys new → sessions_at ys ≤ sessions_at xs + 1
 sessions_of xs items at asked (Ok told) ys new turn = turn.sessions
 sessions_of xs items at asked (Err lost.Keeper) ys new turn = let e = ap sessions_at turn.0.places in omega (arith, e)
 sessions_of xs items at asked (Err lost.Memory) ys new turn = let e = ap sessions_at turn.0.places in omega (arith, e)
@@ -140,11 +140,11 @@ sessions_of xs items at asked (Err lost.Memory) ys new turn = let e = ap session
 same_hosts : (turns now : ℕ) (xs ys : List Tenancy) → xs ≡ ys → ◌≡◌ {A = Hosts} (record { turns = turns; now = now; list = xs }) (record { turns = turns; now = now; list = ys })
 same_hosts turns now xs ys e = λ i. record { turns = turns; now = now; list = e i }
 
-left_hosts : (xs ys : List Place) (items new : List SealedItem) → IsLeft xs items ys new → map (tenancy_of new) ys ≡ map (tenancy_of items) xs
+left_hosts : (xs ys : List PlainTenancy) (items new : List SealedItem) → IsLeft xs items ys new → map (tenancy_of new) ys ≡ map (tenancy_of items) xs
 left_hosts xs ys items new left = ap (λ l. map (tenancy_of l) ys) left.sealed ∙ ap (map (tenancy_of items)) left.places
 
 -- the turn of a frame
-pub turned_of : (turns now : ℕ) (xs : List Place) (items : List SealedItem) (f : Frame) (at : KeptAt) (asked : Asked) (result : Result Told Lost) (ys : List Place) (new : List SealedItem) → IsFrameAt turns now f at asked → IsTurnAt xs items at asked result ys new
+pub turned_of : (turns now : ℕ) (xs : List PlainTenancy) (items : List SealedItem) (f : Frame) (at : KeptAt) (asked : Asked) (result : Result Told Lost) (ys : List PlainTenancy) (new : List SealedItem) → IsFrameAt turns now f at asked → IsTurnAt xs items at asked result ys new
     → IsTurn (hosts_of (standing turns now xs items)) f result (hosts_of (standing (turns + 1) (max now f.moment) ys new))
 turned_of turns now xs items f at asked (Ok told) ys new p turn = (turn.reply turns now f p, same_hosts (turns + 1) (max now f.moment) (map (tenancy_of new) ys) (hosts_after (hosts_of (standing turns now xs items)) f).list (turn.hosts turns now f p))
 turned_of turns now xs items f at asked (Err lost.Keeper) ys new p turn = (same_hosts (turns + 1) (max now f.moment) (map (tenancy_of new) ys) (map (tenancy_of items) xs) (left_hosts xs ys items new turn.0), turn.1 turns now f p)

@@ -34,7 +34,7 @@ use Rattle.wb_plan.specs.declared.plan.Planned.{Planned}
 use Rattle.wb_plan.specs.declared.plan.Planned.TheVariants as planned
 use Rattle.wb_looks.specs.Looks.{at_of}
 use Rattle.wb_plan.specs.Plans.{IsFit, Plans, begins, change_of as planned_change_of}
-use Rattle.wb_tables.specs.Kept.{Place, place_of, plain_of, tables_of, live_place, live_plain}
+use Rattle.wb_tables.specs.Kept.{PlainTenancy, place_of, plain_of, tables_of, live_place, live_plain}
 use Rattle.wb_tables.specs.Logins.{who_seen}
 use Rattle.wb_tables.specs.Places.{ArePlaces}
 use Rattle.wb_tables.specs.Receipted.{HasOwnReceipt}
@@ -180,5 +180,5 @@ pub own_at : (turns i : ℕ) (at : KeptAt) (asked : Asked) (plan : Plan) (items 
 own_at turns i at asked plan items ks ls d y all e lt fit h =
     let x = get_or ks i d in
     let p : Plain = live_plain at.time (plain_of x) in
-    subst (λ (z : Place). IsOwn z.plain plan.change) (sym ((live_at at.time i ks ls e lt).place d))
+    subst (λ (z : PlainTenancy). IsOwn z.plain plan.change) (sym ((live_at at.time i ks ls e lt).place d))
     (planned_own p (at_of at) (plain_part p asked) x.configuration.tenant p.registry at.time y plan.change (apart_filter has_turn (lasts at.time (live_cases (plain_of x) at.time)) (plain_of x).sessions (place_at turns 0 i items ks d all lt).plain.logins) fit h.change)

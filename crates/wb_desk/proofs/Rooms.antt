@@ -13,7 +13,7 @@ use Rattle.wb_plan.specs.declared.plan.Planned.{Planned}
 use Rattle.wb_plan.specs.declared.plan.Planned.TheVariants as planned
 use Rattle.wb_plan.specs.Plans.{IsRoomy}
 use Rattle.wb_tables.specs.Configured.{Configured, IsReady as IsReadyToSet, row_of}
-use Rattle.wb_tables.specs.Kept.{Place, case_of, place_of, plain_of, live_place, live_plain}
+use Rattle.wb_tables.specs.Kept.{PlainTenancy, case_of, place_of, plain_of, live_place, live_plain}
 use Rattle.wb_tables.specs.Logins.{AreEarlier}
 use Rattle.wb_tables.specs.Places.{ArePlaces, IsPurged, ArePurged}
 use Rattle.wb_tables.specs.declared.tenancy.Report.{Report as KeptCase}
@@ -101,7 +101,7 @@ room_left : (turns time i spare more : ℕ) (items : List SealedItem) (ks ls : L
     → ((d : KeptTenancy) → IsRoomy time (get_or ks i d) spare c) → (d : KeptTenancy) → IsRoomy time (get_or ls i d) more c
 room_left turns time i spare more items ks ls c all purged e lt le h d =
     let at : IsLiveAt time i ks ls = live_at time i ks ls e lt in
-    room_in time spare more (get_or ks i d) (get_or ls i d) c (place_at turns 0 i items ks d all lt).plain.cases (purged_at time i ks ls d purged lt) (ap (λ (x : Place). x.plain) (at.place d)) le (h d)
+    room_in time spare more (get_or ks i d) (get_or ls i d) c (place_at turns 0 i items ks d all lt).plain.cases (purged_at time i ks ls d purged lt) (ap (λ (x : PlainTenancy). x.plain) (at.place d)) le (h d)
 
 -- after the tables were made ready, which leaves all but the room, and purged
 pub room_made : (turns time i spare more : ℕ) (items : List SealedItem) (hs ks ls : List KeptTenancy) (c : Planned) → ArePlaces turns 0 items (map place_of hs) → map place_of ks ≡ map place_of hs → ArePurged time ks ls → map place_of ls ≡ map (live_place time) (map place_of ks) → i < length hs → spare ≤ more

@@ -5,7 +5,7 @@ use Rattle.std.proofs.lemmas.List.Sums.{sum_by-cons}
 use Rattle.wb_model.specs.Tables.{Session, lasts}
 use Rattle.wb_model.specs.Changes.{Change, LogsIn, LogsOut, Configures}
 use Rattle.wb_model.specs.Host.{live_cases, ends, sessions_after}
-use Rattle.wb_tables.specs.Kept.{Place, live_place, sessions_at}
+use Rattle.wb_tables.specs.Kept.{PlainTenancy, live_place, sessions_at}
 
 fewer : {X : Type 0} (p : X → Bool) (xs : List X) → length (filter p xs) ≤ length xs
 fewer p [] = omega arith
@@ -15,10 +15,10 @@ fewer {X} p (x ∷ xs) = by (fewer p xs) (p x)
     by h true = omega (arith, h)
     by h false = omega (arith, h)
 
-abbrev standing_at : Place → ℕ
+abbrev standing_at : PlainTenancy → ℕ
 standing_at x = length x.plain.sessions
 
-pub fewer_sessions : (time : ℕ) (xs : List Place) → sessions_at (map (live_place time) xs) ≤ sessions_at xs
+pub fewer_sessions : (time : ℕ) (xs : List PlainTenancy) → sessions_at (map (live_place time) xs) ≤ sessions_at xs
 fewer_sessions time [] = omega arith
 fewer_sessions time (x ∷ xs) =
     let here : standing_at (live_place time x) ≤ standing_at x = fewer (lasts time (live_cases x.plain time)) x.plain.sessions in

@@ -15,7 +15,7 @@ use Rattle.wb_plan.specs.declared.plan.Planned.{Planned}
 use Rattle.wb_plan.specs.declared.plan.Planned.TheVariants as planned
 use Rattle.wb_plan.specs.Plans.{IsRoomy, begins}
 use Rattle.wb_tables.specs.Configured.{IsSound, setting_of}
-use Rattle.wb_tables.specs.Kept.{Place, place_of, live_place}
+use Rattle.wb_tables.specs.Kept.{PlainTenancy, place_of, live_place}
 use Rattle.wb_tables.specs.Places.{AreGoodForms}
 use Rattle.wb_tables.specs.declared.proposal.Proposal.{Proposal}
 use Rattle.wb_tables.specs.declared.proposal.Proposal.TheVariants as proposals
@@ -24,7 +24,7 @@ use Rattle.wb_desk.specs.Ready.{planned_change}
 use Rattle.wb_opening.specs.SetUp.{IsSetUpRight, AreSetUpRight}
 
 -- what changes neither the id nor the registry
-pub right_same : (x y : Place) → y.id ≡ x.id → y.plain.registry ≡ x.plain.registry → IsSetUpRight x → IsSetUpRight y
+pub right_same : (x y : PlainTenancy) → y.id ≡ x.id → y.plain.registry ≡ x.plain.registry → IsSetUpRight x → IsSetUpRight y
 right_same x y id registry right = record {
   id = subst (λ n. n ≤ 64) (sym id) right.id;
   offset = subst (λ (g : Registry). IsOffset g.settings.offset) (sym registry) right.offset;
@@ -41,7 +41,7 @@ good_put (y ∷ ys) x all good = by (nat_cmp (form_key y) (form_key x)) (good_pu
     by Equal rest = (good, all.1)
     by Greater rest = (good, all)
 
-right_set : (t : ℕ) (x y : Place) (next : Proposal) → IsSound next → y.id ≡ x.id → y.plain.registry ≡ configured (setting_of t x.plain.registry next) x.plain.registry → IsSetUpRight x → IsSetUpRight y
+right_set : (t : ℕ) (x y : PlainTenancy) (next : Proposal) → IsSound next → y.id ≡ x.id → y.plain.registry ≡ configured (setting_of t x.plain.registry next) x.plain.registry → IsSetUpRight x → IsSetUpRight y
 right_set t x y next sound id registry right = right_same (record { id = x.id; plain = record x.plain { registry = configured (setting_of t x.plain.registry next) x.plain.registry } }) y id registry (by next sound)
   where
     by : (p : Proposal) → IsSound p → IsSetUpRight (record { id = x.id; plain = record x.plain { registry = configured (setting_of t x.plain.registry p) x.plain.registry } })
@@ -51,7 +51,7 @@ right_set t x y next sound id registry right = right_same (record { id = x.id; p
     by (proposals.ToForm f form) sound = record { id = right.id; offset = right.offset; forms = good_put x.plain.registry.forms (form_item t f x.plain.registry.forms form) right.forms sound }
 
 -- a planned change
-pub right_planned : (time spare : ℕ) (x : KeptTenancy) (y : Place) (c : Planned) → IsRoomy time x spare c → y.id ≡ x.configuration.tenant → y.plain.registry ≡ registry_after (planned_change x c) x.configuration.registry → IsSetUpRight (place_of x) → IsSetUpRight y
+pub right_planned : (time spare : ℕ) (x : KeptTenancy) (y : PlainTenancy) (c : Planned) → IsRoomy time x spare c → y.id ≡ x.configuration.tenant → y.plain.registry ≡ registry_after (planned_change x c) x.configuration.registry → IsSetUpRight (place_of x) → IsSetUpRight y
 right_planned time spare x y planned.Nothing h id registry right = right_same (place_of x) y id registry right
 right_planned time spare x y (planned.Begins o) h id registry right = right_same (place_of x) y id (registry ∙ by o.case.items) right
   where
@@ -64,7 +64,7 @@ right_planned time spare x y (planned.LogsOut turn who) h id registry right = ri
 right_planned time spare x y (planned.Configures c) h id registry right = right_set x.configuration.tenant (place_of x) y c.proposal h.room.sound id registry right
 
 -- a purge
-pub right_purged : (k time : ℕ) (xs : List Place) → AreSetUpRight k xs → AreSetUpRight k (map (live_place time) xs)
+pub right_purged : (k time : ℕ) (xs : List PlainTenancy) → AreSetUpRight k xs → AreSetUpRight k (map (live_place time) xs)
 right_purged k time [] right = tt
 right_purged k time (x ∷ xs) right = ((right.0.0, record { id = right.0.1.id; offset = right.0.1.offset; forms = right.0.1.forms }), right_purged x.id time xs right.1)
 

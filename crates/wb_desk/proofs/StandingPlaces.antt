@@ -21,7 +21,7 @@ use Rattle.wb_model.proofs.SessionsApart.{apart_sessions}
 use Rattle.wb_model.proofs.KeptPasts.{held_opened}
 use Rattle.wb_model.proofs.PartLaw.{part_turns}
 use Rattle.wb_tables.specs.Indexed.{AreFewRequests}
-use Rattle.wb_tables.specs.Kept.{Place, tables_of, tenancy_of}
+use Rattle.wb_tables.specs.Kept.{PlainTenancy, tables_of, tenancy_of}
 use Rattle.wb_tables.specs.Logins.{AreEarlier}
 use Rattle.wb_tables.specs.Places.{IsPlace, ArePlaces}
 use Rattle.wb_tables.specs.Standing.{Standing, hosts_of}
@@ -99,7 +99,7 @@ few_requests : (offset : ℤ) (time : ℕ) (cs : List Case) → AreLegal offset 
 few_requests offset time [] legal = tt
 few_requests offset time (c ∷ cs) legal = (legal-few offset c.trail legal.0.0, few_requests offset time cs legal.1)
 
-place_held : (turns : ℕ) (items : List SealedItem) (x : Place) → IsSetUpRight x → AreHeld turns (tables_of items x) → IsPlace turns items x
+place_held : (turns : ℕ) (items : List SealedItem) (x : PlainTenancy) → IsSetUpRight x → AreHeld turns (tables_of items x) → IsPlace turns items x
 place_held turns items x right is = record {
   id = right.id;
   plain = record {
@@ -118,7 +118,7 @@ place_held turns items x right is = record {
       some_none (answers_of items x.id n) (is.opened.marks n ∙ ap (λ c. has_identity (entries_of c)) none);
 }
 
-all_held : (turns k : ℕ) (items : List SealedItem) (xs : List Place) (past : Past AllOpened) (ts : List ℕ) → ((t : ℕ) → AreHeld turns (held (part t past))) → map (tenancy_of items) xs ≡ map (held_tenancy past) ts → AreSetUpRight k xs → ArePlaces turns k items xs
+all_held : (turns k : ℕ) (items : List SealedItem) (xs : List PlainTenancy) (past : Past AllOpened) (ts : List ℕ) → ((t : ℕ) → AreHeld turns (held (part t past))) → map (tenancy_of items) xs ≡ map (held_tenancy past) ts → AreSetUpRight k xs → ArePlaces turns k items xs
 all_held turns k items [] past ts are e right = tt
 all_held turns k items (x ∷ xs) past [] are e right = absurd cc
 all_held turns k items (x ∷ xs) past (t ∷ ts) are e right =

@@ -15,7 +15,7 @@ use Rattle.wb_model.proofs.TurnRows.{changed_append}
 use Rattle.wb_plan.specs.declared.plan.Planned.{Planned}
 use Rattle.wb_plan.specs.Plans.{IsFit}
 use Rattle.wb_tables.specs.Dead.{any_dead}
-use Rattle.wb_tables.specs.Kept.{Place, place_of, tables_of, tenancy_of, purged_tenancy}
+use Rattle.wb_tables.specs.Kept.{PlainTenancy, place_of, tables_of, tenancy_of, purged_tenancy}
 use Rattle.wb_tables.specs.Places.{IsPlace, ArePlaces}
 use Rattle.wb_tables.specs.declared.tenancy.Tenancy.{Tenancy as KeptTenancy}
 use Rattle.wb_tables.proofs.PlacesAt.{place_at}
@@ -28,7 +28,7 @@ use Rattle.wb_desk.proofs.Whole.{IsPurge, IsLiveAt, places_left, live_at}
 
 -- ---- the tenant at a place, and those before and after it
 
-held_above : (turns k : ℕ) (items : List SealedItem) (xs : List Place) (x : Tenancy) → ArePlaces turns k items xs → Held x (map (tenancy_of items) xs) → k < x.id
+held_above : (turns k : ℕ) (items : List SealedItem) (xs : List PlainTenancy) (x : Tenancy) → ArePlaces turns k items xs → Held x (map (tenancy_of items) xs) → k < x.id
 held_above turns k items [] x all held = absurd held
 held_above turns k items (y ∷ ys) x all (inl e) = subst (λ (z : Tenancy). k < z.id) (sym e) all.0.0
 held_above turns k items (y ∷ ys) x all (inr h) = let above : y.id < x.id = held_above turns y.id items ys x all.1 h in omega (arith, above, all.0.0)
@@ -78,7 +78,7 @@ there_above last n (c ∷ cs) all lt =
     let other : has_number n c ≡ false = grind (arith, nat_tests, all.0, lt) in
     rw other (there_above last n cs all.1 lt)
 
-rowed : (turns : ℕ) (items : List SealedItem) (x : Place) → IsPlace turns items x → IsRowed (tenancy_of items x)
+rowed : (turns : ℕ) (items : List SealedItem) (x : PlainTenancy) → IsPlace turns items x → IsRowed (tenancy_of items x)
 rowed turns items x h = record {
   most = h.most;
   unsealed = h.unsealed (x.plain.numbering.last + 1) (there_above x.plain.numbering.last (x.plain.numbering.last + 1) x.plain.cases h.most (omega arith));
@@ -102,7 +102,7 @@ batch_same now i ks ls d c batch e b =
 -- ---- the whole batch
 
 -- a purge and then what is put
-purge_then : (now : ℕ) (items mid : List SealedItem) (xs ys : List Place) (puts batch : List RowChange) → IsBatch now xs puts batch → IsPurge now xs items ys mid
+purge_then : (now : ℕ) (items mid : List SealedItem) (xs ys : List PlainTenancy) (puts batch : List RowChange) → IsBatch now xs puts batch → IsPurge now xs items ys mid
     → all_changed (rows_of (map (tenancy_of items) xs)) batch ≡ all_changed (rows_of (map (tenancy_of mid) ys)) puts
 purge_then now items mid xs ys puts batch b purge =
     ap (all_changed (rows_of (map (tenancy_of items) xs))) b.is
@@ -110,7 +110,7 @@ purge_then now items mid xs ys puts batch b purge =
     ∙ ap (λ l. all_changed l puts) (b.rows items ∙ ap rows_of (sym purge.hosts)))
 
 -- where no tenant is named
-pub rows_without : (now : ℕ) (items new : List SealedItem) (xs ys : List Place) (batch : List RowChange) → IsBatch now xs [] batch → IsPurge now xs items ys new → all_changed (rows_of (map (tenancy_of items) xs)) batch ≡ rows_of (map (tenancy_of new) ys)
+pub rows_without : (now : ℕ) (items new : List SealedItem) (xs ys : List PlainTenancy) (batch : List RowChange) → IsBatch now xs [] batch → IsPurge now xs items ys new → all_changed (rows_of (map (tenancy_of items) xs)) batch ≡ rows_of (map (tenancy_of new) ys)
 rows_without now items new xs ys batch b purge = purge_then now items new xs ys [] batch b purge
 
 -- and where the tenant at a place makes a change

@@ -16,7 +16,7 @@ use Rattle.wb_plan.specs.Plans.{Plans}
 use Rattle.wb_tables.specs.Places.{ArePlaces, IsAt, is_tenant}
 use Rattle.wb_desk.specs.Ready.{IsMadeAt}
 use Rattle.wb_opening.specs.SetUp.{AreSetUpRight}
-use Rattle.wb_tables.specs.Kept.{Place, place_of, tables_of, tenancy_of, live_place, purged_tenancy, sessions_at}
+use Rattle.wb_tables.specs.Kept.{PlainTenancy, place_of, tables_of, tenancy_of, live_place, purged_tenancy, sessions_at}
 use Rattle.wb_desk.specs.Turns.{IsTurnOver}
 use Rattle.wb_tables.proofs.Purges.{purged_places}
 use Rattle.wb_desk.proofs.Tenants.{reply_named, hosts_named, hosts_made, reply_unnamed, hosts_unnamed}
@@ -47,20 +47,20 @@ length_same (suc i) (x ∷ ks) (y ∷ ls) e lt =
     let later : i < length ls = length_same i ks ls rest (omega arith) in omega (arith, later)
 
 -- what a purge of all tenants made
-pub record IsPurge (time : ℕ) (xs : List Place) (items : List SealedItem) (ys : List Place) (new : List SealedItem) : Type 0 where
+pub record IsPurge (time : ℕ) (xs : List PlainTenancy) (items : List SealedItem) (ys : List PlainTenancy) (new : List SealedItem) : Type 0 where
   pub places : ys ≡ map (live_place time) xs
   pub hosts : map (tenancy_of new) ys ≡ map (purged_tenancy time) (map (tenancy_of items) xs)
 
-pub purge_of : (time : ℕ) (xs ys zs : List Place) (items mid new : List SealedItem) → xs ≡ ys → items ≡ mid → zs ≡ map (live_place time) ys → map (tenancy_of new) zs ≡ map (purged_tenancy time) (map (tenancy_of mid) ys) → IsPurge time xs items zs new
+pub purge_of : (time : ℕ) (xs ys zs : List PlainTenancy) (items mid new : List SealedItem) → xs ≡ ys → items ≡ mid → zs ≡ map (live_place time) ys → map (tenancy_of new) zs ≡ map (purged_tenancy time) (map (tenancy_of mid) ys) → IsPurge time xs items zs new
 purge_of time xs ys zs items mid new e s p h = record {
   places = p ∙ sym (ap (map (live_place time)) e);
   hosts = h ∙ sym (ap (λ l. map (purged_tenancy time) (map (tenancy_of mid) l)) e) ∙ sym (ap (λ l. map (purged_tenancy time) (map (tenancy_of l) xs)) s);
 }
 
-pub places_left : (turns time : ℕ) (xs : List Place) (items : List SealedItem) (ys : List Place) (new : List SealedItem) → ArePlaces turns 0 items xs → IsPurge time xs items ys new → ArePlaces turns 0 new ys
+pub places_left : (turns time : ℕ) (xs : List PlainTenancy) (items : List SealedItem) (ys : List PlainTenancy) (new : List SealedItem) → ArePlaces turns 0 items xs → IsPurge time xs items ys new → ArePlaces turns 0 new ys
 places_left turns time xs items ys new all h = purged_places turns time 0 items new xs ys h.places h.hosts all
 
-right_left : (time : ℕ) (xs : List Place) (items : List SealedItem) (ys : List Place) (new : List SealedItem) → IsPurge time xs items ys new → AreSetUpRight 0 xs → AreSetUpRight 0 ys
+right_left : (time : ℕ) (xs : List PlainTenancy) (items : List SealedItem) (ys : List PlainTenancy) (new : List SealedItem) → IsPurge time xs items ys new → AreSetUpRight 0 xs → AreSetUpRight 0 ys
 right_left time xs items ys new h right = subst (AreSetUpRight 0) (sym h.places) (right_purged 0 time xs right)
 
 -- the tables of a tenant at a place, once they are purged
@@ -92,17 +92,17 @@ turn_over upto t i at asked plan items mid new ks ls ms all is named planned_at 
     live = live_at at.time i ks ls purge.places is.within
 
     there : IsAt t ls i
-    there = record { within = live.within; id = λ d. ap (λ (x : Place). x.id) (live.place d) ∙ is.id d }
+    there = record { within = live.within; id = λ d. ap (λ (x : PlainTenancy). x.id) (live.place d) ∙ is.id d }
 
     tables_here : tables_of mid (place_of (get_or ls i made.tenancy)) ≡ purged at.time (tables_of items (place_of (get_or ks i made.tenancy)))
     tables_here = live_tables at.time i items mid ks ls made.tenancy purge.hosts is.within
 
     whole : tables_of new (place_of made.tenancy) ≡ tables_after (tables_of mid (place_of (get_or ls i made.tenancy))) (at_of at) asked
     whole = planned_tables (get_or ls i made.tenancy).configuration.tenant (tables_of mid (place_of (get_or ls i made.tenancy))) (tables_of new (place_of made.tenancy)) (at_of at) asked plan
-        (subst (λ n. Plans n (tables_of mid (place_of (get_or ls i made.tenancy))) (at_of at) asked plan) (sym (ap (λ (x : Place). x.id) (live.place made.tenancy)))
+        (subst (λ n. Plans n (tables_of mid (place_of (get_or ls i made.tenancy))) (at_of at) asked plan) (sym (ap (λ (x : PlainTenancy). x.id) (live.place made.tenancy)))
         (subst (λ q. Plans (get_or ks i made.tenancy).configuration.tenant q (at_of at) asked plan) (sym tables_here) (planned_at made.tenancy))) (made.tables made.tenancy)
 
-pub none_live : (time t : ℕ) (zs : List Place) → find (is_tenant t) zs ≡ None → find (is_tenant t) (map (live_place time) zs) ≡ None
+pub none_live : (time t : ℕ) (zs : List PlainTenancy) → find (is_tenant t) zs ≡ None → find (is_tenant t) (map (live_place time) zs) ≡ None
 none_live time t [] e = refl
 none_live time t (z ∷ zs) e =
     let ne : (z.id == t) ≡ false = grind (arith, nat_tests, e) in
@@ -110,7 +110,7 @@ none_live time t (z ∷ zs) e =
     rw ne (none_live time t zs later)
 
 -- the turn that names no tenant that is there
-pub turn_without : (upto t : ℕ) (at : KeptAt) (asked : Asked) (told : Told) (items new : List SealedItem) (xs ys : List Place) → ArePlaces upto 0 items xs → t ≡ tenant_of asked.command → find (is_tenant t) xs ≡ None → told ≡ without_tenant t → IsPurge at.time xs items ys new
+pub turn_without : (upto t : ℕ) (at : KeptAt) (asked : Asked) (told : Told) (items new : List SealedItem) (xs ys : List PlainTenancy) → ArePlaces upto 0 items xs → t ≡ tenant_of asked.command → find (is_tenant t) xs ≡ None → told ≡ without_tenant t → IsPurge at.time xs items ys new
     → IsTurnOver xs items at asked told ys new
 turn_without upto t at asked told items new xs ys all named none e purge = record {
   reply = λ turns now f p. e ∙ reply_unnamed turns now t f at asked items xs p named none;

@@ -19,7 +19,7 @@ use Rattle.wb_rows.specs.Held.{Held}
 use Rattle.wb_rows.specs.Judged.{judged}
 use Rattle.wb_rows.specs.Openings.{case_of, cases_of, tables_of, time_of, with_setup}
 use Rattle.wb_rows.specs.Puts.{tenant_puts}
-use Rattle.wb_tables.specs.Kept.{Place}
+use Rattle.wb_tables.specs.Kept.{PlainTenancy}
 use Rattle.wb_setup.specs.Joined.{joined}
 use Rattle.wb_desk.specs.declared.batch.Lost.{Lost}
 use Rattle.wb_desk.specs.declared.batch.Lost.TheVariants as lost

@@ -13,10 +13,10 @@ use Rattle.wb_plan.specs.declared.plan.Planned.{Planned}
 use Rattle.wb_plan.specs.declared.plan.Planned.TheVariants as planned
 use Rattle.wb_rows.specs.Puts.{sealed_put}
 use Rattle.wb_tables.specs.Dead.{any_dead}
-use Rattle.wb_tables.specs.Kept.{Place, tenancy_of, purged_tenancy}
+use Rattle.wb_tables.specs.Kept.{PlainTenancy, tenancy_of, purged_tenancy}
 
 -- the rows of a report that begins with an entry: the numbering after its draw, the entry, and its identity answers
-abbrev pub first_puts : ℕ → Place → List Entry → Option Answered → List RowChange
+abbrev pub first_puts : ℕ → PlainTenancy → List Entry → Option Answered → List RowChange
 first_puts now x [] secret = []
 first_puts now x (entry ∷ es) secret =
     Put (row 2 x.id 0 0 (numbering_data (drawn now x.plain.registry.settings x.plain.numbering))) ∷ Put (row 6 x.id (x.plain.numbering.last + 1) 1 (entry_data entry)) ∷ sealed_put x.id (x.plain.numbering.last + 1) secret
@@ -27,7 +27,7 @@ noted_puts t n entry secret None = []
 noted_puts t n entry secret (Some case) = Put (row 6 t n (length case.trail + 1) (entry_data entry)) ∷ sealed_put t n secret
 
 -- the rows of a change: sessions have none
-abbrev pub puts_of : ℕ → Place → Planned → List RowChange
+abbrev pub puts_of : ℕ → PlainTenancy → Planned → List RowChange
 puts_of now x planned.Nothing = []
 puts_of now x (planned.Begins o) = first_puts now x o.case.items o.secret
 puts_of now x (planned.Notes n) = noted_puts x.id n.number n.entry n.secret (report n.number x.plain.cases)
@@ -36,7 +36,7 @@ puts_of now x (planned.LogsOut turn who) = []
 puts_of now x (planned.Configures c) = Put c.row ∷ []
 
 -- the batch of a turn: what its purge drops, and then what its change puts
-pub record IsBatch (now : ℕ) (xs : List Place) (puts batch : List RowChange) : Type 0 where
+pub record IsBatch (now : ℕ) (xs : List PlainTenancy) (puts batch : List RowChange) : Type 0 where
   pub drops : List RowChange
   pub is : batch ≡ drops ++ puts
   pub rows : (items : List SealedItem) → all_changed (rows_of (map (tenancy_of items) xs)) drops ≡ rows_of (map (purged_tenancy now) (map (tenancy_of items) xs))

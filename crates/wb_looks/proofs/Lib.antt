@@ -1,1 +1,1 @@
-pub mod FewRequests
+pub mod AskedRows

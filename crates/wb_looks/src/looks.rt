@@ -14,7 +14,7 @@ ghost use Rattle.wb_model.specs.ViewRows as rows_of;
 ghost use Rattle.wb_looks.specs.Looks.{at_of};
 ghost use Rattle.wb_looks.specs.Looks.{IsLook, ShowsOpen, seen};
 ghost use Rattle.wb_looks.specs.Suited.{is_shown_to_all, is_shown_to_users};
-ghost use Rattle.wb_tables.specs.Indexed.{AreCustodied, AreFewRequests};
+ghost use Rattle.wb_tables.specs.Indexed.{AreFewRequests};
 ghost use Rattle.wb_tables.specs.Kept.{case_of, plain_of, live_plain, lives_on};
 ghost use Rattle.wb_tables.specs.Places.{IsLookedUp};
 
@@ -24,7 +24,7 @@ use crate::turn::At;
 use std::alloc::Global;
 use wb_base::{Day, Memory, Text, UserId};
 use wb_model::{Body, Command, Custodied, Due, Listed, Told};
-use wb_tables::{Configuration, Report, Tenancy, lives, reads, today_at};
+use wb_tables::{Cases, Configuration, Report, Tenancy, lives, reads, today_at};
 use wb_views::{
     admin_view, context_view, custody_view, due_view, list_view, listed, public_view,
     push_custodied, push_dues, sort_dues,
@@ -167,15 +167,15 @@ fn push_requests(
 fn custodied_rows(
     alloc: Global,
     configuration: &Configuration,
-    cases: &[Report],
+    cases: &Cases,
     today: Day,
 ) -> Result<Vec<Custodied>, Memory>
-    requires custodied { AreCustodied cases.now }
-    requires few { AreFewRequests (map case_of cases.now) }
-    ensures { IfOk result (λ rows. rows.items ≡ rows_of.all_custodied configuration.now.registry.users (filter (lives_on today) (map case_of cases.now))) }
+    requires few { AreFewRequests (map case_of cases.now.items) }
+    ensures { IfOk result (λ rows. rows.items ≡ rows_of.all_custodied configuration.now.registry.users (filter (lives_on today) (map case_of cases.now.items))) }
 {
     let mut rows = Vec::new(alloc);
-    for report in cases {
+    for at in 0..cases.asked_len() {
+        let report = cases.asked_at(at);
         if lives(report, today) {
             push_requests(&mut rows, configuration, report)?;
         }
@@ -190,12 +190,7 @@ fn requests(alloc: Global, tenancy: &Tenancy, at: &At) -> Result<Told, Memory>
     ensures { IfOk result (λ t. t ≡ told 200 (lists.custody_view (rows_of.all_custodied tenancy.now.configuration.registry.users (live_plain at.now.time (plain_of tenancy.now)).cases))) }
 {
     let today = today_at(tenancy, at.time);
-    let rows = custodied_rows(
-        alloc,
-        &tenancy.configuration,
-        tenancy.cases.as_slice(),
-        today,
-    )?;
+    let rows = custodied_rows(alloc, &tenancy.configuration, &tenancy.cases, today)?;
     Ok(ok(custody_view(alloc, rows.as_slice())?))
 }
 

@@ -1,14 +1,14 @@
 //! What is shown of a report: to a user who finds it, to its reporter, and its identity answers under a grant.
-ghost use Rattle.std.specs.Prelude.{◌≡◌, [], if◌then◌else◌, unwrap_or, IfOk};
+ghost use Rattle.std.specs.Prelude.{◌≡◌, [], false, Ok, if◌then◌else◌, unwrap_or, IfOk};
 ghost use Rattle.wb_custody.specs.SealedAnswers.{answers_of};
 ghost use Rattle.wb_model.specs.Access.{requests, in_force};
 ghost use Rattle.wb_model.specs.Json.{told};
-ghost use Rattle.wb_model.specs.Refusals.{not_found};
+ghost use Rattle.wb_model.specs.Refusals.{not_found as not_found_told};
 ghost use Rattle.wb_model.specs.Tables.{disablings as disablings_of};
 ghost use Rattle.wb_model.specs.Views.{recipient_view as recipient_data, reporter_view as reporter_data, identity_view as identity_data};
 ghost use Rattle.wb_tables.specs.Kept.{case_of};
 
-use crate::refused::{Refusal, refuse};
+use crate::refused::not_found;
 use crate::turn::At;
 use std::alloc::Global;
 use wb_base::{Answers, Memory, Tenant, UserId};
@@ -81,7 +81,8 @@ fn show_identity(
     })
 }
 
-/// The reply to a user's request for the identity answers of a report: a grant of the user's must be in force.
+/// The reply to a user's request for the identity answers of a report: a grant of the user's must be in force. Where none is, the
+/// answer is the same whatever stands in the sealed table, and takes no memory.
 pub fn read_identity(
     alloc: Global,
     tenancy: &Tenancy,
@@ -91,7 +92,8 @@ pub fn read_identity(
     report: &Report,
 ) -> Result<Told, Memory>
     requires custodied { report.now.desk.items ≡ requests report.now.case.items }
-    ensures { IfOk result (λ t. t ≡ (if in_force user (disablings_of user tenancy.now.configuration.registry.users) at.now.time report.now.case.items then told 200 (identity_data report.now.number (unwrap_or (answers_of sealed.now.items tenancy.now.configuration.tenant report.now.number) [])) else not_found)) }
+    ensures shown { IfOk result (λ t. t ≡ (if in_force user (disablings_of user tenancy.now.configuration.registry.users) at.now.time report.now.case.items then told 200 (identity_data report.now.number (unwrap_or (answers_of sealed.now.items tenancy.now.configuration.tenant report.now.number) [])) else not_found_told)) }
+    ensures hidden { in_force user (disablings_of user tenancy.now.configuration.registry.users) at.now.time report.now.case.items ≡ false → result ≡ Ok not_found_told }
 {
     let configuration = &tenancy.configuration;
     if report
@@ -100,6 +102,6 @@ pub fn read_identity(
     {
         show_identity(alloc, sealed, configuration.tenant(), report)
     } else {
-        refuse(alloc, Refusal::NotFound)
+        Ok(not_found())
     }
 }

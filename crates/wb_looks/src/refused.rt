@@ -1,7 +1,7 @@
 //! Refusals.
 ghost use Rattle.std.specs.Prelude.{◌≡◌, IfOk};
 ghost use Rattle.wb_model.specs.Faults.{was_detail as was_detail_of};
-ghost use Rattle.wb_model.specs.Refusals.{answer_code as answer_code_of, form_code as form_code_of, faulty, form_faulty, refused};
+ghost use Rattle.wb_model.specs.Refusals.{answer_code as answer_code_of, form_code as form_code_of, faulty, form_faulty, not_found as not_found_told, refused};
 ghost use Rattle.wb_views.specs.RefusalBodies.{detail_of};
 ghost use Rattle.wb_looks.specs.Targeted.{told_of};
 
@@ -71,6 +71,16 @@ fn reply(alloc: Global, status: u16, code: &'static str, detail: &Detail) -> Res
         status,
         body: Body::of(refusal(alloc, code, detail)?),
     })
+}
+
+/// The reply that nothing is found. It takes no memory.
+pub(crate) fn not_found() -> Told
+    ensures { result ≡ not_found_told }
+{
+    Told {
+        status: 404,
+        body: Body::short(b"{\"code\":\"not_found\"}"),
+    }
 }
 
 // What was there already.
@@ -153,7 +163,7 @@ pub fn refuse(alloc: Global, why: Refusal) -> Result<Told, Memory>
     ensures { IfOk result (λ told. told ≡ told_of why) }
 {
     match why {
-        Refusal::NotFound => reply(alloc, 404, "not_found", &Detail::Bare),
+        Refusal::NotFound => Ok(not_found()),
         Refusal::NoSession => reply(alloc, 401, "no_session", &Detail::Bare),
         Refusal::WrongRole => reply(alloc, 403, "role", &Detail::Bare),
         Refusal::WrongRight => reply(alloc, 403, "right", &Detail::Bare),

@@ -15,38 +15,38 @@ use Rattle.wb_rows.specs.Held.{Held}
 use Rattle.wb_rows.specs.Openings.{case_of, cases_of}
 use Rattle.wb_row_rules.specs.TrailRule.{is_legal_report, offset}
 use Rattle.wb_tables.specs.declared.tenancy.Tenancy.{Tenancy as KeptTenancy}
-use Rattle.wb_tables.specs.Kept.{Place, place_of}
+use Rattle.wb_tables.specs.Kept.{PlainTenancy, place_of}
 use Rattle.wb_tables.specs.Places.{is_tenant}
 use Rattle.wb_tables.specs.Receipted.{HasOwnReceipt, is_submitted}
 use Rattle.wb_opening.specs.HeldPlaces.{AreToCome, bare, held_place, with_case, with_report, with_reports}
 use Rattle.wb_opening.proofs.OpenedPlaces.{below}
 
-abbrev pub id_of : Place → ℕ
+abbrev pub id_of : PlainTenancy → ℕ
 id_of x = x.id
 
-abbrev pub ids : List Place → List ℕ
+abbrev pub ids : List PlainTenancy → List ℕ
 ids xs = map id_of xs
 
-abbrev pub Rise : ℕ → List Place → Type 0
+abbrev pub Rise : ℕ → List PlainTenancy → Type 0
 Rise k xs = ascends_from k (ids xs) ≡ true
 
 -- ---- one report
 
 -- a tenant with another id is as it was
-other_report : (r : Report) (x : Place) → r.tenant ≢ x.id → with_report r x ≡ x
+other_report : (r : Report) (x : PlainTenancy) → r.tenant ≢ x.id → with_report r x ≡ x
 other_report r x ne = rw (ne_eqb r.tenant x.id ne) refl
 
-own_report : (r : Report) (x : Place) → r.tenant ≡ x.id → with_report r x ≡ with_case r x
+own_report : (r : Report) (x : PlainTenancy) → r.tenant ≡ x.id → with_report r x ≡ with_case r x
 own_report r x is = rw (eq-eqb r.tenant x.id is) refl
 
-above_same : (r : Report) (k : ℕ) (xs : List Place) → r.tenant ≤ k → Rise k xs → map (with_report r) xs ≡ xs
+above_same : (r : Report) (k : ℕ) (xs : List PlainTenancy) → r.tenant ≤ k → Rise k xs → map (with_report r) xs ≡ xs
 above_same r k [] le rise = refl
 above_same r k (x ∷ xs) le rise =
     let parts = and_parts (nat_lt k x.id) (ascends_from x.id (ids xs)) rise in
     let lt = below k x.id parts.0 in
     λ i. other_report r x (λ e. omega (arith, e, le, lt)) i ∷ above_same r x.id xs (omega (arith, le, lt)) parts.1 i
 
-pub none_same : (r : Report) (xs : List Place) → find (is_tenant r.tenant) xs ≡ None → map (with_report r) xs ≡ xs
+pub none_same : (r : Report) (xs : List PlainTenancy) → find (is_tenant r.tenant) xs ≡ None → map (with_report r) xs ≡ xs
 none_same r [] none = refl
 none_same r (x ∷ xs) none = by (cases_eq x.id r.tenant) (λ e. none_same r xs e)
   where
@@ -85,18 +85,18 @@ report_set k (suc j) (x ∷ ks) y d r rise lt is made =
     let above : x.configuration.tenant < (get_or ks j d).configuration.tenant = id_above x.configuration.tenant j ks d parts.1 (omega arith) in
     λ i. sym (other_report r (place_of x) (λ e. omega (arith, e, above, is))) i ∷ report_set x.configuration.tenant j ks y d r parts.1 (omega arith) is made i
 
-ids_same : (r : Report) (x : Place) → (with_report r x).id ≡ x.id
+ids_same : (r : Report) (x : PlainTenancy) → (with_report r x).id ≡ x.id
 ids_same r x = by (r.tenant == x.id)
   where
     by : (b : Bool) → (if b then with_case r x else x).id ≡ x.id
     by true = refl
     by false = refl
 
-all_ids_same : (r : Report) (xs : List Place) → ids (map (with_report r) xs) ≡ ids xs
+all_ids_same : (r : Report) (xs : List PlainTenancy) → ids (map (with_report r) xs) ≡ ids xs
 all_ids_same r [] = refl
 all_ids_same r (x ∷ xs) = λ i. ids_same r x i ∷ all_ids_same r xs i
 
-pub still_rise : (r : Report) (k : ℕ) (xs : List Place) → Rise k xs → Rise k (map (with_report r) xs)
+pub still_rise : (r : Report) (k : ℕ) (xs : List PlainTenancy) → Rise k xs → Rise k (map (with_report r) xs)
 still_rise r k xs rise = ap (λ l. ascends_from k l) (all_ids_same r xs) ∙ rise
 
 -- ---- those that are to come
@@ -111,13 +111,13 @@ before_number k (b ∷ before) after c rise =
     let le = rest.1.1 in
     (rest.0, ((le, rest.1.0), omega (arith, first, le), rest.1.2))
 
-own_cases : (r : Report) (rs : List Report) (x : Place) → r.tenant ≡ x.id → cases_of (r ∷ rs) x.id ≡ case_of r ∷ cases_of rs x.id
+own_cases : (r : Report) (rs : List Report) (x : PlainTenancy) → r.tenant ≡ x.id → cases_of (r ∷ rs) x.id ≡ case_of r ∷ cases_of rs x.id
 own_cases r rs x is = rw (eq-eqb r.tenant x.id is) refl
 
-other_cases : (r : Report) (rs : List Report) (x : Place) → r.tenant ≢ x.id → cases_of (r ∷ rs) x.id ≡ cases_of rs x.id
+other_cases : (r : Report) (rs : List Report) (x : PlainTenancy) → r.tenant ≢ x.id → cases_of (r ∷ rs) x.id ≡ cases_of rs x.id
 other_cases r rs x ne = rw (ne_eqb r.tenant x.id ne) refl
 
-numbers_below : (r : Report) (rs : List Report) (x : Place) → r.tenant ≡ x.id → AreToCome (r ∷ rs) x → (last : ℕ) × (AtMost last x.plain.cases × (last < r.number))
+numbers_below : (r : Report) (rs : List Report) (x : PlainTenancy) → r.tenant ≡ x.id → AreToCome (r ∷ rs) x → (last : ℕ) × (AtMost last x.plain.cases × (last < r.number))
 numbers_below r rs x is come =
     let found = before_number 0 x.plain.cases (cases_of rs x.id) (case_of r) (ap (λ l. ascends_from 0 (map (λ (c : Case). c.number) (x.plain.cases ++ l))) (sym (own_cases r rs x is)) ∙ come.numbers) in
     (found.0, (found.1.0, found.1.2))
@@ -139,11 +139,11 @@ none_before P (y ∷ before) after x k apart has = by (P k y) refl (none_before 
     by true is rest = absurd (some_within (P k) before after x has (apart.0 k is))
     by false is rest = rest
 
-receipts_below : (r : Report) (rs : List Report) (x : Place) → r.tenant ≡ x.id → AreToCome (r ∷ rs) x → HasOwnReceipt r.trail x.plain.cases
+receipts_below : (r : Report) (rs : List Report) (x : PlainTenancy) → r.tenant ≡ x.id → AreToCome (r ∷ rs) x → HasOwnReceipt r.trail x.plain.cases
 receipts_below r rs x is come = λ d has. none_before has_receipt x.plain.cases (cases_of rs x.id) (case_of r) d (subst (λ l. Apart has_receipt (x.plain.cases ++ l)) (own_cases r rs x is) come.receipts) has
 
 -- the tenant that is found is such, and has the report's tenant's id
-found_come : (r : Report) (rs : List Report) (xs : List Place) (x : Place) → AllByRecursion (AreToCome (r ∷ rs)) xs → find (is_tenant r.tenant) xs ≡ Some x → (r.tenant ≡ x.id) × AreToCome (r ∷ rs) x
+found_come : (r : Report) (rs : List Report) (xs : List PlainTenancy) (x : PlainTenancy) → AllByRecursion (AreToCome (r ∷ rs)) xs → find (is_tenant r.tenant) xs ≡ Some x → (r.tenant ≡ x.id) × AreToCome (r ∷ rs) x
 found_come r rs [] x come found = absurd (cc (found))
 found_come r rs (y ∷ ys) x come found = by (cases_eq y.id r.tenant) (λ e. found_come r rs ys x come.1 e)
   where
@@ -153,48 +153,48 @@ found_come r rs (y ∷ ys) x come found = by (cases_eq y.id r.tenant) (λ e. fou
         (sym is ∙ ap id_of one, subst (AreToCome (r ∷ rs)) one come.0)
     by (inr ne) rest = rest (sym (ap (λ b. cond b (Some y) (find (is_tenant r.tenant) ys)) (ne_eqb y.id r.tenant ne)) ∙ found)
 
-pub found_below : (r : Report) (rs : List Report) (xs : List Place) (x : Place) → AllByRecursion (AreToCome (r ∷ rs)) xs → find (is_tenant r.tenant) xs ≡ Some x → (last : ℕ) × (AtMost last x.plain.cases × (last < r.number))
+pub found_below : (r : Report) (rs : List Report) (xs : List PlainTenancy) (x : PlainTenancy) → AllByRecursion (AreToCome (r ∷ rs)) xs → find (is_tenant r.tenant) xs ≡ Some x → (last : ℕ) × (AtMost last x.plain.cases × (last < r.number))
 found_below r rs xs x come found = let one = found_come r rs xs x come found in numbers_below r rs x one.0 one.1
 
-pub found_own : (r : Report) (rs : List Report) (xs : List Place) (x : Place) → AllByRecursion (AreToCome (r ∷ rs)) xs → find (is_tenant r.tenant) xs ≡ Some x → HasOwnReceipt r.trail x.plain.cases
+pub found_own : (r : Report) (rs : List Report) (xs : List PlainTenancy) (x : PlainTenancy) → AllByRecursion (AreToCome (r ∷ rs)) xs → find (is_tenant r.tenant) xs ≡ Some x → HasOwnReceipt r.trail x.plain.cases
 found_own r rs xs x come found = let one = found_come r rs xs x come found in receipts_below r rs x one.0 one.1
 
 -- a tenant's reports, with those that are to come
-abbrev those : List Report → Place → List Case
+abbrev those : List Report → PlainTenancy → List Case
 those rs x = x.plain.cases ++ cases_of rs x.id
 
-those_same : (r : Report) (rs : List Report) (x : Place) → those (r ∷ rs) x ≡ those rs (with_report r x)
+those_same : (r : Report) (rs : List Report) (x : PlainTenancy) → those (r ∷ rs) x ≡ those rs (with_report r x)
 those_same r rs x = by (cases_eq r.tenant x.id)
   where
     by : (r.tenant ≡ x.id) ⊎ (r.tenant ≡ x.id → ⊥) → those (r ∷ rs) x ≡ those rs (with_report r x)
     by (inl is) = ap (λ l. x.plain.cases ++ l) (own_cases r rs x is) ∙ (sym (append_assoc x.plain.cases (case_of r ∷ []) (cases_of rs x.id)) ∙ ap (those rs) (sym (own_report r x is)))
     by (inr ne) = ap (λ l. x.plain.cases ++ l) (other_cases r rs x ne) ∙ ap (those rs) (sym (other_report r x ne))
 
-still_comes : (r : Report) (rs : List Report) (x : Place) → AreToCome (r ∷ rs) x → AreToCome rs (with_report r x)
+still_comes : (r : Report) (rs : List Report) (x : PlainTenancy) → AreToCome (r ∷ rs) x → AreToCome rs (with_report r x)
 still_comes r rs x come = record {
   numbers = subst (λ l. ascends_from 0 (map (λ (c : Case). c.number) l) ≡ true) (those_same r rs x) come.numbers;
   receipts = subst (Apart has_receipt) (those_same r rs x) come.receipts;
 }
 
-pub all_still_come : (r : Report) (rs : List Report) (xs : List Place) → AllByRecursion (AreToCome (r ∷ rs)) xs → AllByRecursion (AreToCome rs) (map (with_report r) xs)
+pub all_still_come : (r : Report) (rs : List Report) (xs : List PlainTenancy) → AllByRecursion (AreToCome (r ∷ rs)) xs → AllByRecursion (AreToCome rs) (map (with_report r) xs)
 all_still_come r rs [] come = tt
 all_still_come r rs (x ∷ xs) come = (still_comes r rs x come.0, all_still_come r rs xs come.1)
 
 -- ---- all of them
 
-pub reports_step : (r : Report) (rs : List Report) (xs : List Place) → map (with_reports (r ∷ rs)) xs ≡ map (with_reports rs) (map (with_report r) xs)
+pub reports_step : (r : Report) (rs : List Report) (xs : List PlainTenancy) → map (with_reports (r ∷ rs)) xs ≡ map (with_reports rs) (map (with_report r) xs)
 reports_step r rs [] = refl
 reports_step r rs (x ∷ xs) = ap (λ l. with_reports rs (with_report r x) ∷ l) (reports_step r rs xs)
 
-pub none_left : (xs : List Place) → map (with_reports []) xs ≡ xs
+pub none_left : (xs : List PlainTenancy) → map (with_reports []) xs ≡ xs
 none_left [] = refl
 none_left (x ∷ xs) = ap (λ l. x ∷ l) (none_left xs)
 
 -- a tenant's reports after those that it has
-abbrev after_cases : Place → List Case → Place
+abbrev after_cases : PlainTenancy → List Case → PlainTenancy
 after_cases x cs = record x { plain = record x.plain { cases = x.plain.cases ++ cs } }
 
-adds_cases : (rs : List Report) (x : Place) → with_reports rs x ≡ after_cases x (cases_of rs x.id)
+adds_cases : (rs : List Report) (x : PlainTenancy) → with_reports rs x ≡ after_cases x (cases_of rs x.id)
 adds_cases [] x = λ i. record x { plain = record x.plain { cases = sym (append-nil x.plain.cases) i } }
 adds_cases (r ∷ rs) x = by (cases_eq r.tenant x.id) (adds_cases rs (with_report r x))
   where
@@ -202,12 +202,12 @@ adds_cases (r ∷ rs) x = by (cases_eq r.tenant x.id) (adds_cases rs (with_repor
     by (inl is) more =
         let here : cases_of (r ∷ rs) x.id ≡ case_of r ∷ cases_of rs x.id = rw (eq-eqb r.tenant x.id is) refl in
         more
-        ∙ (ap (λ (y : Place). after_cases y (cases_of rs y.id)) (own_report r x is)
+        ∙ (ap (λ (y : PlainTenancy). after_cases y (cases_of rs y.id)) (own_report r x is)
         ∙ ((λ i. record x { plain = record x.plain { cases = append_assoc x.plain.cases (case_of r ∷ []) (cases_of rs x.id) i } })
         ∙ ap (after_cases x) (sym here)))
     by (inr ne) more =
         let here : cases_of (r ∷ rs) x.id ≡ cases_of rs x.id = rw (ne_eqb r.tenant x.id ne) refl in
-        more ∙ (ap (λ (y : Place). after_cases y (cases_of rs y.id)) (other_report r x ne) ∙ ap (after_cases x) (sym here))
+        more ∙ (ap (λ (y : PlainTenancy). after_cases y (cases_of rs y.id)) (other_report r x ne) ∙ ap (after_cases x) (sym here))
 
 -- the tenants of what is held, of the tenants without reports
 pub held_reports : (h : Held) (ts : List ℕ) → map (with_reports h.reports) (map (held_place (bare h.lists h.numberings)) ts) ≡ map (held_place h) ts

@@ -16,7 +16,7 @@ use Rattle.wb_model.specs.Legal.{ascends, ascends_from}
 use Rattle.wb_model.specs.Openings.{no_settings}
 use Rattle.wb_model.specs.SetUps.{is_offset, is_tenant_item, is_form_item, AreSetUp}
 use Rattle.wb_rows.specs.Held.{Held}
-use Rattle.wb_tables.specs.Kept.{Place, sessions_at}
+use Rattle.wb_tables.specs.Kept.{PlainTenancy, sessions_at}
 use Rattle.wb_tables.specs.Places.{AreGoodForms}
 use Rattle.wb_tenants.specs.Sets.{HasTenant, is_tenant}
 use Rattle.wb_opening.specs.HeldPlaces.{held_place, held_places}
@@ -96,7 +96,7 @@ pub no_sessions : (h : Held) (ts : List ℕ) → sessions_at (map (held_place h)
 no_sessions h [] = refl
 no_sessions h (t ∷ ts) =
     let rest = no_sessions h ts in
-    let more = sum_by-cons (λ (x : Place). length x.plain.sessions) (held_place h t) (map (held_place h) ts) in
+    let more = sum_by-cons (λ (x : PlainTenancy). length x.plain.sessions) (held_place h t) (map (held_place h) ts) in
     omega (arith, rest, more)
 
 -- a tenant at a place is there

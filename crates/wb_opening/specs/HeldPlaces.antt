@@ -13,16 +13,16 @@ use Rattle.wb_row_rules.specs.Reports.{Report}
 use Rattle.wb_rows.specs.Held.{Held}
 use Rattle.wb_rows.specs.Openings.{case_of, cases_of, tables_of}
 use Rattle.wb_rows.specs.Puts.{tenant_puts}
-use Rattle.wb_tables.specs.Kept.{Place}
+use Rattle.wb_tables.specs.Kept.{PlainTenancy}
 use Rattle.wb_setup.specs.Joined.{joined}
 
 -- ---- the tenants
 
 -- a tenant, of what is held
-abbrev pub held_place : Held → ℕ → Place
+abbrev pub held_place : Held → ℕ → PlainTenancy
 held_place h t = record { id = t; plain = (tables_of h t).plain }
 
-abbrev pub held_places : Held → List Place
+abbrev pub held_places : Held → List PlainTenancy
 held_places h = map (held_place h) (tenant_ids h.lists)
 
 -- what is held of tenants without reports
@@ -30,20 +30,20 @@ abbrev pub bare : Lists → List NumberingItem → Held
 bare lists numberings = record { lists = lists; numberings = numberings; reports = []; sealed = λ t n. None }
 
 -- a tenant with one more report
-abbrev pub with_case : Report → Place → Place
+abbrev pub with_case : Report → PlainTenancy → PlainTenancy
 with_case r x = record x { plain = record x.plain { cases = x.plain.cases ++ case_of r ∷ [] } }
 
 -- where the report is the tenant's
-abbrev pub with_report : Report → Place → Place
+abbrev pub with_report : Report → PlainTenancy → PlainTenancy
 with_report r x = if r.tenant == x.id then with_case r x else x
 
 -- with reports, one after another
-abbrev pub with_reports : List Report → Place → Place
+abbrev pub with_reports : List Report → PlainTenancy → PlainTenancy
 with_reports [] x = x
 with_reports (r ∷ rs) x = with_reports rs (with_report r x)
 
 -- the reports of a tenant that are there and those that are to come stand in the order of their numbers, and no two have one receipt
-pub record AreToCome (rs : List Report) (x : Place) : Type 0 where
+pub record AreToCome (rs : List Report) (x : PlainTenancy) : Type 0 where
   pub numbers : ascends_from 0 (map (λ (c : Case). c.number) (x.plain.cases ++ cases_of rs x.id)) ≡ true
   pub receipts : Apart has_receipt (x.plain.cases ++ cases_of rs x.id)
 

@@ -7,7 +7,7 @@ ghost use Rattle.wb_model.specs.Opened.{AtMost};
 ghost use Rattle.wb_model.specs.declared.registry.Lists.{Lists};
 ghost use Rattle.wb_row_rules.specs.Reports.{case_report};
 ghost use Rattle.wb_row_rules.specs.TrailRule.{is_legal_report};
-ghost use Rattle.wb_tables.specs.Kept.{Place, place_of, plain_of};
+ghost use Rattle.wb_tables.specs.Kept.{PlainTenancy, place_of, plain_of};
 ghost use Rattle.wb_tables.specs.Places.{is_tenant};
 ghost use Rattle.wb_tables.specs.Receipted.{HasOwnReceipt};
 ghost use Rattle.wb_opening.specs.HeldPlaces.{AreToCome, with_case, with_report, with_reports};
@@ -51,9 +51,9 @@ fn add_case(alloc: Global, tenancy: &mut Tenancy, item: CaseItem) -> Result<(), 
 
 // Adds a report to its tenant, where that is there.
 fn add_report(alloc: Global, tenancies: &mut [Tenancy], item: CaseItem) -> Result<(), Memory>
-    requires ids { ascends_from 0 (map (λ (x : Place). x.id) (map place_of tenancies.old)) ≡ true }
-    requires above { (x : Place) → find (is_tenant item.tenant) (map place_of tenancies.old) ≡ Some x → (last : ℕ) × (AtMost last x.plain.cases × (last < item.number)) }
-    requires own { (x : Place) → find (is_tenant item.tenant) (map place_of tenancies.old) ≡ Some x → HasOwnReceipt item.case.items x.plain.cases }
+    requires ids { ascends_from 0 (map (λ (x : PlainTenancy). x.id) (map place_of tenancies.old)) ≡ true }
+    requires above { (x : PlainTenancy) → find (is_tenant item.tenant) (map place_of tenancies.old) ≡ Some x → (last : ℕ) × (AtMost last x.plain.cases × (last < item.number)) }
+    requires own { (x : PlainTenancy) → find (is_tenant item.tenant) (map place_of tenancies.old) ≡ Some x → HasOwnReceipt item.case.items x.plain.cases }
     requires legal { (offset : ℤ) × (is_legal offset item.case.items ≡ true) }
     ensures { OnOk result (map place_of tenancies.new ≡ map (with_report (case_report item)) (map place_of tenancies.old)) }
 {
@@ -72,7 +72,7 @@ pub fn add_reports(
     tenancies: &mut [Tenancy],
     cases: Items<CaseItem>,
 ) -> Result<(), Memory>
-    requires ids { ascends_from 0 (map (λ (x : Place). x.id) (map place_of tenancies.old)) ≡ true }
+    requires ids { ascends_from 0 (map (λ (x : PlainTenancy). x.id) (map place_of tenancies.old)) ≡ true }
     requires to_come { AllByRecursion (AreToCome (map case_report cases)) (map place_of tenancies.old) }
     requires legal { (lists : Lists) × (list_all (is_legal_report lists) (map case_report cases) ≡ true) }
     ensures { OnOk result (map place_of tenancies.new ≡ map (with_reports (map case_report cases)) (map place_of tenancies.old)) }

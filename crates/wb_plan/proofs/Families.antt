@@ -46,7 +46,7 @@ use Rattle.wb_model.specs.Targets.{Target, Alone, On}
 use Rattle.wb_model.specs.Trails as trails
 use Rattle.wb_model.specs.Views.{reporter_view, identity_view}
 use Rattle.wb_tables.specs.Indexed.{AreFewRequests}
-use Rattle.wb_tables.specs.Kept.{Place, live_plain, plain_of, tables_of}
+use Rattle.wb_tables.specs.Kept.{PlainTenancy, live_plain, plain_of, tables_of}
 use Rattle.wb_tables.specs.Lives.{case_of}
 use Rattle.wb_tables.specs.Logins.{AreEarlier, session_of, who_seen}
 use Rattle.wb_tables.specs.Places.{AreGoodForms}
@@ -89,7 +89,7 @@ names_unanswered g trail a e = let is = named_unanswered g trail a.command e in 
 
 -- ---- identity answers that stand
 
-pub sealed_there : (time : ℕ) (items : List SealedItem) (x : Place) (n : ℕ) (case : Case) → report n (live_plain time x.plain).cases ≡ Some case → (purged time (tables_of items x)).sealed n ≡ answers_of items x.id n
+pub sealed_there : (time : ℕ) (items : List SealedItem) (x : PlainTenancy) (n : ℕ) (case : Case) → report n (live_plain time x.plain).cases ≡ Some case → (purged time (tables_of items x)).sealed n ≡ answers_of items x.id n
 sealed_there time items x n case there = (let is : is_there n (live_plain time x.plain).cases ≡ true = there-found n (live_plain time x.plain).cases ∙ ap is_some there in rw is refl)
 
 -- what a reporter is shown of the own report

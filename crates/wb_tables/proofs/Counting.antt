@@ -10,24 +10,24 @@ use Rattle.wb_list.specs.Keyed.{IsAscending}
 use Rattle.wb_custody.specs.declared.sealed.SealedItem.{SealedItem}
 use Rattle.wb_model.specs.Opened.{AtMost}
 use Rattle.wb_tables.specs.Places.{ArePlaces}
-use Rattle.wb_tables.specs.Kept.{Place, case_of, place_of, live_at, numbers_at, sessions_at}
+use Rattle.wb_tables.specs.Kept.{PlainTenancy, case_of, place_of, live_at, numbers_at, sessions_at}
 use Rattle.wb_tables.specs.declared.tenancy.Report.{Report as KeptCase}
 use Rattle.wb_tables.specs.declared.tenancy.Tenancy.{Tenancy as KeptTenancy}
 use Rattle.wb_tables.proofs.CaseLists.{number_of}
 
-abbrev cases_at : Place → ℕ
+abbrev cases_at : PlainTenancy → ℕ
 cases_at x = length x.plain.cases
 
-abbrev last_at : Place → ℕ
+abbrev last_at : PlainTenancy → ℕ
 last_at x = x.plain.numbering.last
 
-abbrev standing_at : Place → ℕ
+abbrev standing_at : PlainTenancy → ℕ
 standing_at x = length x.plain.sessions
 
 -- ---- what was counted
 
 -- of all tenants, those up to an id were counted, and these are left
-pub record IsCounted (all left : List Place) (live numbers sessions : ℕ) : Type 0 where
+pub record IsCounted (all left : List PlainTenancy) (live numbers sessions : ℕ) : Type 0 where
   pub id : ℕ
   pub turns : ℕ
   pub sealed : List SealedItem
@@ -46,7 +46,7 @@ numbers_below last (c ∷ cs) h = All-cons (λ n. n < last + 1) c.number (map nu
 few_cases : (last : ℕ) (cs : List KeptCase) → IsAscending nat_cmp number_of cs → AtMost last (map case_of cs) → length cs ≤ last + 1
 few_cases last cs ascending h = simp length-map at (length-le_from_below (last + 1) (map number_of cs) ascending (numbers_below last cs h))
 
-pub counted_next : (all : List Place) (x : KeptTenancy) (left : List Place) (live numbers sessions : ℕ) → IsAscending nat_cmp number_of x.cases.items → x.numbering.last < 4_294_967_296 → IsCounted all (place_of x ∷ left) live numbers sessions
+pub counted_next : (all : List PlainTenancy) (x : KeptTenancy) (left : List PlainTenancy) (live numbers sessions : ℕ) → IsAscending nat_cmp number_of x.cases.items → x.numbering.last < 4_294_967_296 → IsCounted all (place_of x ∷ left) live numbers sessions
     → IsCounted all left (live + length x.cases.items) (numbers + x.numbering.last) (sessions + length x.sessions.items)
 counted_next all x left live numbers sessions ascending small h =
     let few : length x.cases.items ≤ x.numbering.last + 1 = few_cases x.numbering.last x.cases.items ascending h.places.0.1.most in

@@ -16,7 +16,7 @@ use Rattle.wb_model.proofs.KindRows.{drops_in, drops}
 use Rattle.wb_model.proofs.RowLaw.{is_dropped, AreDrops, AreNumbered, DropsDead, dropped_append, drops_append, dropped_is}
 use Rattle.wb_model.proofs.TurnRows.{purge_rows}
 use Rattle.wb_tables.specs.Dead.{has_dead, any_dead, AreDead, AreDropped}
-use Rattle.wb_tables.specs.Kept.{Place, place_of, tenancy_of, purged_tenancy}
+use Rattle.wb_tables.specs.Kept.{PlainTenancy, place_of, tenancy_of, purged_tenancy}
 use Rattle.wb_tables.specs.declared.tenancy.Tenancy.{Tenancy as KeptTenancy}
 use Rattle.wb_tables.specs.Places.{ArePlaces}
 
@@ -103,15 +103,15 @@ are_drops t (n ∷ ns) = are_drops t ns
 -- ---- a batch
 
 -- the tenants without their identity answers, on which drops do not hang
-abbrev bare : List Place → List Tenancy
+abbrev bare : List PlainTenancy → List Tenancy
 bare xs = map (tenancy_of []) xs
 
 -- of all tenants, what those before these drop is in the batch
-pub record IsBatched (now : ℕ) (all left : List Place) (batch : List RowChange) : Type 0 where
+pub record IsBatched (now : ℕ) (all left : List PlainTenancy) (batch : List RowChange) : Type 0 where
   pub only : AreDrops batch
   pub hit : (t n : ℕ) → (is_dropped t n batch || is_dropped t n (drops now (bare left))) ≡ is_dropped t n (drops now (bare all))
 
-pub batched_next : (now : ℕ) (all left : List Place) (x : Place) (old new : List RowChange) → IsBatched now all (x ∷ left) old → AreDropped now x old new → IsBatched now all left new
+pub batched_next : (now : ℕ) (all left : List PlainTenancy) (x : PlainTenancy) (old new : List RowChange) → IsBatched now all (x ∷ left) old → AreDropped now x old new → IsBatched now all left new
 batched_next now all left x old new h d = record {
   only = subst AreDrops (sym d.pushed) (drops_append old (map (λ n. DropReport x.id n) d.numbers) h.only (are_drops x.id d.numbers));
   hit = λ t n. ap (λ l. is_dropped t n l || is_dropped t n (drops now (bare left))) d.pushed ∙ (moved t n ∙ h.hit t n);
@@ -135,7 +135,7 @@ or_false true = refl
 or_false false = refl
 
 -- the drops of a batch that is done
-done_hit : (now : ℕ) (all : List Place) (batch : List RowChange) (t n : ℕ) → IsBatched now all [] batch → is_dropped t n batch ≡ is_dropped t n (drops now (bare all))
+done_hit : (now : ℕ) (all : List PlainTenancy) (batch : List RowChange) (t n : ℕ) → IsBatched now all [] batch → is_dropped t n batch ≡ is_dropped t n (drops now (bare all))
 done_hit now all batch t n h = sym (or_false (is_dropped t n batch)) ∙ h.hit t n
 
 pub good_drops : (batch : List RowChange) → AreDrops batch → All IsGoodChange batch
@@ -143,7 +143,7 @@ good_drops [] h = All-nil IsGoodChange
 good_drops (Put r ∷ ds) h = absurd h
 good_drops (DropReport t n ∷ ds) h = All-cons IsGoodChange (DropReport t n) ds tt (good_drops ds h)
 
-none_dropped : (now : ℕ) (all : List Place) → any_dead now all ≡ false → drops now (bare all) ≡ []
+none_dropped : (now : ℕ) (all : List PlainTenancy) → any_dead now all ≡ false → drops now (bare all) ≡ []
 none_dropped now [] e = refl
 none_dropped now (x ∷ xs) e = by (none_dropped now xs) (has_dead now x.plain) refl e
   where
@@ -161,7 +161,7 @@ none_dropped now (x ∷ xs) e = by (none_dropped now xs) (has_dead now x.plain) 
     by ih false is f = ap (λ l. l ++ drops now (bare xs)) (none_in x.plain.cases is) ∙ ih f
 
 -- where all reports are live, nothing is dropped
-pub batched_none : (now : ℕ) (all : List Place) (batch : List RowChange) → IsBatched now all [] batch → any_dead now all ≡ false → batch ≡ []
+pub batched_none : (now : ℕ) (all : List PlainTenancy) (batch : List RowChange) → IsBatched now all [] batch → any_dead now all ≡ false → batch ≡ []
 batched_none now all [] h none = refl
 batched_none now all (Put r ∷ ds) h none = absurd h.only
 batched_none now all (DropReport t n ∷ ds) h none = absurd (grind (arith, self, hit))
@@ -180,32 +180,32 @@ batched_none now all (DropReport t n ∷ ds) h none = absurd (grind (arith, self
 
 -- ---- the rows after it
 
-bare_same : (now : ℕ) (items : List SealedItem) (xs : List Place) → drops now (bare xs) ≡ drops now (map (tenancy_of items) xs)
+bare_same : (now : ℕ) (items : List SealedItem) (xs : List PlainTenancy) → drops now (bare xs) ≡ drops now (map (tenancy_of items) xs)
 bare_same now items [] = refl
 bare_same now items (x ∷ xs) = ap (λ l. drops_in now (tenancy_of items x) ++ l) (bare_same now items xs)
 
-none_above : (turns k t : ℕ) (sealed items : List SealedItem) (xs : List Place) → t ≤ k → ArePlaces turns k sealed xs → find (has_id t) (map (tenancy_of items) xs) ≡ None
+none_above : (turns k t : ℕ) (sealed items : List SealedItem) (xs : List PlainTenancy) → t ≤ k → ArePlaces turns k sealed xs → find (has_id t) (map (tenancy_of items) xs) ≡ None
 none_above turns k t sealed items [] le all = refl
 none_above turns k t sealed items (x ∷ xs) le all =
     let ne : (x.id == t) ≡ false = grind (arith, nat_tests, le, all.0.0) in
     rw ne (none_above turns x.id t sealed items xs (omega (arith, le, all.0.0)) all.1)
 
-pub apart_ids : (turns k : ℕ) (sealed items : List SealedItem) (xs : List Place) → ArePlaces turns k sealed xs → Apart has_id (map (tenancy_of items) xs)
+pub apart_ids : (turns k : ℕ) (sealed items : List SealedItem) (xs : List PlainTenancy) → ArePlaces turns k sealed xs → Apart has_id (map (tenancy_of items) xs)
 apart_ids turns k sealed items [] all = tt
 apart_ids turns k sealed items (x ∷ xs) all = ((λ t is. none_above turns x.id t sealed items xs (let e : x.id ≡ t = grind (arith, nat_tests, is) in omega (arith, e)) all.1), apart_ids turns x.id sealed items xs all.1)
 
-pub numbered : (turns k : ℕ) (sealed items : List SealedItem) (xs : List Place) → ArePlaces turns k sealed xs → AreNumbered (map (tenancy_of items) xs)
+pub numbered : (turns k : ℕ) (sealed items : List SealedItem) (xs : List PlainTenancy) → ArePlaces turns k sealed xs → AreNumbered (map (tenancy_of items) xs)
 numbered turns k sealed items [] all = tt
 numbered turns k sealed items (x ∷ xs) all = (all.0.1.plain.cases, numbered turns x.id sealed items xs all.1)
 
-pub batched_dead : (turns now : ℕ) (sealed items : List SealedItem) (xs : List Place) (batch : List RowChange) → ArePlaces turns 0 sealed xs → IsBatched now xs [] batch → DropsDead now (map (tenancy_of items) xs) batch
+pub batched_dead : (turns now : ℕ) (sealed items : List SealedItem) (xs : List PlainTenancy) (batch : List RowChange) → ArePlaces turns 0 sealed xs → IsBatched now xs [] batch → DropsDead now (map (tenancy_of items) xs) batch
 batched_dead turns now sealed items xs batch all h = record {
   drops = h.only;
   dead = λ y held c here. done_hit now xs batch y.id c.number h ∙ (ap (is_dropped y.id c.number) (bare_same now items xs)
       ∙ dropped_is now (map (tenancy_of items) xs) y c (apart_ids turns 0 sealed items xs all) (numbered turns 0 sealed items xs all) held here);
 }
 
-pub batched_rows : (turns now : ℕ) (sealed items : List SealedItem) (xs : List Place) (batch : List RowChange) → ArePlaces turns 0 sealed xs → IsBatched now xs [] batch
+pub batched_rows : (turns now : ℕ) (sealed items : List SealedItem) (xs : List PlainTenancy) (batch : List RowChange) → ArePlaces turns 0 sealed xs → IsBatched now xs [] batch
     → all_changed (rows_of (map (tenancy_of items) xs)) batch ≡ rows_of (map (purged_tenancy now) (map (tenancy_of items) xs))
 batched_rows turns now sealed items xs batch all h = purge_rows now (map (tenancy_of items) xs) batch (batched_dead turns now sealed items xs batch all h)
 

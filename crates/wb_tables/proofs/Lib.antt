@@ -1,3 +1,5 @@
+pub mod AskedNumbers
+pub mod AskedReports
 pub mod CaseLists
 pub mod Configurations
 pub mod Counting

@@ -1,5 +1,5 @@
 -- A report that is changed in its place in the table.
-use Rattle.std.proofs.Common.{◌≡◌, ◌≢◌, Bor, ℕ, ℤ, ◌<◌, ◌≤◌, ◌++◌, Bool, true, false, cond, not, zero, suc, length, get_or, List, [], ◌∷◌, map, find, Option, Some, None, refl, sym, ap, ◌∙◌, subst, arith}
+use Rattle.std.proofs.Common.{◌≡◌, ◌≢◌, Bor, ℕ, ℤ, ◌<◌, ◌≤◌, ◌++◌, Bool, true, false, cond, not, suc, length, List, [], ◌∷◌, map, find, Option, Some, None, refl, sym, ap, ◌∙◌, subst, arith}
 use Rattle.std.specs.Prelude.{◌==◌, ◌||◌, ◌&&◌, filter, is_some, IfSome, IfOk, Result, Ok, Err, if◌then◌else◌}
 use Rattle.std.specs.List.{AllByRecursion, list_any, list_all}
 use Rattle.std.specs.List.Sorted.{IsStrictlySortedBy}
@@ -38,6 +38,7 @@ use Rattle.wb_terms.specs.declared.term_index.Term.{Term}
 use Rattle.wb_tables.specs.Indexed.{IsIndexed, AreCustodied, AreFewRequests, expiry_of, is_begun, moved}
 use Rattle.wb_tables.specs.Lives.{case_of}
 use Rattle.wb_tables.specs.Noted.{IsActed, IsMoved, IsNoted, IsReady}
+use Rattle.wb_tables.specs.declared.noting.NotedEntry.{NotedEntry}
 use Rattle.wb_tables.specs.declared.tenancy.Report.{Report as KeptCase}
 use Rattle.wb_tables.proofs.CaseLists.{number_of, report-found}
 use Rattle.wb_tables.proofs.Indexes.{any_filter, any_found, some_none, term_is, term_self}
@@ -72,7 +73,7 @@ trail_is n cs x trail e is =
 other_number : (k n : ℕ) → k ≢ n → (k == n) ≡ false
 other_number k n ne = grind (arith, nat_tests, ne)
 
-none_above : (m n : ℕ) (cs : List KeptCase) → AllByRecursion (λ k. nat_cmp m k ≡ Less) (map number_of cs) → n < m → find (has_key nat_cmp number_of n) cs ≡ None
+pub none_above : (m n : ℕ) (cs : List KeptCase) → AllByRecursion (λ k. nat_cmp m k ≡ Less) (map number_of cs) → n < m → find (has_key nat_cmp number_of n) cs ≡ None
 none_above m n [] all lt = refl
 none_above m n (c ∷ cs) all lt =
     let less : m < c.number = ranked m c.number Less (sym all.0) in
@@ -167,11 +168,6 @@ custodied_pushed (c ∷ cs) y all here = (all.0, custodied_pushed cs y all.1 her
 pub custodied_some : (p : KeptCase → Bool) (cs : List KeptCase) (o : Option (Bor KeptCase)) → AreCustodied cs → option_copied o ≡ find p cs → IfSome o (λ r. r.now.desk.items ≡ requests r.now.case.items)
 custodied_some p cs None all e = tt
 custodied_some p cs (Some r) all e = custodied_found p cs r.now all (sym e)
-
-pub custodied_at : (i : ℕ) (cs : List KeptCase) (x : KeptCase) → AreCustodied cs → i < length cs → x ≡ get_or cs i x → x.desk.items ≡ requests x.case.items
-custodied_at i [] x all lt is = absurd (omega (arith, lt))
-custodied_at zero (c ∷ cs) x all lt is = subst (λ (r : KeptCase). r.desk.items ≡ requests r.case.items) (sym is) all.0
-custodied_at (suc i) (c ∷ cs) x all lt is = custodied_at i cs x all.1 (omega (arith, lt)) is
 
 few_found : (n : ℕ) (cs : List KeptCase) (x : KeptCase) → AreFewRequests (map case_of cs) → find (has_key nat_cmp number_of n) cs ≡ Some x → length (requests x.case.items) ≤ 100
 few_found n [] x all e = absurd (grind (arith, e))
@@ -395,18 +391,18 @@ after_free tenant n cs terms x before after h found is ne =
     other_day tenant n (case_of x) (map case_of cs) terms (term_at tenant n after) h (report_is n cs x found) refl
     (day_apart (tenant == tenant) (int_eq (expires x.case.items) after) ((x.number == n) && true) (ap (λ d. int_eq d after) (sym is) ∙ ne))
 
-pub noted_index : (tenant n : ℕ) (e : Entry) (cs : List KeptCase) (terms new : List Term) (x y : KeptCase) (before after : ℤ) → IsIndexed tenant (map case_of cs) terms → IsAscending nat_cmp number_of cs → find (has_key nat_cmp number_of n) cs ≡ Some x → y.number ≡ x.number → IsNoted e x y before after
-    → ((t : Term) → list_any (same_term t) new ≡ moved (term_at tenant n before) (term_at tenant n after) t (list_any (same_term t) terms)) → IsIndexed tenant (map case_of (insert_item nat_cmp number_of cs y)) new
-noted_index tenant n e cs terms new x y before after h ascending found number noting made =
+pub noted_index : (tenant n : ℕ) (e : Entry) (cs : List KeptCase) (terms new : List Term) (x y : KeptCase) (answer : NotedEntry) → IsIndexed tenant (map case_of cs) terms → IsAscending nat_cmp number_of cs → find (has_key nat_cmp number_of n) cs ≡ Some x → y.number ≡ x.number → IsNoted e x y answer
+    → ((t : Term) → list_any (same_term t) new ≡ moved (term_at tenant n answer.before) (term_at tenant n answer.after) t (list_any (same_term t) terms)) → IsIndexed tenant (map case_of (insert_item nat_cmp number_of cs y)) new
+noted_index tenant n e cs terms new x y answer h ascending found number noting made =
     let here : case_of y ≡ noted n e (case_of x) = noted_here n e x y (number_found n cs x found) number noting.items in
-    let first : term_at tenant n before ≡ expiry_of tenant (case_of x) = term_of tenant n before (case_of x) noting.before_is (number_found n cs x found) in
-    let next : term_at tenant n after ≡ expiry_of tenant (noted n e (case_of x)) = term_of tenant n after (case_of y) noting.after_is (number ∙ number_found n cs x found) ∙ ap (expiry_of tenant) here in
+    let first : term_at tenant n answer.before ≡ expiry_of tenant (case_of x) = term_of tenant n answer.before (case_of x) noting.before_is (number_found n cs x found) in
+    let next : term_at tenant n answer.after ≡ expiry_of tenant (noted n e (case_of x)) = term_of tenant n answer.after (case_of y) noting.after_is (number ∙ number_found n cs x found) ∙ ap (expiry_of tenant) here in
     subst (λ ds. IsIndexed tenant ds new) (sym (noted_cases n e cs x y ascending found number noting.items))
     (indexed_noted tenant n e (case_of x) (map case_of cs) terms new h (report_is n cs x found)
-    (λ t. made t ∙ (ap (λ b. moved b (term_at tenant n after) t (list_any (same_term t) terms)) first ∙ ap (λ a. moved (expiry_of tenant (case_of x)) a t (list_any (same_term t) terms)) next)))
+    (λ t. made t ∙ (ap (λ b. moved b (term_at tenant n answer.after) t (list_any (same_term t) terms)) first ∙ ap (λ a. moved (expiry_of tenant (case_of x)) a t (list_any (same_term t) terms)) next)))
 
-pub noted_custodied : (n : ℕ) (e : Entry) (cs : List KeptCase) (x y : KeptCase) (before after : ℤ) → AreCustodied cs → find (has_key nat_cmp number_of n) cs ≡ Some x → IsNoted e x y before after → AreCustodied (insert_item nat_cmp number_of cs y)
-noted_custodied n e cs x y before after all found noting =
+pub noted_custodied : (n : ℕ) (e : Entry) (cs : List KeptCase) (x y : KeptCase) (answer : NotedEntry) → AreCustodied cs → find (has_key nat_cmp number_of n) cs ≡ Some x → IsNoted e x y answer → AreCustodied (insert_item nat_cmp number_of cs y)
+noted_custodied n e cs x y answer all found noting =
     custodied_changed cs y all (noting.requests x.case.items (custodied_found (has_key nat_cmp number_of n) cs x all found) ∙ sym (ap requests noting.items))
 
 -- ---- an act and a move that are planned

@@ -14,7 +14,7 @@ use Rattle.wb_list.specs.Room.{Room}
 use Rattle.wb_custody.specs.declared.sealed.SealedItem.{SealedItem}
 use Rattle.wb_custody.specs.SealedAnswers.{answers_of}
 use Rattle.wb_tables.specs.Indexed.{IsTakenOut, AreFewRequests}
-use Rattle.wb_tables.specs.Kept.{Place, case_of, place_of, tables_of, tenancy_of, sealed_of, live_place, purged_tenancy, lives_on}
+use Rattle.wb_tables.specs.Kept.{PlainTenancy, case_of, place_of, tables_of, tenancy_of, sealed_of, live_place, purged_tenancy, lives_on}
 use Rattle.wb_tables.specs.Places.{IsPlace, ArePlaces, is_tenant, is_dead, gone_under}
 use Rattle.wb_tables.specs.declared.tenancy.Report.{Report as KeptCase}
 use Rattle.wb_tables.specs.declared.tenancy.Tenancy.{Tenancy as KeptTenancy}
@@ -202,7 +202,7 @@ few_filter p (c ∷ cs) h = by (p c) (few_filter p cs h.1)
     by false rest = rest
 
 -- what holds of the place after it
-pub purged_is_place : (turns time : ℕ) (items new : List SealedItem) (x : Place) → IsPlace turns items x → ((n : ℕ) → answers_of new x.id n ≡ (purged time (tables_of items x)).sealed n) → IsPlace turns new (live_place time x)
+pub purged_is_place : (turns time : ℕ) (items new : List SealedItem) (x : PlainTenancy) → IsPlace turns items x → ((n : ℕ) → answers_of new x.id n ≡ (purged time (tables_of items x)).sealed n) → IsPlace turns new (live_place time x)
 purged_is_place turns time items new x h here = record {
   id = h.id;
   plain = record {
@@ -227,16 +227,16 @@ AreOthers items new t = (u n : ℕ) → u ≢ t → answers_of new u n ≡ answe
 same_tenancy : (x y : Tenancy) → x.id ≡ y.id → x.tables ≡ y.tables → x ≡ y
 same_tenancy x y i t = λ k. record { id = i k; tables = t k }
 
-pub same_place : (turns : ℕ) (items new : List SealedItem) (x : Place) → IsPlace turns items x → ((n : ℕ) → answers_of new x.id n ≡ answers_of items x.id n) → IsPlace turns new x
+pub same_place : (turns : ℕ) (items new : List SealedItem) (x : PlainTenancy) → IsPlace turns items x → ((n : ℕ) → answers_of new x.id n ≡ answers_of items x.id n) → IsPlace turns new x
 same_place turns items new x h same = record { id = h.id; plain = h.plain; drawn = h.drawn; ascend = h.ascend; most = h.most; sessions = h.sessions; requests = h.requests; unsealed = λ n e. same n ∙ h.unsealed n e }
 
-pub places_above : (turns k t : ℕ) (items new : List SealedItem) (xs : List Place) → t ≤ k → ArePlaces turns k items xs → AreOthers items new t → ArePlaces turns k new xs
+pub places_above : (turns k t : ℕ) (items new : List SealedItem) (xs : List PlainTenancy) → t ≤ k → ArePlaces turns k items xs → AreOthers items new t → ArePlaces turns k new xs
 places_above turns k t items new [] le all others = tt
 places_above turns k t items new (x ∷ xs) le all others =
     let ne : x.id ≢ t = λ is. absurd (omega (arith, is, all.0.0)) in
     ((all.0.0, same_place turns items new x all.0.1 (λ n. others x.id n ne)), places_above turns x.id t items new xs (omega (arith, all.0.0)) all.1 others)
 
-pub tenancies_above : (turns k t : ℕ) (items new : List SealedItem) (xs : List Place) → t ≤ k → ArePlaces turns k items xs → AreOthers items new t → map (tenancy_of new) xs ≡ map (tenancy_of items) xs
+pub tenancies_above : (turns k t : ℕ) (items new : List SealedItem) (xs : List PlainTenancy) → t ≤ k → ArePlaces turns k items xs → AreOthers items new t → map (tenancy_of new) xs ≡ map (tenancy_of items) xs
 tenancies_above turns k t items new [] le all others = refl
 tenancies_above turns k t items new (x ∷ xs) le all others =
     let ne : x.id ≢ t = λ is. absurd (omega (arith, is, all.0.0)) in
@@ -244,14 +244,14 @@ tenancies_above turns k t items new (x ∷ xs) le all others =
     ∙ ap (λ ys. tenancy_of items x ∷ ys) (tenancies_above turns x.id t items new xs (omega (arith, all.0.0)) all.1 others)
 
 -- a tenant below all others is not one of them
-pub absent_below : (turns k t : ℕ) (items : List SealedItem) (xs : List Place) → t ≤ k → ArePlaces turns k items xs → find (is_tenant t) xs ≡ None
+pub absent_below : (turns k t : ℕ) (items : List SealedItem) (xs : List PlainTenancy) → t ≤ k → ArePlaces turns k items xs → find (is_tenant t) xs ≡ None
 absent_below turns k t items [] le all = refl
 absent_below turns k t items (x ∷ xs) le all =
     let ne : (x.id == t) ≡ false = grind (arith, nat_tests, le, all.0.0) in
     rw ne (absent_below turns x.id t items xs (omega (arith, le, all.0.0)) all.1)
 
 -- the first tenant, and then the others
-pub purged_first : (time : ℕ) (items new : List SealedItem) (x y : Place) → y ≡ live_place time x → ((n : ℕ) → answers_of new x.id n ≡ (purged time (tables_of items x)).sealed n) → tenancy_of new y ≡ purged_tenancy time (tenancy_of items x)
+pub purged_first : (time : ℕ) (items new : List SealedItem) (x y : PlainTenancy) → y ≡ live_place time x → ((n : ℕ) → answers_of new x.id n ≡ (purged time (tables_of items x)).sealed n) → tenancy_of new y ≡ purged_tenancy time (tenancy_of items x)
 purged_first time items new x y e here =
     ap (tenancy_of new) e ∙ same_tenancy (tenancy_of new (live_place time x)) (purged_tenancy time (tenancy_of items x)) refl (same_tables (tables_of new (live_place time x)) (purged time (tables_of items x)) refl here)
 
@@ -261,7 +261,7 @@ rest_places turns k items mid ks x rest e all others =
     let split : ArePlaces turns k items (place_of x ∷ map place_of rest) = subst (λ (l : List KeptTenancy). ArePlaces turns k items (map place_of l)) e all in
     places_above turns x.configuration.tenant x.configuration.tenant items mid (map place_of rest) (omega arith) split.1 others
 
-pub all_purged : (turns time k : ℕ) (items mid new : List SealedItem) (ks : List KeptTenancy) (x : KeptTenancy) (rest : List KeptTenancy) (y : Place) (zs : List Place) → ks ≡ x ∷ rest → ArePlaces turns k items (map place_of ks) → y ≡ live_place time (place_of x)
+pub all_purged : (turns time k : ℕ) (items mid new : List SealedItem) (ks : List KeptTenancy) (x : KeptTenancy) (rest : List KeptTenancy) (y : PlainTenancy) (zs : List PlainTenancy) → ks ≡ x ∷ rest → ArePlaces turns k items (map place_of ks) → y ≡ live_place time (place_of x)
     → ((n : ℕ) → answers_of mid x.configuration.tenant n ≡ (purged time (tables_of items (place_of x))).sealed n) → AreOthers items mid x.configuration.tenant
     → ((t n : ℕ) → find (is_tenant t) (map place_of rest) ≡ None → answers_of new t n ≡ answers_of mid t n) → map (tenancy_of new) zs ≡ map (purged_tenancy time) (map (tenancy_of mid) (map place_of rest))
     → tenancy_of new y ∷ map (tenancy_of new) zs ≡ map (purged_tenancy time) (map (tenancy_of items) (map place_of ks))
@@ -276,10 +276,10 @@ all_purged turns time k items mid new ks x rest y zs e all first here others kep
     ∙ sym (ap (λ (l : List KeptTenancy). map (purged_tenancy time) (map (tenancy_of items) (map place_of l))) e))
 
 -- the places after it
-pub purged_places : (turns time k : ℕ) (items new : List SealedItem) (xs ys : List Place) → ys ≡ map (live_place time) xs → map (tenancy_of new) ys ≡ map (purged_tenancy time) (map (tenancy_of items) xs) → ArePlaces turns k items xs → ArePlaces turns k new ys
+pub purged_places : (turns time k : ℕ) (items new : List SealedItem) (xs ys : List PlainTenancy) → ys ≡ map (live_place time) xs → map (tenancy_of new) ys ≡ map (purged_tenancy time) (map (tenancy_of items) xs) → ArePlaces turns k items xs → ArePlaces turns k new ys
 purged_places turns time k items new xs ys e made all = rw e (by k xs (ap (map (tenancy_of new)) (sym e) ∙ made) all)
   where
-    by : (k : ℕ) (xs : List Place) → map (tenancy_of new) (map (live_place time) xs) ≡ map (purged_tenancy time) (map (tenancy_of items) xs) → ArePlaces turns k items xs → ArePlaces turns k new (map (live_place time) xs)
+    by : (k : ℕ) (xs : List PlainTenancy) → map (tenancy_of new) (map (live_place time) xs) ≡ map (purged_tenancy time) (map (tenancy_of items) xs) → ArePlaces turns k items xs → ArePlaces turns k new (map (live_place time) xs)
     by k [] made all = tt
     by k (x ∷ xs) made all =
         let first : tenancy_of new (live_place time x) ≡ purged_tenancy time (tenancy_of items x) = cc in

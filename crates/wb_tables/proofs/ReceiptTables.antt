@@ -8,8 +8,8 @@ use Rattle.std.specs.Ordering.{match_ordering, nat_cmp, ordering_then}
 use Rattle.std.specs.declared.cmp.Ordering.{Ordering}
 use Rattle.std.specs.declared.cmp.Ordering.TheVariants.{Less, Equal, Greater}
 use Rattle.std.proofs.lemmas.Bool.Decides.{nat_tests}
-use Rattle.wb_access.specs.Receipts.{is_receipt, receipt_of, is_of_report}
-use Rattle.wb_access.specs.declared.receipts.Receipt.{Receipt}
+use Rattle.wb_access.specs.Receipts.{Receipt, number_of, unless_of}
+use Rattle.wb_base.specs.Secrets.{same_digest}
 use Rattle.wb_base.specs.AnswerList.{is_text}
 use Rattle.wb_base.specs.declared.words.Digest.{Digest}
 use Rattle.wb_list.specs.Keyed.{insert_item}
@@ -30,9 +30,6 @@ use Rattle.wb_model.proofs.LiveActs.{silent_receipt}
 use Rattle.wb_tables.specs.Receipted.{AreReceipted, HasOwnReceipt, is_submitted}
 use Rattle.wb_tables.proofs.Indexes.{first_and, second_and, without}
 use Rattle.wb_tables.proofs.Lookups.{find_kept, kept}
-
-abbrev number_in : Receipt → ℕ
-number_in r = r.number
 
 abbrev number_at : Case → ℕ
 number_at c = c.number
@@ -77,38 +74,6 @@ pub begun_by : (trail : List Entry) → is_submitted trail ≡ true → not (len
 begun_by [] e = absurd (grind (arith, e))
 begun_by (x ∷ xs) e = let some : (length (x ∷ xs) == 0) ≡ false = grind (arith, nat_tests) in rw some refl
 
--- ---- one item more in a table of keys that are apart
-
-none_beside : {K T : Type 0} (p : T → Bool) (cmp : K → K → Ordering) (key : T → K) (xs : List T) (y : T) → p y ≡ false → find p xs ≡ None → find p (insert_item cmp key xs y) ≡ None
-none_beside p cmp key [] y other none = rw other refl
-none_beside {K} {T} p cmp key (x ∷ xs) y other none = by (cmp (key x) (key y)) (p x) refl none (λ f. none_beside p cmp key xs y other f)
-  where
-    by : (r : Ordering) (b : Bool) → p x ≡ b → cond b (Some x) (find p xs) ≡ None → (find p xs ≡ None → find p (insert_item cmp key xs y) ≡ None) → find p (match_ordering r (x ∷ insert_item cmp key xs y) (y ∷ xs) (y ∷ x ∷ xs)) ≡ None
-    by r true is f rest = absurd (cc f)
-    by Less false is f rest = rw is (rest f)
-    by Equal false is f rest = rw other f
-    by Greater false is f rest = rw (other, is) f
-
-none_later : {T : Type 0} (p : T → Bool) (x : T) (xs : List T) → find p (x ∷ xs) ≡ None → find p xs ≡ None
-none_later {T} p x xs e = by (p x) e
-  where
-    by : (b : Bool) → cond b (Some x) (find p xs) ≡ None → find p xs ≡ None
-    by true f = absurd (cc f)
-    by false f = f
-
-apart_inserted : {D K T : Type 0} (P : D → T → Bool) (cmp : K → K → Ordering) (key : T → K) (xs : List T) (y : T) → ((d : D) → P d y ≡ true → find (P d) xs ≡ None) → Apart P xs → Apart P (insert_item cmp key xs y)
-apart_inserted P cmp key [] y free apart = ((λ d is. refl), tt)
-apart_inserted {D} {K} {T} P cmp key (x ∷ xs) y free apart = by (cmp (key x) (key y)) (apart_inserted P cmp key xs y (λ d is. none_later (P d) x xs (free d is)) apart.1)
-  where
-    other : (d : D) → P d x ≡ true → (b : Bool) → P d y ≡ b → b ≡ false
-    other d is true at = let none : Some x ≡ None = sym (ap (λ b. cond b (Some x) (find (P d) xs)) is) ∙ free d at in absurd (cc none)
-    other d is false at = refl
-
-    by : (r : Ordering) → Apart P (insert_item cmp key xs y) → Apart P (match_ordering r (x ∷ insert_item cmp key xs y) (y ∷ xs) (y ∷ x ∷ xs))
-    by Less rest = ((λ d is. none_beside (P d) cmp key xs y (other d is (P d y) refl) (apart.0 d is)), rest)
-    by Equal rest = ((λ d is. none_later (P d) x xs (free d is)), apart.1)
-    by Greater rest = (free, apart)
-
 -- ---- one more report
 
 none_mapped : {X Y : Type 0} (f : X → Y) (o : Option X) → option_map f o ≡ None → o ≡ None
@@ -119,10 +84,10 @@ text_self : (s t : List ℕ) → s ≡ t → is_text s t ≡ true
 text_self s t e = (bytes_decides s t).1 e
 
 -- where no report has a digest, the table has none
-none_kept : (tenant : ℕ) (cs : List Case) (rs : List Receipt) (d : Digest) → AreReceipted tenant cs rs → with_receipt d cs ≡ None → receipt_of tenant d rs ≡ None
-none_kept tenant cs rs d h none = none_mapped number_in (receipt_of tenant d rs) (h.numbers d ∙ ap (option_map number_at) none)
+none_kept : (tenant : ℕ) (cs : List Case) (rs : List Receipt) (d : Digest) → AreReceipted tenant cs rs → with_receipt d cs ≡ None → number_of tenant d rs ≡ None
+none_kept tenant cs rs d h none = h.numbers d ∙ ap (option_map number_at) none
 
-pub free_receipt : (tenant : ℕ) (cs : List Case) (rs : List Receipt) (d : Digest) (trail : List Entry) → AreReceipted tenant cs rs → d.0 ≡ receipt trail → HasOwnReceipt trail cs → receipt_of tenant d rs ≡ None
+pub free_receipt : (tenant : ℕ) (cs : List Case) (rs : List Receipt) (d : Digest) (trail : List Entry) → AreReceipted tenant cs rs → d.0 ≡ receipt trail → HasOwnReceipt trail cs → number_of tenant d rs ≡ None
 free_receipt tenant cs rs d trail h is own = none_kept tenant cs rs d h (own d (text_self (receipt trail) d.0 (sym is)))
 
 find_pushed : {X : Type 0} (p : X → Bool) (xs : List X) (x : X) → p x ≡ false → find p (xs ++ x ∷ []) ≡ find p xs
@@ -137,58 +102,44 @@ find_last {X} p (y ∷ xs) x on none = by (p y) none (λ f. find_last p xs x on 
     by true f rest = absurd (cc f)
     by false f rest = rest f
 
--- the order of the table
-abbrev pair_cmp : ℕ × Digest → ℕ × Digest → Ordering
-pair_cmp a b = ordering_then (nat_cmp a.0 b.0) (slice_cmp nat_cmp a.1.0 b.1.0)
-
-abbrev pair_of : Receipt → ℕ × Digest
-pair_of receipt = (receipt.tenant, receipt.digest)
-
-abbrev receipt_as : ℕ → Digest → ℕ → Receipt
-receipt_as tenant d n = record { tenant = tenant; digest = d; number = n }
-
--- a tenant's receipt has the digest that its trail says
-as_trail : (tenant n : ℕ) (d e : Digest) (trail : List Entry) → d.0 ≡ receipt trail → is_receipt tenant e (receipt_as tenant d n) ≡ is_text (receipt trail) e.0
-as_trail tenant n d e trail is = let self : (tenant == tenant) ≡ true = grind (arith, nat_tests) in rw self (ap (λ s. is_text s e.0) is)
+-- the receipt that is put in has the digest that its trail says
+as_trail : (tenant : ℕ) (d e : Digest) (trail : List Entry) → d.0 ≡ receipt trail → ((tenant == tenant) && same_digest d e) ≡ is_text (receipt trail) e.0
+as_trail tenant d e trail is = let self : (tenant == tenant) ≡ true = grind (arith, nat_tests) in rw self (ap (λ s. is_text s e.0) is)
 
 pub receipted_more : (tenant : ℕ) (cs : List Case) (rs new : List Receipt) (c : Case) (d : Digest) → AreReceipted tenant cs rs → d.0 ≡ receipt c.trail → HasOwnReceipt c.trail cs
-    → new ≡ insert_item pair_cmp pair_of rs (receipt_as tenant d c.number)
-    → ((t : ℕ) (e : Digest) → receipt_of t e new ≡ (if is_receipt t e (receipt_as tenant d c.number) then Some (receipt_as tenant d c.number) else receipt_of t e rs)) → AreReceipted tenant (cs ++ c ∷ []) new
-receipted_more tenant cs rs new c d h is own items found = record {
-  numbers = λ e. ap (option_map number_in) (found tenant e) ∙ (ap (λ b. option_map number_in (cond b (Some (receipt_as tenant d c.number)) (receipt_of tenant e rs))) (as_trail tenant c.number d e c.trail is) ∙ by e (has_receipt e c) refl);
+    → ((t : ℕ) (e : Digest) → number_of t e new ≡ (if (tenant == t) && same_digest d e then Some c.number else number_of t e rs)) → AreReceipted tenant (cs ++ c ∷ []) new
+receipted_more tenant cs rs new c d h is own found = record {
+  numbers = λ e. found tenant e ∙ (ap (λ b. cond b (Some c.number) (number_of tenant e rs)) (as_trail tenant d e c.trail is) ∙ by e (has_receipt e c) refl);
   apart = apart_push has_receipt cs c h.apart own;
-  once = subst (Apart (is_receipt tenant)) (sym items) (apart_inserted (is_receipt tenant) pair_cmp pair_of rs (receipt_as tenant d c.number) (λ e at. none_kept tenant cs rs e h (own e (sym (as_trail tenant c.number d e c.trail is) ∙ at))) h.once);
 }
   where
-    by : (e : Digest) (b : Bool) → has_receipt e c ≡ b → option_map number_in (cond b (Some (receipt_as tenant d c.number)) (receipt_of tenant e rs)) ≡ option_map number_at (with_receipt e (cs ++ c ∷ []))
+    by : (e : Digest) (b : Bool) → has_receipt e c ≡ b → cond b (Some c.number) (number_of tenant e rs) ≡ option_map number_at (with_receipt e (cs ++ c ∷ []))
     by e true at = sym (ap (option_map number_at) (find_last (has_receipt e) cs c at (own e at)))
     by e false at = h.numbers e ∙ sym (ap (option_map number_at) (find_pushed (has_receipt e) cs c at))
 
+-- ---- room, which moves no receipt to another report
+
+pub receipted_same : (tenant : ℕ) (cs : List Case) (rs new : List Receipt) → ((t : ℕ) (d : Digest) → number_of t d new ≡ number_of t d rs) → AreReceipted tenant cs rs → AreReceipted tenant cs new
+receipted_same tenant cs rs new found h = record { numbers = λ d. found tenant d ∙ h.numbers d; apart = h.apart }
+
 -- ---- a report less
 
-pub receipted_left : (tenant n : ℕ) (cs : List Case) (rs : List Receipt) → AreReceipted tenant cs rs → AreReceipted tenant (without n cs) (filter (λ r. not (is_of_report tenant n r)) rs)
-receipted_left tenant n cs rs h = record {
-  numbers = λ d.
-      ap (option_map number_in) (find_kept (is_receipt tenant) d (λ r. not (is_of_report tenant n r)) rs h.once)
-      ∙ (by d (receipt_of tenant d rs) refl (with_receipt d cs) (h.numbers d)
-      ∙ sym (ap (option_map number_at) (find_kept has_receipt d (λ c. not (has_number n c)) cs h.apart)));
+pub receipted_left : (tenant n : ℕ) (cs : List Case) (rs new : List Receipt) → AreReceipted tenant cs rs → ((t : ℕ) (d : Digest) → number_of t d new ≡ unless_of tenant n t (number_of t d rs)) → AreReceipted tenant (without n cs) new
+receipted_left tenant n cs rs new h found = record {
+  numbers = λ d. found tenant d ∙ (ap (unless_of tenant n tenant) (h.numbers d) ∙ (by (with_receipt d cs) ∙ sym (ap (option_map number_at) (find_kept has_receipt d (λ c. not (has_number n c)) cs h.apart))));
   apart = apart_filter has_receipt (λ c. not (has_number n c)) cs h.apart;
-  once = apart_filter (is_receipt tenant) (λ r. not (is_of_report tenant n r)) rs h.once;
 }
   where
-    on : (r : Receipt) (c : Case) (b : Bool) → r.number ≡ c.number → option_map number_in (cond b (Some r) None) ≡ option_map number_at (cond b (Some c) None)
-    on r c true same = ap Some same
-    on r c false same = refl
+    self : (tenant == tenant) ≡ true
+    self = grind (arith, nat_tests)
 
-    by : (d : Digest) (o : Option Receipt) → receipt_of tenant d rs ≡ o → (w : Option Case) → option_map number_in o ≡ option_map number_at w → option_map number_in (kept (λ r. not (is_of_report tenant n r)) o) ≡ option_map number_at (kept (λ c. not (has_number n c)) w)
-    by d None is None same = refl
-    by d None is (Some c) same = absurd (cc same)
-    by d (Some r) is None same = absurd (cc same)
-    by d (Some r) is (Some c) same =
-        let numbers : r.number ≡ c.number = cc same in
-        let own : (r.tenant == tenant) ≡ true = first_and (r.tenant == tenant) _ (find_true (is_receipt tenant d) rs r is) in
-        let same : not ((r.tenant == tenant) && (r.number == n)) ≡ not (c.number == n) = ap (λ b. not (b && (r.number == n))) own ∙ ap (λ k. not (k == n)) numbers in
-        ap (λ b. option_map number_in (cond b (Some r) None)) same ∙ on r c (not (c.number == n)) numbers
+    on : (c : Case) (b : Bool) → cond b None (Some c.number) ≡ option_map number_at (cond (not b) (Some c) None)
+    on c true = refl
+    on c false = refl
+
+    by : (w : Option Case) → unless_of tenant n tenant (option_map number_at w) ≡ option_map number_at (kept (λ c. not (has_number n c)) w)
+    by None = refl
+    by (Some c) = rw self (on c (c.number == n))
 
 -- ---- one more entry of a report
 
@@ -211,7 +162,6 @@ pub receipted_noted : (tenant n : ℕ) (e : Entry) (cs : List Case) (rs : List R
 receipted_noted tenant n e cs rs later h = record {
   numbers = λ d. h.numbers d ∙ sym (number_noted n e (has_receipt d) (noted_receipt n e later d) cs);
   apart = apart_map has_receipt (noted n e) cs (noted_receipt n e later) h.apart;
-  once = h.once;
 }
 
 -- what an act and a move put on a trail is no submission
@@ -244,12 +194,12 @@ under_number p (x ∷ xs) c apart e = by (p x) e (λ f. under_number p xs c apar
     by false f rest = on (x.number == c.number) refl (rest f)
 
 -- the table leads to the report with the receipt, and where it has none there is none
-pub receipted_found : (tenant n : ℕ) (d : Digest) (cs : List Case) (rs : List Receipt) → Apart has_number cs → AreReceipted tenant cs rs → Some n ≡ option_map number_in (receipt_of tenant d rs) → report n cs ≡ with_receipt d cs
+pub receipted_found : (tenant n : ℕ) (d : Digest) (cs : List Case) (rs : List Receipt) → Apart has_number cs → AreReceipted tenant cs rs → Some n ≡ number_of tenant d rs → report n cs ≡ with_receipt d cs
 receipted_found tenant n d cs rs numbers h is = by (with_receipt d cs) refl (is ∙ h.numbers d)
   where
     by : (w : Option Case) → with_receipt d cs ≡ w → Some n ≡ option_map number_at w → report n cs ≡ w
     by None e f = absurd (cc f)
     by (Some c) e f = let same : n ≡ c.number = cc f in ap (λ k. report k cs) same ∙ under_number (has_receipt d) cs c numbers e
 
-pub receipted_none : (tenant : ℕ) (d : Digest) (cs : List Case) (rs : List Receipt) → AreReceipted tenant cs rs → None ≡ option_map number_in (receipt_of tenant d rs) → with_receipt d cs ≡ None
+pub receipted_none : (tenant : ℕ) (d : Digest) (cs : List Case) (rs : List Receipt) → AreReceipted tenant cs rs → None ≡ number_of tenant d rs → with_receipt d cs ≡ None
 receipted_none tenant d cs rs h is = none_mapped number_at (with_receipt d cs) (sym (h.numbers d) ∙ sym is)

@@ -1,5 +1,5 @@
--- The reports of a tenant, and the index of the days on which they expire.
-use Rattle.std.specs.Prelude.{◌≡◌, ◌≤◌, ℕ, ℤ, ◌==◌, not, Bool, true, false, List, [], ◌∷◌, length, filter, if◌then◌else◌}
+-- The reports of a tenant, and the indexes of the days on which they expire and of those that have requests.
+use Rattle.std.specs.Prelude.{◌≡◌, ◌≤◌, ℕ, ℤ, ◌==◌, not, Bool, true, false, List, [], ◌∷◌, length, map, filter, if◌then◌else◌}
 use Rattle.std.specs.List.{list_any, list_all}
 use Rattle.wb_base.specs.declared.kind.Kind.TheVariants.{Expiry}
 use Rattle.wb_model.specs.Access.{requests}
@@ -9,6 +9,7 @@ use Rattle.wb_model.specs.Trails.{expires}
 use Rattle.wb_terms.specs.Index.{same_term}
 use Rattle.wb_terms.specs.declared.term_index.Term.{Term}
 use Rattle.wb_tables.specs.Lives.{lives_on, is_dead}
+use Rattle.wb_tables.specs.declared.asked.Asked.{Asked}
 use Rattle.wb_tables.specs.declared.tenancy.Report.{Report}
 
 -- what is seen of the table: whose reports they are, the reports, and the room for more
@@ -56,3 +57,11 @@ AreCustodied (r ∷ rs) = (r.desk.items ≡ requests r.case.items) × AreCustodi
 abbrev pub AreFewRequests : List Case → Type 0
 AreFewRequests [] = Unit {0}
 AreFewRequests (c ∷ cs) = (length (requests c.trail) ≤ 100) × AreFewRequests cs
+
+-- a report has requests
+abbrev pub has_requests : Case → Bool
+has_requests c = not (length (requests c.trail) == 0)
+
+-- the index has the numbers of the reports that have requests, in their order
+abbrev pub AreAsked : List Case → List Asked → Type 0
+AreAsked cs asked = map (λ (a : Asked). a.number) asked ≡ map (λ (c : Case). c.number) (filter has_requests cs)

@@ -17,21 +17,21 @@ abbrev pub plain_of : KeptTenancy → Plain
 plain_of x = record { registry = x.configuration.registry; numbering = x.numbering; cases = map case_of x.cases.items; sessions = map session_of x.sessions.items }
 
 -- a tenant's tables but for identity answers, under its id
-pub record Place : Type 0 where
+pub record PlainTenancy : Type 0 where
   pub id : ℕ
   pub plain : Plain
 
-abbrev pub place_of : KeptTenancy → Place
+abbrev pub place_of : KeptTenancy → PlainTenancy
 place_of x = record { id = x.configuration.tenant; plain = plain_of x }
 
 -- the identity answers of a tenant's reports
 abbrev pub sealed_of : List SealedItem → ℕ → Sealed
 sealed_of items t = λ n. answers_of items t n
 
-abbrev pub tables_of : List SealedItem → Place → Tables
+abbrev pub tables_of : List SealedItem → PlainTenancy → Tables
 tables_of items x = record { plain = x.plain; sealed = sealed_of items x.id }
 
-abbrev pub tenancy_of : List SealedItem → Place → Tenancy
+abbrev pub tenancy_of : List SealedItem → PlainTenancy → Tenancy
 tenancy_of items x = record { id = x.id; tables = tables_of items x }
 
 -- ---- what is there at a time
@@ -40,7 +40,7 @@ tenancy_of items x = record { id = x.id; tables = tables_of items x }
 abbrev pub live_plain : ℕ → Plain → Plain
 live_plain now p = record p { cases = live_cases p now; sessions = filter (lasts now (live_cases p now)) p.sessions }
 
-abbrev pub live_place : ℕ → Place → Place
+abbrev pub live_place : ℕ → PlainTenancy → PlainTenancy
 live_place now x = record { id = x.id; plain = live_plain now x.plain }
 
 abbrev pub purged_tenancy : ℕ → Tenancy → Tenancy
@@ -53,16 +53,16 @@ is_session turn digest s = (s.turn == turn) && same_digest s.digest digest
 -- ---- counts
 
 -- the reports that are held, of all tenants
-abbrev pub live_at : List Place → ℕ
+abbrev pub live_at : List PlainTenancy → ℕ
 live_at xs = sum_by (λ x. length x.plain.cases) xs
 
 -- the sum of their last numbers
-abbrev pub numbers_at : List Place → ℕ
+abbrev pub numbers_at : List PlainTenancy → ℕ
 numbers_at xs = sum_by (λ x. x.plain.numbering.last) xs
 
 -- their standing sessions
-abbrev pub sessions_at : List Place → ℕ
+abbrev pub sessions_at : List PlainTenancy → ℕ
 sessions_at xs = sum_by (λ x. length x.plain.sessions) xs
 
-abbrev pub counts_at : ℕ → List Place → Counts
+abbrev pub counts_at : ℕ → List PlainTenancy → Counts
 counts_at turns xs = record { turns = turns; live = live_at xs; numbers = numbers_at xs; sessions = sessions_at xs }

@@ -1,5 +1,5 @@
 -- What is planned and done on a report in its place in the table.
-use Rattle.std.specs.Prelude.{◌≡◌, ◌<◌, ◌≤◌, ◌++◌, ◌∷◌, [], ℕ, ℤ, true, List, length, find, None, Some, Result, IfOk, OnOk}
+use Rattle.std.specs.Prelude.{◌≡◌, ◌<◌, ◌≤◌, ◌++◌, ◌∷◌, [], ℕ, ◌==◌, not, true, List, length, find, None, Some, Result, IfOk, OnOk}
 use Rattle.std.specs.Ordering.{nat_cmp}
 use Rattle.wb_list.specs.Keyed.{has_key}
 use Rattle.wb_case.specs.Plans.{GivesPlan}
@@ -15,6 +15,7 @@ use Rattle.wb_model.specs.declared.entry.Entry.{Entry}
 use Rattle.wb_model.specs.Access.{requests}
 use Rattle.wb_model.specs.Legal.{right_actor}
 use Rattle.wb_model.specs.Trails.{has_identity, expires, submission_in}
+use Rattle.wb_tables.specs.declared.noting.NotedEntry.{NotedEntry}
 use Rattle.wb_tables.specs.declared.tenancy.Report.{Report}
 
 -- there is room on a report for an entry, which is by whom it may be
@@ -46,9 +47,10 @@ pub record IsMoved (at : ℕ) (by : Actor) (move : Move) (old new : Report) (ans
   pub plan : custody.GivesPlan (length old.case.items) (has_identity old.case.items) old.desk.items at by move answer
   pub roomy : IfOk answer (λ e. IsRoomy e new)
 
--- an entry was noted, before which the report expired on one day and after which on another
-pub record IsNoted (e : Entry) (old new : Report) (before after : ℤ) : Type 0 where
+-- an entry was noted, before which the report expired on one day and after which on another, and after which it has requests or none
+pub record IsNoted (e : Entry) (old new : Report) (answer : NotedEntry) : Type 0 where
   pub items : new.case.items ≡ old.case.items ++ e ∷ []
   pub requests : (before : List Entry) → old.desk.items ≡ requests before → new.desk.items ≡ requests (before ++ e ∷ [])
-  pub before_is : before ≡ expires old.case.items
-  pub after_is : after ≡ expires new.case.items
+  pub before_is : answer.before ≡ expires old.case.items
+  pub after_is : answer.after ≡ expires new.case.items
+  pub asked_is : answer.has_requests ≡ not (length new.desk.items == 0)

@@ -12,7 +12,7 @@ use Rattle.wb_model.specs.Tables.{Registry, Plain, Case, has_number, has_receipt
 pub use Rattle.wb_tables.specs.Lives.{is_dead}
 use Rattle.wb_tables.specs.Indexed.{AreFewRequests}
 use Rattle.wb_tables.specs.Lives.{case_of, lives_on}
-use Rattle.wb_tables.specs.Kept.{Place}
+use Rattle.wb_tables.specs.Kept.{PlainTenancy}
 use Rattle.wb_tables.specs.declared.tenancy.Tenancy.{Tenancy as KeptTenancy}
 
 abbrev pub AreGoodForms : List FormItem → Type 0
@@ -36,7 +36,7 @@ pub record IsLookedUp (p : Plain) : Type 0 where
   pub logins : Apart has_turn p.sessions
 
 -- a tenant after so many turns
-pub record IsPlace (turns : ℕ) (items : List SealedItem) (x : Place) : Type 0 where
+pub record IsPlace (turns : ℕ) (items : List SealedItem) (x : PlainTenancy) : Type 0 where
   pub id : x.id ≤ 64
   pub plain : IsLookedUp x.plain
   pub drawn : x.plain.numbering.drawn ≤ x.plain.numbering.last
@@ -52,7 +52,7 @@ pub record IsPlace (turns : ℕ) (items : List SealedItem) (x : Place) : Type 0 
   pub unsealed : (n : ℕ) → is_there n x.plain.cases ≡ false → answers_of items x.id n ≡ None
 
 -- the tenants ascend by their ids, from one that is above k
-abbrev pub ArePlaces : ℕ → ℕ → List SealedItem → List Place → Type 0
+abbrev pub ArePlaces : ℕ → ℕ → List SealedItem → List PlainTenancy → Type 0
 ArePlaces turns k sealed [] = Unit {0}
 ArePlaces turns k sealed (x ∷ xs) = ((k < x.id) × IsPlace turns sealed x) × ArePlaces turns x.id sealed xs
 
@@ -77,7 +77,7 @@ ArePurged now (x ∷ xs) (y ∷ ys) = IsPurged now x y × ArePurged now xs ys
 
 -- ---- where a tenant is
 
-abbrev pub is_tenant : ℕ → Place → Bool
+abbrev pub is_tenant : ℕ → PlainTenancy → Bool
 is_tenant t x = x.id == t
 
 -- the tenancy at this place is the tenant's

@@ -1,8 +1,7 @@
 -- The receipts of a tenant's reports, and the table in which they are found.
 use Rattle.std.specs.Prelude.{◌≡◌, ℕ, Bool, true, List, None, option_map, is_some}
 use Rattle.std.specs.List.{list_any}
-use Rattle.wb_access.specs.Receipts.{is_receipt, receipt_of}
-use Rattle.wb_access.specs.declared.receipts.Receipt.{Receipt}
+use Rattle.wb_access.specs.Receipts.{Receipt, number_of}
 use Rattle.wb_base.specs.AnswerList.{is_text}
 use Rattle.wb_base.specs.declared.words.Digest.{Digest}
 use Rattle.wb_model.specs.declared.entry.Entry.{Entry}
@@ -18,9 +17,7 @@ is_submitted trail = list_any (λ (e : Entry). is_some (submission_in e.deed)) t
 abbrev pub HasOwnReceipt : List Entry → List Case → Type 0
 HasOwnReceipt trail cs = (d : Digest) → is_text (receipt trail) d.0 ≡ true → with_receipt d cs ≡ None
 
--- the table finds for each digest the number of the report whose receipt has it; no two reports have one receipt, and the table has no
--- digest twice
+-- the table finds for each digest the number of the report whose receipt has it, and no two reports have one receipt
 pub record AreReceipted (tenant : ℕ) (cs : List Case) (receipts : List Receipt) : Type 0 where
-  pub numbers : (d : Digest) → option_map (λ (r : Receipt). r.number) (receipt_of tenant d receipts) ≡ option_map (λ (c : Case). c.number) (with_receipt d cs)
+  pub numbers : (d : Digest) → number_of tenant d receipts ≡ option_map (λ (c : Case). c.number) (with_receipt d cs)
   pub apart : Apart has_receipt cs
-  pub once : Apart (is_receipt tenant) receipts

@@ -1,5 +1,5 @@
 //! The reports of a tenant, the days on which they expire, and their receipts.
-ghost use Rattle.std.specs.Prelude.{◌≡◌, ◌+◌, ◌<◌, ◌≤◌, ◌++◌, ◌∷◌, [], ℕ, true, false, not, length, map, filter, List, None, Some, IfOk, OnOk, OnErr, IfSome, OnSome, IfNone, option_map};
+ghost use Rattle.std.specs.Prelude.{◌≡◌, ◌+◌, ◌<◌, ◌≤◌, ◌++◌, ◌∷◌, [], ℕ, true, false, not, length, map, filter, slice_get, List, None, Some, IfOk, OnOk, OnErr, IfSome, OnSome, IfNone, option_map};
 ghost use Rattle.std.specs.List.{list_any};
 ghost use Rattle.std.specs.Option.{option_copied};
 ghost use Rattle.std.specs.Ordering.{int_eq, nat_cmp};
@@ -13,13 +13,14 @@ ghost use Rattle.wb_model.specs.Opened.{AtMost};
 ghost use Rattle.wb_model.specs.Tables.{is_there, report as report_by, with_receipt as with_receipt_by};
 ghost use Rattle.wb_model.specs.Trails.{has_identity, submitted};
 ghost use Rattle.wb_model.specs.declared.entry.Entry.{Entry as EntryData};
-ghost use Rattle.wb_tables.specs.Indexed.{AreCustodied, AreExpired, AreFewRequests, IsTakenOut, expiry_of, moved};
+ghost use Rattle.wb_tables.specs.Indexed.{AreCustodied, AreExpired, AreFewRequests, IsTakenOut, expiry_of, has_requests, moved};
 ghost use Rattle.wb_tables.specs.Lives.{case_of, lives_on};
 ghost use Rattle.wb_tables.specs.Noted.{IsReady};
 ghost use Rattle.wb_tables.specs.Receipted.{HasOwnReceipt, is_submitted};
 ghost use Rattle.wb_terms.specs.Index.{same_term};
 ghost use Rattle.wb_terms.specs.declared.term_index.Term.{Term as TermData};
 
+use crate::asked::{Asked, put_asked};
 use crate::noting::{Acting, Moving, Noting, expires};
 use crate::tenancy::Report;
 use std::alloc::Global;
@@ -30,27 +31,28 @@ use wb_list::Sorted;
 use wb_model::{Act, Actor, CaseFault, CustodyFault, Deed, Entry, Move};
 use wb_terms::{Term, TermIndex};
 
-/// The reports of a tenant, in the order of their numbers. Those that do not live on a day, and that with a receipt, are
-/// found without a walk over the others.
+/// The reports of a tenant, in the order of their numbers. Those that do not live on a day, those that have requests for
+/// their identity, and that with a receipt, are found without a walk over the others.
 #[derive(Drop)]
 pub struct Cases {
     tenant: Tenant,
     cases: Sorted<Report>,
+    asked: Sorted<Asked>,
     terms: TermIndex,
     receipts: ReceiptBox,
 }
 
 impl Model for Cases {
     ghost use Rattle.std.specs.Prelude.{map, min};
-    ghost use Rattle.wb_tables.specs.Indexed.{Reports, IsIndexed, AreCustodied};
+    ghost use Rattle.wb_tables.specs.Indexed.{Reports, IsIndexed, AreCustodied, AreAsked};
     ghost use Rattle.wb_tables.specs.Lives.{case_of};
     ghost use Rattle.wb_tables.specs.Receipted.{AreReceipted};
 
     ghost Value = { Reports };
 
-    ghost view = { λ c. record { tenant = c.tenant; items = c.cases.items; spare = min c.cases.spare (min c.terms.spare c.receipts.spare) } };
+    ghost view = { λ c. record { tenant = c.tenant; items = c.cases.items; spare = min (min c.cases.spare c.asked.spare) (min c.terms.spare c.receipts.spare) } };
 
-    ghost invariant = { λ c. IsIndexed c.tenant (map case_of c.cases.items) c.terms.items × AreCustodied c.cases.items × AreReceipted c.tenant (map case_of c.cases.items) c.receipts.items };
+    ghost invariant = { λ c. IsIndexed c.tenant (map case_of c.cases.items) c.terms.items × AreCustodied c.cases.items × AreReceipted c.tenant (map case_of c.cases.items) c.receipts.items × AreAsked (map case_of c.cases.items) c.asked.items };
 }
 
 // The day on which a report expires, as a term.
@@ -100,6 +102,7 @@ impl Cases {
         Cases {
             tenant,
             cases: Sorted::new(alloc),
+            asked: Sorted::new(alloc),
             terms: TermIndex::new(alloc),
             receipts: ReceiptBox::new(alloc),
         }
@@ -131,6 +134,27 @@ impl Cases {
         self.cases.find(&number.get())
     }
 
+    /// How many reports have requests for their identity.
+    pub fn asked_len(&self) -> usize
+        ensures { result ≡ length (filter has_requests (map case_of self.now.items)) }
+    {
+        self.asked.len()
+    }
+
+    /// The report at a place among those that have requests, counted from 0 in the order of their numbers, found by
+    /// binary search.
+    pub fn asked_at(&self, at: usize) -> &Report
+        requires there { at < length (filter has_requests (map case_of self.now.items)) }
+        ensures report { slice_get (filter has_requests (map case_of self.now.items)) at ≡ Some (case_of result.now) }
+        ensures custodied { result.now.desk.items ≡ requests result.now.case.items }
+    {
+        let number = self.asked.get(at).number;
+        match self.cases.find(&number.get()) {
+            Some(report) => report,
+            None => unreachable!(),
+        }
+    }
+
     /// Makes room for one more report, or one more entry of one.
     pub fn reserve(&mut self) -> Result<(), Memory>
         ensures tenant { self.new.tenant ≡ self.old.tenant }
@@ -139,6 +163,7 @@ impl Cases {
         ensures kept { self.old.spare ≤ self.new.spare }
     {
         self.terms.reserve(1)?;
+        self.asked.reserve(1)?;
         if self.receipts.reserve().is_err() {
             return Err(Memory);
         }
@@ -161,7 +186,9 @@ impl Cases {
         };
         let term = expiry(self.tenant, &report);
         let number = report.number;
+        let has_requests = report.desk.len() != 0;
         self.cases.add(report);
+        put_asked(&mut self.asked, number, has_requests);
         self.terms.add(term);
         self.receipts.add(self.tenant, digest, number);
     }
@@ -211,14 +238,15 @@ impl Cases {
         ensures tenant { self.new.tenant ≡ self.old.tenant }
         ensures cases { map case_of self.new.items ≡ map (noted number entry) (map case_of self.old.items) }
     {
-        let expiry = self.cases.change(&number.get(), Noting(entry));
+        let noted = self.cases.change(&number.get(), Noting(entry));
         let term = Term {
             tenant: self.tenant,
-            day: expiry.before,
+            day: noted.before,
             number,
             kind: Kind::Expiry,
         };
-        move_term(&mut self.terms, term, expiry.after);
+        move_term(&mut self.terms, term, noted.after);
+        put_asked(&mut self.asked, number, noted.has_requests);
     }
 
     /// The numbers of the reports that do not live on this day. It takes no memory where there are none.
@@ -240,6 +268,7 @@ impl Cases {
     {
         let term = self.terms.first_up_to(self.tenant, today, Kind::Expiry)?;
         self.cases.take(&term.number.get());
+        self.asked.take(&term.number.get());
         self.terms.remove(&term);
         self.receipts.remove(self.tenant, term.number);
         Some(term.number)

@@ -1,6 +1,7 @@
 //! The tables of all tenants: what is kept, looked up at a time, purged and counted. They know no route.
 #![tactic(auto)]
 
+mod asked;
 mod cases;
 mod configuration;
 mod counts;

@@ -69,11 +69,13 @@ impl ItemChange<Report> for Moving {
 #[derive(Drop)]
 pub(crate) struct Noting(pub(crate) Entry);
 
-/// The days on which a report expired before an entry, and expires after it.
+/// What the indexes have of a report and an entry: the days on which it expired before the entry and expires after it,
+/// and whether it has requests after it.
 #[derive(Clone, Copy)]
-pub(crate) struct Expiries {
+pub(crate) struct NotedEntry {
     pub(crate) before: Day,
     pub(crate) after: Day,
+    pub(crate) has_requests: bool,
 }
 
 // The day on which a report expires.
@@ -84,21 +86,22 @@ pub(crate) fn expires(report: &Report) -> Day
 }
 
 impl ItemChange<Report> for Noting {
-    type Answer = Expiries;
+    type Answer = NotedEntry;
 
     ghost use Rattle.wb_tables.specs.Noted.{IsRoomy, IsNoted};
 
     ghost asks = { λ noting report. IsRoomy noting.0 report };
 
-    ghost makes = { λ noting old new answer. IsNoted noting.0 old new answer.before answer.after };
+    ghost makes = { λ noting old new answer. IsNoted noting.0 old new answer };
 
-    fn change(self, report: &mut Report) -> Expiries {
+    fn change(self, report: &mut Report) -> NotedEntry {
         let before = expires(report);
         report.desk.take(&self.0);
         report.case.take(self.0);
-        Expiries {
+        NotedEntry {
             before,
             after: expires(report),
+            has_requests: report.desk.len() != 0,
         }
     }
 }

@@ -14,7 +14,7 @@ use Rattle.wb_model.specs.Tenants.{Tenancy, Hosts}
 use Rattle.std.specs.Ordering.{nat_cmp}
 use Rattle.wb_list.specs.Keyed.{IsAscending}
 use Rattle.wb_tables.specs.declared.counts.Counts.{Counts as DeskCounts}
-use Rattle.wb_tables.specs.Kept.{Place as Kept, tenancy_of}
+use Rattle.wb_tables.specs.Kept.{PlainTenancy as Kept, tenancy_of}
 use Rattle.wb_tables.specs.Standing.{Standing, hosts_of, counts_of as desk_counts}
 use Rattle.wb_desk.specs.Turns.{StandsFor}
 use Rattle.whistle.specs.declared.answering.Answer.{Answer}

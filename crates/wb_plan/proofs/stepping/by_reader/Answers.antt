@@ -16,7 +16,7 @@ returns-in_ok-told-in-ReadIdentity-clause-step c =
     let x = place_of c.args.tenancy.now in
     let case = case_of c.args.report.now in
     identity_step c.args.tenancy.now.configuration.tenant (purged c.args.at.now.time (tables_of c.args.sealed.now.items x)) (at_of c.args.at.now) c.args.asked.now c.args.user case (answers_of c.args.sealed.now.items c.args.tenancy.now.configuration.tenant c.args.report.now.number) c.in-ReadIdentity.t c.in-ReadIdentity.n
-    c.in_ok-told-in-ReadIdentity.told c.telling-in-ReadIdentity.result c.in-ReadIdentity.is (sealed_there c.args.at.now.time c.args.sealed.now.items x c.args.report.now.number case c.requires.there) c.in_ok-told-in-ReadIdentity.ensures c.telling-in-ReadIdentity.ensures
+    c.in_ok-told-in-ReadIdentity.told c.telling-in-ReadIdentity.result c.in-ReadIdentity.is (sealed_there c.args.at.now.time c.args.sealed.now.items x c.args.report.now.number case c.requires.there) c.in_ok-told-in-ReadIdentity.ensures.shown c.telling-in-ReadIdentity.ensures
 
 pub returns-in_ok-asking-in-Ask-clause-step : goal.returns-in_ok-asking-in-Ask-clause-step
 returns-in_ok-asking-in-Ask-clause-step c =

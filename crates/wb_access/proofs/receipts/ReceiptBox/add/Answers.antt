@@ -1,11 +1,14 @@
-use Rattle.std.proofs.Common.{ap, sym, ◌∙◌}
+use Rattle.std.proofs.Common.{Some, cond, ap, sym, ◌∙◌}
+use Rattle.std.specs.Map.{lookup}
 use Rattle.wb_list.specs.Room.{Room}
-use Rattle.wb_access.proofs.Ties.{receipt-found, receipt-after}
+use Rattle.wb_access.specs.Receipts.{Receipt, number_of, entry_key}
+use Rattle.wb_access.proofs.ReceiptTables.{eq_key, found, on_ok}
 use Rattle.wb_access.proofs.receipts.ReceiptBox.add.Goals as goal
-
-pub add-requires-clause-free : goal.add-requires-clause-free
-add-requires-clause-free c = sym (receipt-found c.args.tenant c.args.digest c.self.inside.receipts.items) ∙ rw (← ap (λ (r : Room _). r.items) c.self.view_is) at c.requires.free
 
 pub returns-clause-found : goal.returns-clause-found
 returns-clause-found c t d =
-    rw (← ap (λ (r : Room _). r.items) c.self.view_is) (receipt-after t d (record { tenant = c.args.tenant; digest = c.args.digest; number = c.args.number }) c.self.inside.receipts.items c.add.new.self.items (c.add.ensures.found (t, d)))
+    let put = on_ok _ _ c.unwrap.ensures c.insert-added.ensures.updates in
+    found t d _ ∙ (put.0 (entry_key t d)
+    ∙ (ap (λ k. cond (eq_key k (entry_key t d)) (Some c.args.number) (lookup (eq_key (entry_key t d)) c.self.inside.numbers.entries)) c.key.ensures
+    ∙ (ap (λ o. cond (eq_key (entry_key c.args.tenant c.args.digest) (entry_key t d)) (Some c.args.number) o) (sym (found t d c.self.inside.numbers.entries))
+    ∙ ap (λ (r : Room Receipt). cond (eq_key (entry_key c.args.tenant c.args.digest) (entry_key t d)) (Some c.args.number) (number_of t d r.items)) c.self.view_is)))

@@ -1,8 +1,9 @@
 use Rattle.std.proofs.Common.{◌≡◌, ◌<◌, ◌++◌, ◌∷◌, [], ℕ, List, map, sym, ap, ◌∙◌, subst}
 use Rattle.wb_model.specs.Opened.{AtMost}
-use Rattle.wb_tables.specs.Indexed.{Reports, IsIndexed, AreCustodied}
+use Rattle.wb_tables.specs.Indexed.{Reports, IsIndexed, AreCustodied, AreAsked}
 use Rattle.wb_tables.specs.Lives.{case_of}
 use Rattle.wb_tables.specs.Receipted.{AreReceipted, HasOwnReceipt}
+use Rattle.wb_tables.proofs.AskedReports.{asked_more}
 use Rattle.wb_tables.proofs.CaseLists.{absent_above, insert_above, map_push}
 use Rattle.wb_tables.proofs.Indexes.{free_term, indexed_more}
 use Rattle.wb_tables.proofs.NotedReports.{custodied_pushed}
@@ -37,7 +38,9 @@ invariant_of-self c =
           (indexed_more c.self.inside.tenant a.0 (map case_of c.self.inside.cases.items) c.self.inside.terms.items c.add-2.new.self.items (case_of c.args.report) c.self.invariant.0 a.1.0 a.1.1 (begun_by c.args.report.case.items c.requires.submitted) (rw c.expiry-term.ensures at c.add-2.ensures.found)),
       subst AreCustodied (sym more) (custodied_pushed c.self.inside.cases.items c.args.report c.self.invariant.1 c.requires.custodied),
       subst (λ (cs : List _). AreReceipted c.self.inside.tenant cs c.add-3.new.self.items) (sym (ap (map case_of) more ∙ map_push c.self.inside.cases.items c.args.report))
-          (receipted_more c.self.inside.tenant (map case_of c.self.inside.cases.items) c.self.inside.receipts.items c.add-3.new.self.items (case_of c.args.report) c.in-Some.digest c.self.invariant.2 (given_is c.as_slice.result.now c.args.report.case.items c.in-Some.digest (c.as_slice.ensures ∙ c.trail.ensures) c.requires.submitted c.in-Some.ensures) own c.add-3.ensures.items c.add-3.ensures.found),
+          (receipted_more c.self.inside.tenant (map case_of c.self.inside.cases.items) c.self.inside.receipts.items c.add-3.new.self.items (case_of c.args.report) c.in-Some.digest c.self.invariant.2 (given_is c.as_slice.result.now c.args.report.case.items c.in-Some.digest (c.as_slice.ensures ∙ c.trail.ensures) c.requires.submitted c.in-Some.ensures) own c.add-3.ensures.found),
+      subst (λ (cs : List _). AreAsked cs c.put_asked.new.index.items) (sym (ap (map case_of) more ∙ map_push c.self.inside.cases.items c.args.report))
+          (asked_more a.0 (map case_of c.self.inside.cases.items) c.self.inside.asked.items c.put_asked.new.index.items c.args.report c.len-has_requests.result c.self.invariant.3 c.requires.custodied a.1.0 a.1.1 c.len-has_requests.ensures c.put_asked.ensures.items),
     )
 
 pub returns-clause-items : goal.returns-clause-items

@@ -1,6 +1,7 @@
 use Rattle.std.proofs.Common.{map, ap, sym, ◌∙◌, subst}
 use Rattle.wb_tables.specs.Indexed.{Reports, IsTakenOut}
 use Rattle.wb_tables.specs.Lives.{case_of}
+use Rattle.wb_tables.proofs.AskedReports.{asked_left}
 use Rattle.wb_tables.proofs.Indexes.{taken, all_live, left_cases, left_reports, left_custodied}
 use Rattle.wb_tables.proofs.ReceiptTables.{receipted_left}
 use Rattle.wb_tables.proofs.cases.Cases.take_expired.Goals as goal
@@ -17,7 +18,8 @@ invariant_of-self c =
     let cases = left_cases t.number c.self.inside.cases.items c.take.new.self.items left in (
       rw (cases, c.remove.ensures.items) gone.1,
       left_custodied t.number c.self.inside.cases.items c.take.new.self.items left c.self.invariant.1,
-      rw (cases, c.remove-2.ensures.items) (receipted_left c.self.inside.tenant t.number (map case_of c.self.inside.cases.items) c.self.inside.receipts.items c.self.invariant.2),
+      rw cases (receipted_left c.self.inside.tenant t.number (map case_of c.self.inside.cases.items) c.self.inside.receipts.items c.remove-2.new.self.items c.self.invariant.2 c.remove-2.ensures.found),
+      rw cases (asked_left t.number (map case_of c.self.inside.cases.items) c.self.inside.asked.items c.take-2.new.self.items (rw c.get-2.ensures.value at c.take-2.ensures.others) c.self.invariant.3),
     )
 
 pub returns-clause-taken : goal.returns-clause-taken
