@@ -7,11 +7,11 @@ ghost use Rattle.wb_kept.specs.Turned.{Turned};
 use std::marker::Model;
 use std::sync::ledger::Ledger;
 use wb_base::{Keeper, Moment, Words};
-use wb_kept::{Kept, Pass};
+use wb_kept::{Kept, Origin, Pass};
 use wb_model::{Asked, Told};
 
 /// What is done with a host, and a pass to it, in one go.
-pub trait Job<K: Keeper, A: Ledger, B: Ledger> {
+pub trait Job<K: Keeper, A: Origin, B: Ledger> {
     /// Its answer.
     type Told;
 
@@ -59,7 +59,7 @@ impl Turn {
     }
 }
 
-impl<K: Keeper, A: Ledger, B: Ledger> Job<K, A, B> for Turn {
+impl<K: Keeper, A: Origin, B: Ledger> Job<K, A, B> for Turn {
     type Told = Told;
 
     ghost does = { λ job host pass host' pass' told. Turned job host pass host' pass' told };

@@ -1,6 +1,8 @@
 //! A gate that is a lock.
-ghost use Rattle.std.specs.Prelude.{◌≡◌, ◌≢◌, IfOk, IfErr, IsOk};
+ghost use Rattle.std.specs.Prelude.{◌≡◌, ◌≢◌, ◌+◌, IfOk, IfErr, IsOk};
+ghost use Rattle.wb_kept.specs.GoneOn.{IsLater};
 ghost use Rattle.wb_kept.specs.Hosted.{Hosted, Hand, parts_of, turns_of, numbers_drawn};
+ghost use Rattle.wb_model.specs.Drawn.{numbers_of};
 ghost use Rattle.wb_model.specs.Rows.{rows_of};
 ghost use Rattle.wb_tables.specs.Standing.{hosts_of};
 
@@ -9,15 +11,15 @@ use crate::job::Job;
 use std::sync::ledger::Ledger;
 use std::sync::{Mutex, Wait};
 use wb_base::Keeper;
-use wb_kept::{Closed, Kept, KeptBack, Pass, Tally};
+use wb_kept::{Closed, Kept, KeptBack, Origin, Pass, Tally};
 
 /// A host under a lock: one job at a time is in.
 #[derive(Drop)]
-pub struct LockGate<K: Keeper, A: Ledger, B: Ledger> {
+pub struct LockGate<K: Keeper, A: Origin, B: Ledger> {
     host: Mutex<Kept<K, A, B>>,
 }
 
-impl<K: Keeper, A: Ledger, B: Ledger> LockGate<K, A, B> {
+impl<K: Keeper, A: Origin, B: Ledger> LockGate<K, A, B> {
     /// Puts a host under a lock.
     pub fn over(kept: Kept<K, A, B>) -> LockGate<K, A, B> {
         LockGate {
@@ -26,18 +28,21 @@ impl<K: Keeper, A: Ledger, B: Ledger> LockGate<K, A, B> {
     }
 }
 
-impl<K: Keeper, A: Ledger, B: Ledger, J: Job<K, A, B>> Gate<K, A, B, J> for LockGate<K, A, B> {
-    ghost ran = { λ share job told. (host : Hosted) × (pass : Hand) × (host' : Hosted) × (pass' : Hand) × (pass.turns ≡ share) × J.does job host pass host' pass' told };
+impl<K: Keeper, A: Origin, B: Ledger, J: Job<K, A, B>> Gate<K, A, B, J> for LockGate<K, A, B> {
+    ghost ran = { λ share job told. (host : Hosted) × (pass : Hand) × (host' : Hosted) × (pass' : Hand) × (host.opened ≡ A.desk) × (pass.turns ≡ share) × J.does job host pass host' pass' told };
 
     fn enter<R: Wait>(&self, rt: &R, pass: &mut Pass<A, B>, job: J) -> J::Told {
         let mut kept = self.host.lock(rt);
-        job.run(&mut *kept, pass)
+        kept.is_whole();
+        let told = job.run(&mut *kept, pass);
+        kept.is_whole();
+        told
     }
 }
 
 /// A host and passes to it, which do not add up to its books.
 #[derive(Drop)]
-pub struct NotAll<K: Keeper, A: Ledger, B: Ledger> {
+pub struct NotAll<K: Keeper, A: Origin, B: Ledger> {
     pub gate: LockGate<K, A, B>,
     pub passes: Vec<Pass<A, B>>,
     /// The two books.
@@ -48,12 +53,15 @@ pub struct NotAll<K: Keeper, A: Ledger, B: Ledger> {
 
 /// Takes the host out of its lock and apart where the passes' shares add up to its books, and else gives all back. They do where the
 /// passes have all the parts of the ledgers.
-pub fn close<K: Keeper, A: Ledger, B: Ledger>(
+pub fn close<K: Keeper, A: Origin, B: Ledger>(
     gate: LockGate<K, A, B>,
     passes: Vec<Pass<A, B>>,
 ) -> Result<Closed<K>, NotAll<K, A, B>>
     ensures ok { IfOk result (λ c. (c.turns ≡ turns_of passes.items) × (c.numbers ≡ numbers_drawn passes.items)) }
     ensures kept { IfOk result (λ c. K.honest c.keeper → K.holds c.keeper (rows_of (hosts_of c.desk).list)) }
+    // The host is the one that was opened, gone on by the turns of its book.
+    ensures opened { IfOk result (λ c. (c.desk.turns ≡ A.desk.turns + c.turns) × (numbers_of (hosts_of c.desk) ≡ numbers_of (hosts_of A.desk) + c.numbers) × IsLater A.desk c.turns c.desk) }
+    ensures honest { IfOk result (λ c. K.honest c.keeper → A.honest) }
     ensures back { IfErr result (λ k. k.passes.items ≡ passes.items) }
     ensures sums { IfErr result (λ k. (k.sum.turns ≡ turns_of passes.items) × (k.sum.numbers ≡ numbers_drawn passes.items)) }
     ensures differ { IfErr result (λ k. k.sum.turns ≡ k.book.turns → k.sum.numbers ≢ k.book.numbers) }

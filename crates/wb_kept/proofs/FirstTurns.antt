@@ -5,7 +5,6 @@ use Rattle.wb_model.specs.declared.body.Told.{Told}
 use Rattle.wb_model.specs.Past.{Past}
 use Rattle.wb_model.specs.Pasts.{AllOpened, standing_hosts, reply_in, with_turn}
 use Rattle.wb_model.specs.Readings.{Asks}
-use Rattle.wb_model.specs.Refusals.{no_memory, keeper_failed}
 use Rattle.wb_model.specs.Requests.{Frame}
 use Rattle.wb_model.specs.Scripts.{Loss, NotLost, ByKeeper, ByMemory, Unread, Place, Reply, play_asked, script_replies, past_after}
 use Rattle.wb_model.specs.ScriptsAlike.{PlacesAlike, FollowWhere, is_accepted, hidden_replies}

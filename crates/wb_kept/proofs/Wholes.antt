@@ -1,12 +1,11 @@
 -- A host is whole between any two turns.
-use Rattle.std.proofs.Common.{◌≡◌, ℕ, Bool, true, false, cond, nat_eq, List, [], ◌∷◌, ◌++◌, map, refl, sym, ap, ◌∙◌, subst, arith}
+use Rattle.std.proofs.Common.{◌≡◌, ℕ, Bool, true, false, cond, nat_eq, List, [], ◌∷◌, map, refl, sym, ap, subst, arith}
 use Rattle.std.specs.Prelude.{◌==◌, ◌||◌, max, is_some}
 use Rattle.std.specs.List.{list_any}
 use Rattle.std.proofs.lemmas.Bool.Decides.{nat_tests}
 use Rattle.wb_model.specs.declared.event.What.{What}
 use Rattle.wb_model.specs.declared.event.What.TheVariants.{Did, Gap, Idle, Lost}
 use Rattle.wb_model.specs.ByVerdicts.{AreByVerdicts}
-use Rattle.wb_model.specs.Host.{Tables}
 use Rattle.wb_model.specs.Legal.{AreLegal}
 use Rattle.wb_model.specs.Opened.{AreOpened, Opened, entries_of}
 use Rattle.wb_model.specs.Openings.{empty_tables, no_settings}
@@ -14,7 +13,6 @@ use Rattle.wb_model.specs.Past.{Past, Opening, Turn, now, registry, held}
 use Rattle.wb_model.specs.Pasts.{AllOpened, part, tenants, has_tenant, time, held_tenancy, standing_hosts}
 use Rattle.wb_model.specs.Reopened.{left_time, left_tables, without_sessions}
 use Rattle.wb_model.specs.Tables.{report}
-use Rattle.wb_model.specs.Tenants.{Tenancy, Hosts}
 use Rattle.wb_model.specs.Trails.{has_identity}
 use Rattle.wb_kept.specs.Whole.{IsWholeAt, AreWhole}
 

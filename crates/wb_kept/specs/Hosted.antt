@@ -4,28 +4,25 @@ use Rattle.wb_base.specs.declared.rows.Row.{Row}
 use Rattle.wb_model.specs.Drawn.{numbers_of}
 use Rattle.wb_model.specs.Rows.{rows_of}
 use Rattle.wb_tables.specs.Standing.{Standing, hosts_of}
-use Rattle.wb_kept.specs.declared.tally.Tally.{Tally}
+use Rattle.wb_kept.specs.GoneOn.{IsLater}
 
--- a host: its desk, how many turns and numbers it had when its books were opened, the two books since, and how often its keeper failed
+-- a host: its desk, the desk over which its books were opened, the two books since, and how often its keeper failed
 pub record Hosted : Type 0 where
   pub desk : Standing
-  pub first : Tally
+  pub opened : Standing
   pub turns : ℕ
   pub numbers : ℕ
   pub faults : ℕ
 
--- how many turns a desk made, and how many numbers it drew
-abbrev pub tally_of : Standing → Tally
-tally_of d = record { turns = d.turns; numbers = numbers_of (hosts_of d) }
-
--- a desk has made the turns that stood first and those of the book, and drawn the numbers that stood first and those of the book; and an
--- honest keeper holds its rows
-pub record IsBooked (d : Standing) (first : Tally) (turns numbers : ℕ) (honest : Type 0) (holds : List Row → Type 0) : Type 0 where
-  pub turns_add_up : d.turns ≡ first.turns + turns
-  pub numbers_add_up : numbers_of (hosts_of d) ≡ first.numbers + numbers
+-- a desk has made the turns that stood when the books were opened and those of the book, and drawn the numbers that stood then and those of
+-- the book; an honest keeper holds its rows; and it is the desk over which they were opened, gone on by the turns of the book
+pub record IsBooked (d opened : Standing) (turns numbers : ℕ) (honest : Type 0) (holds : List Row → Type 0) : Type 0 where
+  pub turns_add_up : d.turns ≡ opened.turns + turns
+  pub numbers_add_up : numbers_of (hosts_of d) ≡ numbers_of (hosts_of opened) + numbers
   pub most : d.turns ≤ 1_000_000_000_000_000
   pub few : numbers ≤ turns
   pub kept : honest → holds (rows_of (hosts_of d).list)
+  pub later : IsLater opened turns d
 
 -- a pass: its parts, and its shares of the two books
 pub record Hand : Type 0 where

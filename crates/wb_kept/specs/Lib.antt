@@ -1,3 +1,4 @@
+pub mod GoneOn
 pub mod Hosted
 pub mod Turned
 pub mod Whole

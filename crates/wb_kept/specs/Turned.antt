@@ -13,6 +13,7 @@ use Rattle.wb_tables.specs.Standing.{Standing, hosts_of}
 use Rattle.wb_desk.specs.Desks.{HasPast}
 use Rattle.wb_desk.specs.Kept.{Took}
 use Rattle.wb_desk.specs.Turns.{IsGone, StandsFor}
+use Rattle.wb_kept.specs.GoneOn.{IsLater}
 use Rattle.wb_kept.specs.Hosted.{Hosted, Hand}
 
 -- ---- what is said of the desk
@@ -66,10 +67,12 @@ raised f told p = record { parts = p.parts; turns = turns_with told p.turns; num
 pub record Turned (f : Frame) (h : Hosted) (p : Hand) (h' : Hosted) (p' : Hand) (told : Told) : Type 0 where
   -- the host stands for a past that verdicts made
   pub stands : HasPast (hosts_of h.desk)
+  -- and is the one that was opened, gone on by the turns of its book
+  pub gone_on : IsLater h.opened h.turns h.desk
   pub made : h.desk.turns < 1_000_000_000_000_000 → IsStep h.faults h'.faults (hosts_of h.desk) f told (hosts_of h'.desk)
   pub spent : 1_000_000_000_000_000 ≤ h.desk.turns → IsLeftSpent h.faults h'.faults h.desk told h'.desk
   pub later : h.faults ≤ h'.faults
-  pub first : h'.first ≡ h.first
+  pub opened : h'.opened ≡ h.opened
   pub turns : h'.turns ≡ turns_with told h.turns
   pub numbers : h'.numbers ≡ numbers_with f told h.numbers
   pub pass : p' ≡ raised f told p

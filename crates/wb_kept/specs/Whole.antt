@@ -7,6 +7,7 @@ use Rattle.wb_model.specs.Tables.{report}
 use Rattle.wb_model.specs.Tenants.{Tenancy}
 use Rattle.wb_model.specs.Trails.{has_identity}
 use Rattle.wb_tables.specs.Standing.{hosts_of}
+use Rattle.wb_kept.specs.GoneOn.{IsLater}
 use Rattle.wb_kept.specs.Hosted.{Hosted}
 
 -- a tenant's trails are legal at a moment, and identity answers stand exactly where its reports' trails say that some were given
@@ -18,8 +19,9 @@ abbrev pub AreWhole : ℕ → List Tenancy → Type 0
 AreWhole now [] = Unit {0}
 AreWhole now (x ∷ xs) = IsWholeAt now x × AreWhole now xs
 
--- so it is with each tenant, and the books add up
+-- so it is with each tenant, the books add up, and the host is the one that was opened, gone on by the turns of its book
 pub record IsWhole (h : Hosted) : Type 0 where
   pub tenants : AreWhole h.desk.time (hosts_of h.desk).list
-  pub turns : h.desk.turns ≡ h.first.turns + h.turns
-  pub numbers : numbers_of (hosts_of h.desk) ≡ h.first.numbers + h.numbers
+  pub turns : h.desk.turns ≡ h.opened.turns + h.turns
+  pub numbers : numbers_of (hosts_of h.desk) ≡ numbers_of (hosts_of h.opened) + h.numbers
+  pub gone_on : IsLater h.opened h.turns h.desk

@@ -1,10 +1,13 @@
 //! A host is taken apart where the passes that come back account for its books.
-ghost use Rattle.std.specs.Prelude.{◌≡◌, ◌≢◌, ◌⊎◌, IfOk, IfErr, IsOk};
+ghost use Rattle.std.specs.Prelude.{◌≡◌, ◌≢◌, ◌+◌, ◌⊎◌, IfOk, IfErr, IsOk};
+ghost use Rattle.wb_model.specs.Drawn.{numbers_of};
 ghost use Rattle.wb_model.specs.Rows.{rows_of};
 ghost use Rattle.wb_tables.specs.Standing.{hosts_of};
+ghost use Rattle.wb_kept.specs.GoneOn.{IsLater};
 ghost use Rattle.wb_kept.specs.Hosted.{parts_of, turns_of, numbers_drawn};
 
 use crate::kept::Kept;
+use crate::origin::Origin;
 use crate::pass::Pass;
 use crate::sums::sum_shares;
 use crate::tally::Tally;
@@ -23,7 +26,7 @@ pub struct Closed<K: Keeper> {
 
 /// A host and its passes, which do not add up to the books.
 #[derive(Drop)]
-pub struct KeptBack<K: Keeper, A: Ledger, B: Ledger> {
+pub struct KeptBack<K: Keeper, A: Origin, B: Ledger> {
     pub kept: Kept<K, A, B>,
     pub passes: Vec<Pass<A, B>>,
     /// The two books.
@@ -32,13 +35,15 @@ pub struct KeptBack<K: Keeper, A: Ledger, B: Ledger> {
     pub sum: Tally,
 }
 
-impl<K: Keeper, A: Ledger, B: Ledger> Kept<K, A, B> {
+impl<K: Keeper, A: Origin, B: Ledger> Kept<K, A, B> {
     /// Takes the host apart where the passes' shares add up to the books, and else gives all back. They do where the passes have all
     /// the parts of the ledgers.
     pub fn close(self, passes: Vec<Pass<A, B>>) -> Result<Closed<K>, KeptBack<K, A, B>>
         ensures ok { IfOk result (λ c. (c.turns ≡ self.turns) × (c.numbers ≡ self.numbers) × (turns_of passes.items ≡ self.turns) × (numbers_drawn passes.items ≡ self.numbers)) }
         ensures desk { IfOk result (λ c. (c.desk ≡ self.desk) × (K.count c.keeper ≡ self.faults)) }
         ensures kept { IfOk result (λ c. K.honest c.keeper → K.holds c.keeper (rows_of (hosts_of c.desk).list)) }
+        ensures opened { IfOk result (λ c. (c.desk.turns ≡ A.desk.turns + c.turns) × (numbers_of (hosts_of c.desk) ≡ numbers_of (hosts_of A.desk) + c.numbers) × IsLater A.desk c.turns c.desk) }
+        ensures honest { IfOk result (λ c. K.honest c.keeper → A.honest) }
         ensures back { IfErr result (λ k. (k.kept ≡ self) × (k.passes.items ≡ passes.items)) }
         ensures sums { IfErr result (λ k. (k.book.turns ≡ self.turns) × (k.book.numbers ≡ self.numbers) × (k.sum.turns ≡ turns_of passes.items) × (k.sum.numbers ≡ numbers_drawn passes.items)) }
         ensures differ { IfErr result (λ k. k.sum.turns ≡ k.book.turns → k.sum.numbers ≢ k.book.numbers) }

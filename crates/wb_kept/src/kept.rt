@@ -4,12 +4,11 @@ ghost use Rattle.wb_model.specs.Drawn.{is_accepted as accepted};
 ghost use Rattle.wb_model.specs.Fits.{fits};
 ghost use Rattle.wb_model.specs.Rows.{rows_of};
 ghost use Rattle.wb_tables.specs.Standing.{hosts_of};
-ghost use Rattle.wb_kept.specs.Hosted.{tally_of};
 ghost use Rattle.wb_kept.specs.Turned.{Turned};
 ghost use Rattle.wb_kept.specs.Whole.{IsWhole};
 
+use crate::origin::Origin;
 use crate::pass::Pass;
-use crate::tally::Tally;
 use std::marker::Model;
 use std::sync::ledger::{Blank, Book, Ledger, Share};
 use wb_base::{Keeper, Moment, Words};
@@ -23,12 +22,14 @@ use wb_model::{
 /// How many turns a host makes.
 const TURNS: u64 = 1_000_000_000_000_000;
 
-/// A desk and its keeper, with the book of its turns (A) and that of the numbers that it drew (B).
+/// A desk and its keeper, with the book of its turns (A) and that of the numbers that it drew (B). Its type says over which desk they were
+/// opened.
 #[derive(Drop)]
-pub struct Kept<K: Keeper, A: Ledger, B: Ledger> {
+pub struct Kept<K: Keeper, A: Origin, B: Ledger> {
     pub(crate) desk: Desk,
     pub(crate) keeper: K,
-    pub(crate) first: Tally,
+    // The turns that the desk had made when its books were opened.
+    pub(crate) first: u64,
     pub(crate) turns: u64,
     pub(crate) numbers: u64,
     pub(crate) turn_book: Book<A>,
@@ -38,15 +39,15 @@ pub struct Kept<K: Keeper, A: Ledger, B: Ledger> {
     pub(crate) number_mark: Share<B>,
 }
 
-impl<K: Keeper, A: Ledger, B: Ledger> Model for Kept<K, A, B> {
+impl<K: Keeper, A: Origin, B: Ledger> Model for Kept<K, A, B> {
     ghost use Rattle.std.specs.Prelude.{◌≡◌};
     ghost use Rattle.wb_kept.specs.Hosted.{Hosted, IsBooked};
 
     ghost Value = { Hosted };
 
-    ghost view = { λ k. record { desk = k.desk; first = k.first; turns = k.turns; numbers = k.numbers; faults = K.count k.keeper } };
+    ghost view = { λ k. record { desk = k.desk; opened = A.desk; turns = k.turns; numbers = k.numbers; faults = K.count k.keeper } };
 
-    ghost invariant = { λ k. (k.turn_book.total ≡ k.turns) × (k.number_book.total ≡ k.numbers) × (k.turn_mark.parts ≡ 0) × (k.turn_mark.amount ≡ 0) × (k.number_mark.parts ≡ 0) × (k.number_mark.amount ≡ 0) × IsBooked k.desk k.first k.turns k.numbers (K.honest k.keeper) (K.holds k.keeper) };
+    ghost invariant = { λ k. (k.turn_book.total ≡ k.turns) × (k.number_book.total ≡ k.numbers) × (k.turn_mark.parts ≡ 0) × (k.turn_mark.amount ≡ 0) × (k.number_mark.parts ≡ 0) × (k.number_mark.amount ≡ 0) × IsBooked k.desk A.desk k.turns k.numbers (K.honest k.keeper) (K.holds k.keeper) × (k.first ≡ A.desk.turns) × (K.honest k.keeper → A.honest) };
 }
 
 // Whether a submission was asked and accepted.
@@ -63,7 +64,7 @@ fn one_if(counts: bool) -> u64
     if counts { 1 } else { 0 }
 }
 
-impl<K: Keeper, A: Ledger, B: Ledger> Kept<K, A, B> {
+impl<K: Keeper, A: Origin, B: Ledger> Kept<K, A, B> {
     /// A host over new ledgers, and the pass with all their parts. Its books are opened, and hold nothing yet.
     pub fn new(
         desk: Desk,
@@ -74,9 +75,11 @@ impl<K: Keeper, A: Ledger, B: Ledger> Kept<K, A, B> {
     ) -> (Kept<K, A, B>, Pass<A, B>)
         requires some { 1 ≤ parts }
         requires kept { K.honest keeper → K.holds keeper (rows_of (hosts_of desk).list) }
+        requires desk { A.desk ≡ desk }
+        requires honest { K.honest keeper → A.honest }
         requires turns { (turns.name ≡ A.name) × (turns.parts ≡ A.parts) × (turns.parts ≡ parts) }
         requires numbers { (numbers.name ≡ B.name) × (numbers.parts ≡ B.parts) × (numbers.parts ≡ parts) }
-        ensures host { result.0 ≡ record { desk = desk; first = tally_of desk; turns = 0; numbers = 0; faults = K.count keeper } }
+        ensures host { result.0 ≡ record { desk = desk; opened = desk; turns = 0; numbers = 0; faults = K.count keeper } }
         ensures pass { result.1 ≡ record { parts = parts; turns = 0; numbers = 0 } }
     {
         let (turn_book, mut turn_share) = turns.open::<A>();
@@ -84,11 +87,7 @@ impl<K: Keeper, A: Ledger, B: Ledger> Kept<K, A, B> {
         let turn_mark = turn_share.empty();
         let number_mark = number_share.empty();
         desk.stands();
-        let counts = desk.counts();
-        let first = Tally {
-            turns: counts.turns,
-            numbers: counts.numbers,
-        };
+        let first = desk.counts().turns;
         (
             Kept {
                 desk,
@@ -120,7 +119,8 @@ impl<K: Keeper, A: Ledger, B: Ledger> Kept<K, A, B> {
 
     /// What holds of a host between any two turns.
     pub fn is_whole(&self)
-        ensures { IsWhole self.now }
+        ensures whole { IsWhole self.now }
+        ensures opened { self.now.opened ≡ A.desk }
     {
         a_host_opens_again();
         verdicts_keep_trails_legal();
@@ -145,7 +145,7 @@ impl<K: Keeper, A: Ledger, B: Ledger> Kept<K, A, B> {
         self.desk.stands();
         self.turn_book.audit(&mut pass.turn_share);
         self.number_book.audit(&mut pass.number_share);
-        let made = one_if(self.first.turns + self.turns < TURNS);
+        let made = one_if(self.first + self.turns < TURNS);
         let told = self.desk.step(&mut self.keeper, asked, moment, words);
         let drawn = one_if(is_accepted(asked, &told));
         self.turn_book.add(&mut pass.turn_share, made);

@@ -4,11 +4,13 @@
 
 mod closing;
 mod kept;
+mod origin;
 mod pass;
 mod sums;
 mod tally;
 
 pub use closing::{Closed, KeptBack};
 pub use kept::Kept;
+pub use origin::Origin;
 pub use pass::Pass;
 pub use tally::Tally;

@@ -1,5 +1,4 @@
-use Rattle.std.proofs.Common.{ap, ◌∙◌, sym, subst}
-use Rattle.wb_model.specs.Pasts.{standing_hosts}
+use Rattle.std.proofs.Common.{ap, sym, subst}
 use Rattle.wb_model.specs.Tenants.{Hosts}
 use Rattle.wb_tables.specs.Standing.{hosts_of}
 use Rattle.wb_kept.specs.Hosted.{Hosted}
@@ -12,4 +11,7 @@ returns g c =
     let past = c.stands.ensures.past in
     let whole : AreWhole c.self.inside.desk.time (hosts_of c.self.inside.desk).list =
     subst (λ (h : Hosts). AreWhole h.now h.list) (sym past.stands) (whole_hosts past.past past.verdicts (c.a_host_opens_again.ensures.opened past.past past.verdicts) c.verdicts_keep_trails_legal.ensures.held) in
-    subst IsWhole c.self.view_is (record { tenants = whole; turns = c.self.invariant.6.turns_add_up; numbers = c.self.invariant.6.numbers_add_up })
+    record {
+      whole = subst IsWhole c.self.view_is (record { tenants = whole; turns = c.self.invariant.6.turns_add_up; numbers = c.self.invariant.6.numbers_add_up; gone_on = c.self.invariant.6.later });
+      opened = sym (ap (λ (h : Hosted). h.opened) c.self.view_is);
+    }
