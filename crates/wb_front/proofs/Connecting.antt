@@ -66,7 +66,7 @@ module _ (Ran : ℕ → Frame → Told → Type 0) (a : Sides) (left got : Optio
   refused fault result left2 got2 before now cut stays (inr h) =
       subst (λ l. IsEnded Ran a (record { left = l; got = got2; moments = moments; share = share }) result) (sym stays)
       (subst (IsEnded Ran a (record { left = left'; got = got2; moments = moments; share = share })) (sym h.0)
-      (xs, held', (record { exchanges = served.exchanges; share_is = served.share_is; bytes = served.bytes; turns = served.turns }, record { before = replies xs; last = reply_bytes (refusal fault true); is_last = inr (fault, cut, room, refl, refl); part = h.2.0; rest = h.2.1; cut = h.2.2; sent = refused_more a read xs h.2.0 got2 sent h.2.3 }), within))
+      (xs, held', (record { exchanges = served.exchanges; share_is = served.share_is; bytes = served.bytes; turns = served.turns }, record { before = replies xs; last = reply_bytes (refusal fault true); is_last = inr (fault, cut, yet.stay, room, refl, refl); part = h.2.0; rest = h.2.1; cut = h.2.2; sent = refused_more a read xs h.2.0 got2 sent h.2.3 }), within))
 
   -- a request was answered
   module _ (size : ℕ) (cut : IsCut held' (Cuts (take size held') (drop size held'))) (bytes : List ℕ) (is : bytes ≡ take size held') (answer : Answer) (tick : Option Tick) (share' : ℕ) (moments' : Option (List Tick))
@@ -90,7 +90,7 @@ module _ (Ran : ℕ → Frame → Told → Type 0) (a : Sides) (left got : Optio
 
     -- its reply was cut off
     pub write_cut : AppendsFront got' got2 (reply_bytes (said (length xs) (reply_of answer))) → IsEnded Ran a after ended.WriteFault
-    write_cut off = (xs ++ exchange ∷ [], drop size held', (served_on, record { before = replies xs; last = reply_bytes (said (length xs) (reply_of answer)); is_last = inl (xs, exchange, refl, refl, refl); part = off.0; rest = off.1; cut = off.2; sent = refused_more a read xs off.0 got2 sent off.3 }), more_within)
+    write_cut off = (xs ++ exchange ∷ [], drop size held', (served_on, record { before = replies xs; last = reply_bytes (said (length xs) (reply_of answer)); is_last = inl (xs, exchange, refl, yet.stay, refl, refl); part = off.0; rest = off.1; cut = off.2; sent = refused_more a read xs off.0 got2 sent off.3 }), more_within)
 
     -- its reply was sent
     module _ (all : Appends got' got2 (reply_bytes (said (length xs) (reply_of answer)))) where

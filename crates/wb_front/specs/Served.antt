@@ -144,7 +144,8 @@ pub record ClosesLast (xs : List Exchange) (x : Exchange) : Type 0 where
 abbrev pub AsksNext : List ℕ → Type 0
 AsksNext held = (request : List ℕ) × (rest : List ℕ) × (held ≡ request ++ rest) × ((asked : Asked) × Reads request (Asks asked))
 
--- what is to be sent last, and all replies before it: the reply to the last exchange, or the refusal of what follows
+-- what is to be sent last, and all replies before it, none of which closes the connection: the reply to the last exchange, or the refusal of
+-- what follows
 abbrev pub IsSentLast : List Exchange → List ℕ → List ℕ → List ℕ → Type 0
-IsSentLast xs held before last = ((front : List Exchange) × (x : Exchange) × (xs ≡ front ++ x ∷ []) × (before ≡ replies front) × (last ≡ reply_bytes (said (length front) x.reply)))
-    ⊎ ((fault : WireFault) × IsCut held (Ends fault) × (length xs < 1000) × (before ≡ replies xs) × (last ≡ reply_bytes (refusal fault true)))
+IsSentLast xs held before last = ((front : List Exchange) × (x : Exchange) × (xs ≡ front ++ x ∷ []) × StayOpen front × (before ≡ replies front) × (last ≡ reply_bytes (said (length front) x.reply)))
+    ⊎ ((fault : WireFault) × IsCut held (Ends fault) × StayOpen xs × (length xs < 1000) × (before ≡ replies xs) × (last ≡ reply_bytes (refusal fault true)))

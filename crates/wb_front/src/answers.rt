@@ -13,7 +13,7 @@ use std::sync::Wait;
 use std::sync::ledger::Ledger;
 use wb_base::{Failed, Keeper};
 use wb_gate::{Gate, Turn};
-use wb_kept::Pass;
+use wb_kept::{Origin, Pass};
 use wb_links::{Link, Ticker};
 use wb_model::{Body, Told};
 use wb_wire::{
@@ -52,7 +52,7 @@ pub fn refusal(no: &WireNo) -> Answer
 }
 
 /// The reply to a request, which is a turn of the host where it asks something. The ticker's failure makes none.
-pub fn reply_to<R: Wait, K: Keeper, A: Ledger, B: Ledger, G: Gate<K, A, B, Turn>, T: Ticker>(
+pub fn reply_to<R: Wait, K: Keeper, A: Origin, B: Ledger, G: Gate<K, A, B, Turn>, T: Ticker>(
     rt: &R,
     alloc: Global,
     gate: &G,

@@ -13,7 +13,7 @@ use std::sync::Wait;
 use std::sync::ledger::Ledger;
 use wb_base::Keeper;
 use wb_gate::{Gate, Turn};
-use wb_kept::Pass;
+use wb_kept::{Origin, Pass};
 use wb_links::{Link, Ticker};
 use wb_wire::{Routes, WireFault, WireNo};
 
@@ -75,7 +75,7 @@ fn refuse<L: Link>(link: &mut L, no: &WireNo) -> Ended
 pub fn serve_connection<
     R: Wait,
     K: Keeper,
-    A: Ledger,
+    A: Origin,
     B: Ledger,
     G: Gate<K, A, B, Turn>,
     L: Link,

@@ -9,7 +9,7 @@ use std::sync::Wait;
 use std::sync::ledger::Ledger;
 use wb_base::Keeper;
 use wb_gate::{Gate, Turn};
-use wb_kept::Pass;
+use wb_kept::{Origin, Pass};
 use wb_links::{Listener, Ticker};
 use wb_wire::Routes;
 
@@ -33,7 +33,7 @@ pub enum Worked {
 fn attend<
     R: Wait,
     K: Keeper,
-    A: Ledger,
+    A: Origin,
     B: Ledger,
     G: Gate<K, A, B, Turn>,
     Li: Listener,
@@ -70,7 +70,7 @@ fn attend<
 pub fn work<
     R: Wait,
     K: Keeper,
-    A: Ledger,
+    A: Origin,
     B: Ledger,
     G: Gate<K, A, B, Turn>,
     Li: Listener,

@@ -10,7 +10,7 @@ returns-in-Ok-tick-clause-answered g c = (
   Some c.in-Ok-tick.tick,
   record {
     replied = (c.in-Ok.asked, c.in-Ok.ensures.ok, subst (λ (f : Frame). g.G.Gate.ran c.args.pass.now.turns f c.enter.result) c.new.ensures c.enter.ensures.ran, refl, refl);
-    share_is = ap (λ (p : Hand). p.turns) c.enter.ensures.does.2.pass;
+    share_is = ap (λ (p : Hand). p.turns) c.enter.ensures.does.4.pass;
     turns = λ xs is. let t = c.in-Ok-tick.ensures.next xs is in (t.0, t.2, t.1);
     fatal = inl (λ e. absurd cc);
   },
