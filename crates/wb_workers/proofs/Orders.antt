@@ -27,6 +27,16 @@ turned_more f ws n ss j x m is_j sum some turned last k d e within =
     let it = last d in
     grind (arith, within, is_j, seam, place, before, was, it)
 
+-- what came back of m workers in the opposite order of theirs stands at the place of its own
+pub back_in_place : {W S : Type 0} (f : W → S) (n m i : ℕ) (e : S) (w : W) (new : List S) (written after : List W)
+    → m ≡ n → i < n
+    → ((k : ℕ) (d : W) (e : S) → k < m → slice_index_or new k e ≡ f (slice_index_or written (m - 1 - k) d))
+    → written ≡ after
+    → slice_index_or new i e ≡ f (slice_index_or after (n - 1 - i) w)
+back_in_place f n m i e w new written after all within back same =
+    let here : m - 1 - i ≡ n - 1 - i = omega (arith, all) in
+    back i w e (omega (arith, all, within)) ∙ ap (λ k. f (slice_index_or written k w)) here ∙ ap (λ xs. f (slice_index_or xs (n - 1 - i) w)) same
+
 -- stations that were given to n workers in the opposite order, and came back so of m, each stand at their own place
 pub in_place : {W S : Type 0} (station : W → S) (n m i : ℕ) (d e : S) (w : W) (old new : List S) (before written after : List W)
     → m ≡ n → i < n
@@ -35,10 +45,9 @@ pub in_place : {W S : Type 0} (station : W → S) (n m i : ℕ) (d e : S) (w : W
     → written ≡ after
     → (station (slice_index_or before (n - 1 - i) w) ≡ slice_index_or old i d) × (slice_index_or new i e ≡ station (slice_index_or after (n - 1 - i) w))
 in_place station n m i d e w old new before written after all within placed back same =
-    let there : n - 1 - (n - 1 - i) ≡ i = omega (arith, within) in
-    let here : m - 1 - i ≡ n - 1 - i = omega (arith, all) in (
+    let there : n - 1 - (n - 1 - i) ≡ i = omega (arith, within) in (
       placed (n - 1 - i) w d (omega (arith, within)) ∙ ap (λ k. slice_index_or old k d) there,
-      back i w e (omega (arith, all, within)) ∙ ap (λ k. station (slice_index_or written k w)) here ∙ ap (λ xs. station (slice_index_or xs (n - 1 - i) w)) same,
+      back_in_place station n m i e w new written after all within back same,
     )
 
 -- what holds at a place of the written list holds at that place of the list that it was written from

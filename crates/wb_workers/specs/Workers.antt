@@ -2,6 +2,7 @@
 use Rattle.std.specs.Prelude.{◌≡◌, ℕ, [], Option, Some}
 use Rattle.wb_model.specs.declared.body.Told.{Told}
 use Rattle.wb_model.specs.Requests.{Frame}
+use Rattle.wb_tables.specs.Standing.{Standing}
 use Rattle.wb_kept.specs.Hosted.{Hosted, Hand}
 use Rattle.wb_kept.specs.Turned.{Turned}
 use Rattle.wb_links.specs.Lines.{Lines}
@@ -21,10 +22,10 @@ HasNone told = (x : Lines) → told ≡ Some x → x.left ≡ []
 pub record IsServed (Ran : ℕ → Frame → Told → Type 0) (told told' : Option Lines) (share share' : ℕ) (clock clock' : Clock) : Type 0 where
   pub links : (x : Lines) → told ≡ Some x → (y : Lines) × (told' ≡ Some y) × HasWorked Ran x y share share' clock clock'
 
--- a turn that was made of a host, for a pass with this share of its turns
-abbrev pub IsTurnOfHost : ℕ → Frame → Told → Type 0
-IsTurnOfHost share frame told = (host : Hosted) × (pass : Hand) × (host' : Hosted) × (pass' : Hand) × (pass.turns ≡ share) × Turned frame host pass host' pass' told
+-- a turn that was made of the host that was opened with this desk, for a pass with this share of its turns
+abbrev pub IsTurnOfHost : Standing → ℕ → Frame → Told → Type 0
+IsTurnOfHost opened share frame told = (host : Hosted) × (pass : Hand) × (host' : Hosted) × (pass' : Hand) × (host.opened ≡ opened) × (pass.turns ≡ share) × Turned frame host pass host' pass' told
 
--- each reply over the links of a station was a turn of a host, or the refusal of what asks nothing
-abbrev pub WasServed : Option Lines → Option Lines → Clock → Clock → Type 0
-WasServed told told' clock clock' = (share : ℕ) × IsServed IsTurnOfHost told told' 0 share clock clock'
+-- each reply over the links of a station was a turn of that host, so many in all, or the refusal of what asks nothing
+abbrev pub WasServed : Standing → ℕ → Option Lines → Option Lines → Clock → Clock → Type 0
+WasServed opened turns told told' clock clock' = IsServed (IsTurnOfHost opened) told told' 0 turns clock clock'

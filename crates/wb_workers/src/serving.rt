@@ -1,8 +1,10 @@
 //! A host is served: its stations are given to workers and come back, and it is taken apart at the end.
-ghost use Rattle.std.specs.Prelude.{◌≡◌, ◌<◌, ◌≤◌, ◌-◌, ℕ, [], true, false, All, vec_len, vec_capacity, slice_index_or, IfOk, IfErr};
+ghost use Rattle.std.specs.Prelude.{◌≡◌, ◌<◌, ◌≤◌, ◌+◌, ◌-◌, ℕ, List, [], true, false, All, length, vec_len, vec_capacity, slice_index_or, IfOk, IfErr};
+ghost use Rattle.wb_model.specs.Drawn.{numbers_of};
 ghost use Rattle.wb_model.specs.Rows.{rows_of};
 ghost use Rattle.wb_tables.specs.Standing.{hosts_of};
-ghost use Rattle.wb_kept.specs.Hosted.{parts_of};
+ghost use Rattle.wb_kept.specs.GoneOn.{IsLater};
+ghost use Rattle.wb_kept.specs.Hosted.{Hand, parts_of, turns_of, numbers_drawn};
 ghost use Rattle.wb_front.specs.Attended.{clock_of, RoseOften};
 ghost use Rattle.wb_workers.specs.Workers.{HasEnded, HasNone, WasServed};
 
@@ -16,7 +18,7 @@ use wb_base::{Keeper, Memory};
 use wb_desk::Desk;
 use wb_front::{Station, Worked};
 use wb_gate::{LockGate, close};
-use wb_kept::{Closed, Kept, Pass};
+use wb_kept::{Closed, Kept, Origin, Pass};
 use wb_links::{Listener, Ticker};
 use wb_wire::Routes;
 
@@ -66,6 +68,7 @@ fn unplace<Li: Listener, T: Ticker, A: Ledger, B: Ledger>(
     ensures stations { vec_len stations.new ≡ vec_len workers }
     ensures passes { parts_of passes.new.items ≡ vec_len workers }
     ensures order { (k : ℕ) (d : _) (e : _) → k < vec_len workers → slice_index_or stations.new.items k e ≡ (slice_index_or workers.items (vec_len workers - 1 - k) d).station }
+    ensures shares { (vec_len passes.new ≡ vec_len workers) × ((k : ℕ) (d : _) (e : _) → k < vec_len workers → slice_index_or passes.new.items k e ≡ (slice_index_or workers.items (vec_len workers - 1 - k) d).pass) }
     ensures left { result ≡ true → All (λ s. HasNone (Li.told s.listener)) stations.new.items }
     ensures failed { result ≡ false → (k : ℕ) × (k < vec_len workers) × ((d : _) → (slice_index_or workers.items k d).worked ≡ Worked.ListenFault) }
 {
@@ -91,7 +94,7 @@ fn unplace<Li: Listener, T: Ticker, A: Ledger, B: Ledger>(
 // Serves over two ledgers of as many parts as there are stations. Memory is wanted before the first link is taken.
 fn serve_on<
     K: Keeper + Send,
-    A: Ledger + Send + Sync,
+    A: Origin + Send + Sync,
     B: Ledger + Send + Sync,
     Li: Listener + Send,
     T: Ticker + Send,
@@ -110,14 +113,20 @@ where
     Li::End: Send,
     requires some { 0 < vec_len stations.old }
     requires kept { K.honest keeper → K.holds keeper (rows_of (hosts_of desk).list) }
+    requires opened { A.desk ≡ desk }
+    requires honest { (K.honest keeper → A.honest) × (A.honest → K.honest keeper) }
     requires turns { (turns.name ≡ A.name) × (turns.parts ≡ A.parts) × (turns.parts ≡ vec_len stations.old) }
     requires numbers { (numbers.name ≡ B.name) × (numbers.parts ≡ B.parts) × (numbers.parts ≡ vec_len stations.old) }
     ensures stations { vec_len stations.new ≡ vec_len stations.old }
-    ensures served { IfOk result (λ _. (i : ℕ) (d : _) (e : _) → i < vec_len stations.old → WasServed (Li.told (slice_index_or stations.old.items i d).listener) (Li.told (slice_index_or stations.new.items i e).listener) (clock_of (T.left (slice_index_or stations.old.items i d).ticker) (T.count (slice_index_or stations.old.items i d).ticker)) (clock_of (T.left (slice_index_or stations.new.items i e).ticker) (T.count (slice_index_or stations.new.items i e).ticker))) }
+    // The passes, one a station, took part in all turns of the host that was given, and it has gone on by these.
+    ensures served { IfOk result (λ ended. (passes : List Hand) × (length passes ≡ vec_len stations.old) × (turns_of passes ≡ ended.closed.turns) × (numbers_drawn passes ≡ ended.closed.numbers) × ((i : ℕ) (d : _) (e : _) (p : _) → i < vec_len stations.old → WasServed desk (slice_index_or passes i p).turns (Li.told (slice_index_or stations.old.items i d).listener) (Li.told (slice_index_or stations.new.items i e).listener) (clock_of (T.left (slice_index_or stations.old.items i d).ticker) (T.count (slice_index_or stations.old.items i d).ticker)) (clock_of (T.left (slice_index_or stations.new.items i e).ticker) (T.count (slice_index_or stations.new.items i e).ticker)))) }
+    ensures later { IfOk result (λ ended. IsLater desk ended.closed.turns ended.closed.desk) }
+    ensures books { IfOk result (λ ended. (ended.closed.desk.turns ≡ desk.turns + ended.closed.turns) × (numbers_of (hosts_of ended.closed.desk) ≡ numbers_of (hosts_of desk) + ended.closed.numbers)) }
     ensures left { IfOk result (λ e. e.all ≡ true → All (λ s. HasNone (Li.told s.listener)) stations.new.items) }
     ensures failed { IfOk result (λ e. e.all ≡ false → (i : ℕ) × (i < vec_len stations.old) × ((d : _) (e : _) → RoseOften 16 (Li.count (slice_index_or stations.old.items i d).listener) (Li.count (slice_index_or stations.new.items i e).listener))) }
     ensures none { IfErr result (λ _. stations.new.items ≡ stations.old.items) }
     ensures kept { IfOk result (λ e. K.honest e.closed.keeper → K.holds e.closed.keeper (rows_of (hosts_of e.closed.desk).list)) }
+    ensures honest { IfOk result (λ e. K.honest e.closed.keeper → K.honest keeper) }
 {
     let count = stations.len();
     let mut workers = Vec::with_capacity(alloc, count)?;
@@ -148,11 +157,15 @@ where
     requires some { 0 < vec_len stations.old }
     requires kept { K.honest keeper → K.holds keeper (rows_of (hosts_of desk).list) }
     ensures stations { vec_len stations.new ≡ vec_len stations.old }
-    ensures served { IfOk result (λ _. (i : ℕ) (d : _) (e : _) → i < vec_len stations.old → WasServed (Li.told (slice_index_or stations.old.items i d).listener) (Li.told (slice_index_or stations.new.items i e).listener) (clock_of (T.left (slice_index_or stations.old.items i d).ticker) (T.count (slice_index_or stations.old.items i d).ticker)) (clock_of (T.left (slice_index_or stations.new.items i e).ticker) (T.count (slice_index_or stations.new.items i e).ticker))) }
+    // The passes, one a station, took part in all turns of the host that was given, and it has gone on by these.
+    ensures served { IfOk result (λ ended. (passes : List Hand) × (length passes ≡ vec_len stations.old) × (turns_of passes ≡ ended.closed.turns) × (numbers_drawn passes ≡ ended.closed.numbers) × ((i : ℕ) (d : _) (e : _) (p : _) → i < vec_len stations.old → WasServed desk (slice_index_or passes i p).turns (Li.told (slice_index_or stations.old.items i d).listener) (Li.told (slice_index_or stations.new.items i e).listener) (clock_of (T.left (slice_index_or stations.old.items i d).ticker) (T.count (slice_index_or stations.old.items i d).ticker)) (clock_of (T.left (slice_index_or stations.new.items i e).ticker) (T.count (slice_index_or stations.new.items i e).ticker)))) }
+    ensures later { IfOk result (λ ended. IsLater desk ended.closed.turns ended.closed.desk) }
+    ensures books { IfOk result (λ ended. (ended.closed.desk.turns ≡ desk.turns + ended.closed.turns) × (numbers_of (hosts_of ended.closed.desk) ≡ numbers_of (hosts_of desk) + ended.closed.numbers)) }
     ensures left { IfOk result (λ e. e.all ≡ true → All (λ s. HasNone (Li.told s.listener)) stations.new.items) }
     ensures failed { IfOk result (λ e. e.all ≡ false → (i : ℕ) × (i < vec_len stations.old) × ((d : _) (e : _) → RoseOften 16 (Li.count (slice_index_or stations.old.items i d).listener) (Li.count (slice_index_or stations.new.items i e).listener))) }
     ensures none { IfErr result (λ _. stations.new.items ≡ stations.old.items) }
     ensures kept { IfOk result (λ e. K.honest e.closed.keeper → K.holds e.closed.keeper (rows_of (hosts_of e.closed.desk).list)) }
+    ensures honest { IfOk result (λ e. K.honest e.closed.keeper → K.honest keeper) }
 {
     let parts = stations.len() as u64;
     serve_on::<K, Brand, Brand, Li, T, R>(

@@ -11,7 +11,7 @@ use std::thread::Threads;
 use wb_base::Keeper;
 use wb_front::{Station, Worked, work};
 use wb_gate::{Gate, Turn};
-use wb_kept::Pass;
+use wb_kept::{Origin, Pass};
 use wb_links::{Listener, Ticker};
 use wb_wire::Routes;
 
@@ -43,7 +43,7 @@ pub fn make_worker<Li: Listener, T: Ticker, A: Ledger, B: Ledger>(
 fn attend<
     R: Wait,
     K: Keeper,
-    A: Ledger,
+    A: Origin,
     B: Ledger,
     G: Gate<K, A, B, Turn>,
     Li: Listener,
@@ -65,7 +65,7 @@ fn attend<
 pub fn attend_all<
     R: Threads + Wait + Sync,
     K: Keeper + Send,
-    A: Ledger + Send + Sync,
+    A: Origin + Send + Sync,
     B: Ledger + Send + Sync,
     G: Gate<K, A, B, Turn> + Sync,
     Li: Listener + Send,

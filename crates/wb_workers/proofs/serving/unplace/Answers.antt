@@ -23,7 +23,8 @@ loop-next-preserved g c =
       (λ ended. All-same (λ s. HasNone (g.Li.Listener.told s.listener)) _ _ place.items (All-push (λ s. HasNone (g.Li.Listener.told s.listener)) _ _ (i.6 ended) ((rw c.in-Some.is at popped.1) c.in-End.is))),
       grind (arith, common_steps),
       (λ k d e within. ap (λ xs. slice_index_or xs k e) place.items ∙ turned_more (λ w. w.station) c.args.workers.items (vec_len c.args.workers) c.loop-next.stations.items (vec_len c.loop-next.stations) c.in-Some.next (vec_len c.loop-next.workers) (sym c.loop-next.stations.ok.0) i.0 (grind (arith)) i.8 last k d e (omega (arith, place.len, within))),
-      i.9,
+      (λ k d e within. ap (λ xs. slice_index_or xs k e) pass.items ∙ turned_more (λ w. w.pass) c.args.workers.items (vec_len c.args.workers) c.loop-next.passes.items (vec_len c.loop-next.passes) c.in-Some.next (vec_len c.loop-next.workers) (sym c.loop-next.passes.ok.0) i.1 (grind (arith)) i.9 last k d e (omega (arith, pass.len, within))),
+      i.10,
     )
 
 pub loop-next-preserved-in_default-worked : goal.loop-next-preserved-in_default-worked
@@ -42,5 +43,6 @@ loop-next-preserved-in_default-worked g c =
       (λ ended. absurd (grind (arith, ended))),
       grind (arith, common_steps),
       (λ k d e within. ap (λ xs. slice_index_or xs k e) place.items ∙ turned_more (λ w. w.station) c.args.workers.items (vec_len c.args.workers) c.loop-next.stations.items (vec_len c.loop-next.stations) c.in-Some.next (vec_len c.loop-next.workers) (sym c.loop-next.stations.ok.0) i.0 (grind (arith)) i.8 last k d e (omega (arith, place.len, within))),
+      (λ k d e within. ap (λ xs. slice_index_or xs k e) pass.items ∙ turned_more (λ w. w.pass) c.args.workers.items (vec_len c.args.workers) c.loop-next.passes.items (vec_len c.loop-next.passes) c.in-Some.next (vec_len c.loop-next.workers) (sym c.loop-next.passes.ok.0) i.1 (grind (arith)) i.9 last k d e (omega (arith, pass.len, within))),
       (λ _. (vec_len c.loop-next.workers - 1, grind (arith), λ d. ap (λ w. w.worked) (last d) ∙ c.in_default-worked.is)),
     )

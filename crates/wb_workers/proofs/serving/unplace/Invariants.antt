@@ -15,6 +15,7 @@ invariant-loop-next g l =
     × (l.ended ≡ true → All (λ s. HasNone (g.Li.Listener.told s.listener)) l.stations.items)
     × (l.workers.items ≡ take (vec_len l.workers) l.fn.workers.items)
     × ((k : ℕ) (d : _) (e : _) → k < vec_len l.stations → slice_index_or l.stations.items k e ≡ (slice_index_or l.fn.workers.items (vec_len l.fn.workers - 1 - k) d).station)
+    × ((k : ℕ) (d : _) (e : _) → k < vec_len l.passes → slice_index_or l.passes.items k e ≡ (slice_index_or l.fn.workers.items (vec_len l.fn.workers - 1 - k) d).pass)
     × (l.ended ≡ false → (k : ℕ) × (k < vec_len l.fn.workers) × ((d : _) → (slice_index_or l.fn.workers.items k d).worked ≡ ListenFault))
 
 abbrev pub decreases-loop-next : goal.decreases-loop-next
