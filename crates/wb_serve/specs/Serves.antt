@@ -5,7 +5,13 @@ use Rattle.wb_base.specs.declared.rows.Row.{Row}
 use Rattle.wb_base.specs.Outside.{Rose}
 use Rattle.wb_model.specs.Past.{Past}
 use Rattle.wb_model.specs.Pasts.{AllOpened}
+use Rattle.wb_model.specs.Rows.{rows_of}
+use Rattle.wb_model.specs.Tenants.{Hosts}
+use Rattle.wb_tables.specs.Standing.{Standing, hosts_of}
 use Rattle.wb_desk.specs.Openings.{AreLoaded}
+use Rattle.wb_desk.specs.Turns.{StandsFor}
+use Rattle.wb_kept.specs.GoneOn.{HasGoneOn}
+use Rattle.wb_kept.specs.Hosted.{Hand, turns_of}
 use Rattle.wb_words.specs.declared.plans.Plan.TheVariants.{Serve}
 use Rattle.wb_words.specs.CommandLine.{Asks}
 use Rattle.wb_start.specs.declared.status.Status.{Status}
@@ -57,11 +63,21 @@ module _ (left : Option (List ℕ)) (source source' : ℕ) where
       pub cause : (Unread status × (keeper' ≡ keeper)) ⊎ ((text : List ℕ) × IsText left left' text × Refuses keeper keeper' honest holds holds' text status)
       pub rows_as_they_were : KeepsRows keeper keeper' honest holds holds'
 
--- the text opened a host over rows that the keeper held, where it was honest
-pub record OpensOne (left left' : Option (List ℕ)) (honest : Type 0) (holds : List Row → Type 0) : Type 0 where
+-- the text opened a host with this desk over rows that the keeper held, where it was honest
+pub record OpensOne (left left' : Option (List ℕ)) (honest : Type 0) (holds : List Row → Type 0) (desk : Standing) : Type 0 where
   pub text : List ℕ
   pub is_text : IsText left left' text
   pub loaded : List Row
   pub were_held : AreLoaded honest holds loaded
   pub start : Past AllOpened
   pub opened : IsOpenedBy loaded text start
+  pub stands : StandsFor (hosts_of desk) start
+
+-- that host served: by its desk and the shares of its passes, what was attended; and where the keeper is honest, it held the rows that were
+-- loaded, and holds those of the host after as many turns as the passes took part in
+pub record ServesIt (left left' : Option (List ℕ)) (honest : Type 0) (holds holds' : List Row → Type 0) (Attended : Standing → List Hand → Type 0) : Type 0 where
+  pub desk : Standing
+  pub opens : OpensOne left left' honest holds desk
+  pub passes : List Hand
+  pub attended : Attended desk passes
+  pub kept : honest → (hosts : Hosts) × HasGoneOn opens.start (turns_of passes) hosts × holds' (rows_of hosts.list)

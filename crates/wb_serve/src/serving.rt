@@ -13,7 +13,7 @@ ghost use Rattle.wb_front.specs.Attended.{clock_of, RoseOften};
 ghost use Rattle.wb_workers.specs.Workers.{HasNone, WasServed};
 ghost use Rattle.wb_words.specs.declared.plans.Plan.TheVariants.{Serve};
 ghost use Rattle.wb_words.specs.CommandLine.{Asks};
-ghost use Rattle.wb_serve.specs.Serves.{HasServed, IsServeForm, OpensNone, OpensOne, setup_limit};
+ghost use Rattle.wb_serve.specs.Serves.{HasServed, IsServeForm, OpensNone, OpensOne, ServesIt, setup_limit};
 
 use crate::starting::start;
 use std::alloc::Global;
@@ -71,15 +71,13 @@ where
     Li::End: Send,
     requires some { 0 < vec_len stations.old }
     requires held { K.honest keeper → (rows : List KeptRow) × K.holds keeper rows }
-    ensures keeper { result.keeper ≡ None → (result.status ≡ Status.NoMemory) × ((k : _) × OpensOne (S.left setup.old) (S.left setup.new) (K.honest k) (K.holds keeper)) }
+    ensures keeper { result.keeper ≡ None → (result.status ≡ Status.NoMemory) × ((k : _) × (desk : Standing) × OpensOne (S.left setup.old) (S.left setup.new) (K.honest k) (K.holds keeper) desk) }
     ensures stations { vec_len stations.new ≡ vec_len stations.old }
     ensures none { (HasServed result.status → ⊥) → stations.new.items ≡ stations.old.items }
     ensures cause { (HasServed result.status → ⊥) → IfSome result.keeper (λ k. OpensNone (S.left setup.old) (S.count setup.old) (S.count setup.new) (S.left setup.new) (K.count keeper) (K.count k) (K.honest k) (K.holds keeper) (K.holds k) result.status) }
-    ensures opened { HasServed result.status → (k : _) × OpensOne (S.left setup.old) (S.left setup.new) (K.honest k) (K.holds keeper) }
-    ensures attended { HasServed result.status → (i : ℕ) (d : _) (e : _) → i < vec_len stations.old → WasServed (Li.told (slice_index_or stations.old.items i d).listener) (Li.told (slice_index_or stations.new.items i e).listener) (clock_of (T.left (slice_index_or stations.old.items i d).ticker) (T.count (slice_index_or stations.old.items i d).ticker)) (clock_of (T.left (slice_index_or stations.new.items i e).ticker) (T.count (slice_index_or stations.new.items i e).ticker)) }
+    ensures served { HasServed result.status → (k : _) × (result.keeper ≡ Some k) × ServesIt (S.left setup.old) (S.left setup.new) (K.honest k) (K.holds keeper) (K.holds k) (λ desk passes. (length passes ≡ vec_len stations.old) × ((i : ℕ) (d : _) (e : _) (p : _) → i < vec_len stations.old → WasServed desk (slice_index_or passes i p).turns (Li.told (slice_index_or stations.old.items i d).listener) (Li.told (slice_index_or stations.new.items i e).listener) (clock_of (T.left (slice_index_or stations.old.items i d).ticker) (T.count (slice_index_or stations.old.items i d).ticker)) (clock_of (T.left (slice_index_or stations.new.items i e).ticker) (T.count (slice_index_or stations.new.items i e).ticker)))) }
     ensures done { result.status ≡ Status.Done → All (λ s. HasNone (Li.told s.listener)) stations.new.items }
     ensures failed { result.status ≡ Status.ListenFault → (i : ℕ) × (i < vec_len stations.old) × ((d : _) (e : _) → RoseOften 16 (Li.count (slice_index_or stations.old.items i d).listener) (Li.count (slice_index_or stations.new.items i e).listener)) }
-    ensures kept { HasServed result.status → IfSome result.keeper (λ k. K.honest k → (desk : Standing) × K.holds k (rows_of (hosts_of desk).list)) }
 {
     let mut keeper = keeper;
     let (routes, desk) = match start(alloc, setup, &mut keeper) {
@@ -125,17 +123,16 @@ where
     // Words are told to be no form only where they are none; then that is told, or there was no memory, and nothing is read or served.
     ensures usage { result.status ≡ Status.Usage → IsServeForm words.now → ⊥ }
     ensures no_form { (IsServeForm words.now → ⊥) → ((result.status ≡ Status.Usage) ⊎ (result.status ≡ Status.NoMemory)) × (result.keeper ≡ Some keeper) × Keeps (S.left setup.old) (S.left setup.new) × (S.count setup.new ≡ S.count setup.old) }
-    ensures keeper { result.keeper ≡ None → (result.status ≡ Status.NoMemory) × ((k : _) × OpensOne (S.left setup.old) (S.left setup.new) (K.honest k) (K.holds keeper)) }
+    ensures keeper { result.keeper ≡ None → (result.status ≡ Status.NoMemory) × ((k : _) × (desk : Standing) × OpensOne (S.left setup.old) (S.left setup.new) (K.honest k) (K.holds keeper) desk) }
     ensures stations { vec_len stations.new ≡ vec_len stations.old }
     // Where no host served, the stations are as they were, and there is a cause.
     ensures none { (HasServed result.status → ⊥) → stations.new.items ≡ stations.old.items }
     ensures cause { IsServeForm words.now → (HasServed result.status → ⊥) → IfSome result.keeper (λ k. OpensNone (S.left setup.old) (S.count setup.old) (S.count setup.new) (S.left setup.new) (K.count keeper) (K.count k) (K.honest k) (K.holds keeper) (K.holds k) result.status) }
-    // Where one served, each station's links came back in order, each attended.
-    ensures opened { HasServed result.status → (k : _) × OpensOne (S.left setup.old) (S.left setup.new) (K.honest k) (K.holds keeper) }
-    ensures attended { HasServed result.status → (i : ℕ) (d : _) (e : _) → i < vec_len stations.old → WasServed (Li.told (slice_index_or stations.old.items i d).listener) (Li.told (slice_index_or stations.new.items i e).listener) (clock_of (T.left (slice_index_or stations.old.items i d).ticker) (T.count (slice_index_or stations.old.items i d).ticker)) (clock_of (T.left (slice_index_or stations.new.items i e).ticker) (T.count (slice_index_or stations.new.items i e).ticker)) }
+    // Where one served, it was the one that the text opened: each reply over the links of the stations, which came back in order, was a
+    // turn of it, and it made no other turns. An honest keeper held the rows that it was opened over, and holds its rows.
+    ensures served { HasServed result.status → (k : _) × (result.keeper ≡ Some k) × ServesIt (S.left setup.old) (S.left setup.new) (K.honest k) (K.holds keeper) (K.holds k) (λ desk passes. (length passes ≡ vec_len stations.old) × ((i : ℕ) (d : _) (e : _) (p : _) → i < vec_len stations.old → WasServed desk (slice_index_or passes i p).turns (Li.told (slice_index_or stations.old.items i d).listener) (Li.told (slice_index_or stations.new.items i e).listener) (clock_of (T.left (slice_index_or stations.old.items i d).ticker) (T.count (slice_index_or stations.old.items i d).ticker)) (clock_of (T.left (slice_index_or stations.new.items i e).ticker) (T.count (slice_index_or stations.new.items i e).ticker)))) }
     ensures done { result.status ≡ Status.Done → All (λ s. HasNone (Li.told s.listener)) stations.new.items }
     ensures failed { result.status ≡ Status.ListenFault → (i : ℕ) × (i < vec_len stations.old) × ((d : _) (e : _) → RoseOften 16 (Li.count (slice_index_or stations.old.items i d).listener) (Li.count (slice_index_or stations.new.items i e).listener)) }
-    ensures kept { HasServed result.status → IfSome result.keeper (λ k. K.honest k → (desk : Standing) × K.holds k (rows_of (hosts_of desk).list)) }
     // A text within the limit that is accepted, over rows that are read, is served, or there was no memory, or the keeper failed in opening.
     ensures complete { (text : List ℕ) (lists : Lists) (kept : List KeptRow) (held : Held) → IsServeForm words.now → S.left setup.old ≡ Some text → length text ≤ setup_limit → lists_in text ≡ Ok lists → K.holds keeper kept → judged kept ≡ Ok held → (Rose (S.count setup.old) (S.count setup.new) → ⊥) → IfSome result.keeper (λ k. K.honest k → HasServed result.status ⊎ ((result.status ≡ Status.NoMemory) ⊎ ((result.status ≡ Status.OpenFault) × Rose (K.count keeper) (K.count k)))) }
 {
