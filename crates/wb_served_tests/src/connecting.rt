@@ -1,5 +1,7 @@
 //! One connection to a host of its own.
 ghost use Rattle.std.specs.Prelude.{◌≡◌};
+ghost use Rattle.wb_model.specs.Rows.{rows_of};
+ghost use Rattle.wb_tables.specs.Standing.{hosts_of};
 
 use crate::hosts::opened;
 use std::alloc::Global;
@@ -8,9 +10,10 @@ use std::sync::Wait;
 use std::sync::ledger::{Blank, Ledger};
 use std::test::Fail;
 use wb_base::MemKeeper;
+use wb_desk::Desk;
 use wb_front::{Ended, serve_connection};
 use wb_gate::LockGate;
-use wb_kept::{Kept, Pass};
+use wb_kept::{Kept, Origin, Pass};
 use wb_links::{MemLink, MemTicker};
 use wb_wire::{Routes, WireFault};
 
@@ -55,22 +58,25 @@ pub struct Connected {
     pub turns: u64,
 }
 
-/// A gate to a host over the setup, and the pass with all the parts.
-pub fn gate_of<A: Ledger, B: Ledger>(
-    alloc: Global,
+/// A gate to a host, and the pass with all the parts.
+pub fn gate_of<A: Origin, B: Ledger>(
+    desk: Desk,
+    keeper: MemKeeper,
     turns: Blank,
     numbers: Blank,
-) -> Result<(LockGate<MemKeeper, A, B>, Pass<A, B>), Fail>
+) -> (LockGate<MemKeeper, A, B>, Pass<A, B>)
+    requires kept { keeper.rows ≡ rows_of (hosts_of desk).list }
+    requires opened { A.desk ≡ desk }
+    requires honest { A.honest }
     requires turns { (turns.name ≡ A.name) × (turns.parts ≡ A.parts) × (turns.parts ≡ 1) }
     requires numbers { (numbers.name ≡ B.name) × (numbers.parts ≡ B.parts) × (numbers.parts ≡ 1) }
 {
-    let (desk, keeper) = opened(alloc)?;
     let (kept, pass) = Kept::<MemKeeper, A, B>::new(desk, keeper, 1, turns, numbers);
-    Ok((LockGate::over(kept), pass))
+    (LockGate::over(kept), pass)
 }
 
 // Serves a connection over a link.
-fn ends<A: Ledger, B: Ledger, R: Wait>(
+fn ends<A: Origin, B: Ledger, R: Wait>(
     rt: &R,
     alloc: Global,
     routes: &Routes,
@@ -83,21 +89,26 @@ fn ends<A: Ledger, B: Ledger, R: Wait>(
 }
 
 // Serves a connection over a link, on a host whose books are of two ledgers.
-fn connect_on<A: Ledger, B: Ledger, R: Wait>(
+fn connect_on<A: Origin, B: Ledger, R: Wait>(
     rt: &R,
     alloc: Global,
+    desk: Desk,
+    keeper: MemKeeper,
     turns: Blank,
     numbers: Blank,
     link: MemLink,
     ticker: MemTicker,
 ) -> Result<Connected, Fail>
+    requires kept { keeper.rows ≡ rows_of (hosts_of desk).list }
+    requires opened { A.desk ≡ desk }
+    requires honest { A.honest }
     requires turns { (turns.name ≡ A.name) × (turns.parts ≡ A.parts) × (turns.parts ≡ 1) }
     requires numbers { (numbers.name ≡ B.name) × (numbers.parts ≡ B.parts) × (numbers.parts ≡ 1) }
 {
     let mut link = link;
     let mut ticker = ticker;
     let routes = Routes::new(alloc)?;
-    let (gate, mut pass) = gate_of::<A, B>(alloc, turns, numbers)?;
+    let (gate, mut pass) = gate_of::<A, B>(desk, keeper, turns, numbers);
     let ended = ends(rt, alloc, &routes, &gate, &mut pass, &mut link, &mut ticker);
     Ok(Connected {
         ended,
@@ -113,5 +124,15 @@ pub fn connect<R: Wait>(
     link: MemLink,
     ticker: MemTicker,
 ) -> Result<Connected, Fail> {
-    connect_on::<Brand, Brand, R>(rt, alloc, Blank::new(1), Blank::new(1), link, ticker)
+    let (desk, keeper) = opened(alloc)?;
+    connect_on::<Brand, Brand, R>(
+        rt,
+        alloc,
+        desk,
+        keeper,
+        Blank::new(1),
+        Blank::new(1),
+        link,
+        ticker,
+    )
 }

@@ -1,6 +1,8 @@
 //! A host whose turns are booked, and a gate through which two passes share it.
 ghost use Rattle.std.specs.Prelude.{◌≡◌, true, IfOk};
 ghost use Rattle.wb_model.specs.Fits.{fits};
+ghost use Rattle.wb_model.specs.Rows.{rows_of};
+ghost use Rattle.wb_tables.specs.Standing.{hosts_of};
 
 use crate::hosts::{moment, opened};
 use std::alloc::Global;
@@ -10,8 +12,9 @@ use std::sync::Wait;
 use std::sync::ledger::{Blank, Ledger};
 use std::test::Fail;
 use wb_base::{MemKeeper, Moment, Words};
+use wb_desk::Desk;
 use wb_gate::{Gate, LockGate, Turn, close};
-use wb_kept::{Kept, Pass, Tally};
+use wb_kept::{Kept, Origin, Pass, Tally};
 use wb_model::{Asked, Told};
 use wb_wire::{Routes, read_request};
 
@@ -61,7 +64,7 @@ fn is_told(told: &Told, status: u16, body: &str) -> bool {
 }
 
 // What a turn is told behind a gate.
-fn enter<A: Ledger, B: Ledger, R: Wait>(
+fn enter<A: Origin, B: Ledger, R: Wait>(
     rt: &R,
     gate: &LockGate<MemKeeper, A, B>,
     pass: &mut Pass<A, B>,
@@ -71,7 +74,7 @@ fn enter<A: Ledger, B: Ledger, R: Wait>(
 }
 
 // One pass submits a report. The other logs in, and reads it.
-fn take_turns<A: Ledger, B: Ledger, R: Wait + Abort>(
+fn take_turns<A: Origin, B: Ledger, R: Wait + Abort>(
     rt: &R,
     alloc: Global,
     gate: &LockGate<MemKeeper, A, B>,
@@ -91,7 +94,7 @@ fn take_turns<A: Ledger, B: Ledger, R: Wait + Abort>(
 }
 
 // The host is not taken apart with the second pass alone, and is with both.
-fn close_with_both<A: Ledger, B: Ledger, R: Abort>(
+fn close_with_both<A: Origin, B: Ledger, R: Abort>(
     rt: &R,
     alloc: Global,
     gate: LockGate<MemKeeper, A, B>,
@@ -119,16 +122,20 @@ fn tally(turns: u64, numbers: u64) -> Tally {
 }
 
 // A host behind a gate has two passes.
-fn share<A: Ledger, B: Ledger, R: Wait + Abort>(
+fn share<A: Origin, B: Ledger, R: Wait + Abort>(
     rt: &R,
     alloc: Global,
+    desk: Desk,
+    keeper: MemKeeper,
     turns: Blank,
     numbers: Blank,
 ) -> Result<(), Fail>
+    requires kept { keeper.rows ≡ rows_of (hosts_of desk).list }
+    requires opened { A.desk ≡ desk }
+    requires honest { A.honest }
     requires turns { (turns.name ≡ A.name) × (turns.parts ≡ A.parts) × (turns.parts ≡ 2) }
     requires numbers { (numbers.name ≡ B.name) × (numbers.parts ≡ B.parts) × (numbers.parts ≡ 2) }
 {
-    let (desk, keeper) = opened(alloc)?;
     let (kept, mut first) = Kept::<MemKeeper, A, B>::new(desk, keeper, 2, turns, numbers);
     let mut second = first.split();
     assert!(rt; first.parts() == 1 && second.parts() == 1);
@@ -139,11 +146,12 @@ fn share<A: Ledger, B: Ledger, R: Wait + Abort>(
 
 #[test]
 fn a_host_is_taken_apart_with_all_passes_that_took_turns(rt: HostRuntime) -> Result<(), Fail> {
-    share::<Brand, Brand, HostRuntime>(&rt, rt.alloc(), Blank::new(2), Blank::new(2))
+    let (desk, keeper) = opened(rt.alloc())?;
+    share::<Brand, Brand, HostRuntime>(&rt, rt.alloc(), desk, keeper, Blank::new(2), Blank::new(2))
 }
 
 // What a turn is told that a host is handed without a gate.
-fn hand<A: Ledger, B: Ledger>(
+fn hand<A: Origin, B: Ledger>(
     kept: &mut Kept<MemKeeper, A, B>,
     pass: &mut Pass<A, B>,
     asked: &Asked,
@@ -155,7 +163,7 @@ fn hand<A: Ledger, B: Ledger>(
 }
 
 // What a submission is told.
-fn submit<A: Ledger, B: Ledger>(
+fn submit<A: Origin, B: Ledger>(
     alloc: Global,
     kept: &mut Kept<MemKeeper, A, B>,
     pass: &mut Pass<A, B>,
@@ -166,16 +174,20 @@ fn submit<A: Ledger, B: Ledger>(
 }
 
 // A turn is booked, and the host is not taken apart without the pass that made it.
-fn book<A: Ledger, B: Ledger, R: Abort>(
+fn book<A: Origin, B: Ledger, R: Abort>(
     rt: &R,
     alloc: Global,
+    desk: Desk,
+    keeper: MemKeeper,
     turns: Blank,
     numbers: Blank,
 ) -> Result<(), Fail>
+    requires kept { keeper.rows ≡ rows_of (hosts_of desk).list }
+    requires opened { A.desk ≡ desk }
+    requires honest { A.honest }
     requires turns { (turns.name ≡ A.name) × (turns.parts ≡ A.parts) × (turns.parts ≡ 1) }
     requires numbers { (numbers.name ≡ B.name) × (numbers.parts ≡ B.parts) × (numbers.parts ≡ 1) }
 {
-    let (desk, keeper) = opened(alloc)?;
     let (kept, pass) = Kept::<MemKeeper, A, B>::new(desk, keeper, 1, turns, numbers);
     let mut kept = kept;
     let mut pass = pass;
@@ -191,5 +203,6 @@ fn book<A: Ledger, B: Ledger, R: Abort>(
 
 #[test]
 fn a_turn_is_booked_and_counts_in_its_pass(rt: HostRuntime) -> Result<(), Fail> {
-    book::<Brand, Brand, HostRuntime>(&rt, rt.alloc(), Blank::new(1), Blank::new(1))
+    let (desk, keeper) = opened(rt.alloc())?;
+    book::<Brand, Brand, HostRuntime>(&rt, rt.alloc(), desk, keeper, Blank::new(1), Blank::new(1))
 }

@@ -1,30 +1,40 @@
 //! A worker attends the links of its listener, and ends with it.
 ghost use Rattle.std.specs.Prelude.{◌≡◌};
+ghost use Rattle.wb_model.specs.Rows.{rows_of};
+ghost use Rattle.wb_tables.specs.Standing.{hosts_of};
 
 use crate::connecting::gate_of;
-use crate::hosts::{replies, station};
+use crate::hosts::{opened, replies, station};
 use std::alloc::Global;
 use std::marker::Brand;
 use std::sync::Wait;
 use std::sync::ledger::{Blank, Ledger};
 use std::test::Fail;
+use wb_base::MemKeeper;
+use wb_desk::Desk;
 use wb_front::{Station, Worked, work};
+use wb_kept::Origin;
 use wb_links::{MemLink, MemListener, MemTicker};
 use wb_wire::Routes;
 
 // How a worker ends at a station of a host whose books are of two ledgers, and in how many turns its pass took part.
-fn work_on<A: Ledger, B: Ledger, R: Wait>(
+fn work_on<A: Origin, B: Ledger, R: Wait>(
     rt: &R,
     alloc: Global,
+    desk: Desk,
+    keeper: MemKeeper,
     turns: Blank,
     numbers: Blank,
     station: &mut Station<MemListener, MemTicker>,
 ) -> Result<(Worked, u64), Fail>
+    requires kept { keeper.rows ≡ rows_of (hosts_of desk).list }
+    requires opened { A.desk ≡ desk }
+    requires honest { A.honest }
     requires turns { (turns.name ≡ A.name) × (turns.parts ≡ A.parts) × (turns.parts ≡ 1) }
     requires numbers { (numbers.name ≡ B.name) × (numbers.parts ≡ B.parts) × (numbers.parts ≡ 1) }
 {
     let routes = Routes::new(alloc)?;
-    let (gate, mut pass) = gate_of::<A, B>(alloc, turns, numbers)?;
+    let (gate, mut pass) = gate_of::<A, B>(desk, keeper, turns, numbers);
     let worked = work(rt, alloc, &gate, &routes, &mut pass, station);
     Ok((worked, pass.turns()))
 }
@@ -35,7 +45,16 @@ fn work_at<R: Wait>(
     alloc: Global,
     station: &mut Station<MemListener, MemTicker>,
 ) -> Result<(Worked, u64), Fail> {
-    work_on::<Brand, Brand, R>(rt, alloc, Blank::new(1), Blank::new(1), station)
+    let (desk, keeper) = opened(alloc)?;
+    work_on::<Brand, Brand, R>(
+        rt,
+        alloc,
+        desk,
+        keeper,
+        Blank::new(1),
+        Blank::new(1),
+        station,
+    )
 }
 
 // Whether so many links came back, each with one reply.

@@ -5,3 +5,6 @@ ghosts-share-A-Ledger g a = record { name = a.turns.name; parts = a.turns.parts 
 
 abbrev pub ghosts-share-B-Ledger : goal.ghosts-share-B-Ledger
 ghosts-share-B-Ledger g a = record { name = a.numbers.name; parts = a.numbers.parts }
+
+abbrev pub ghosts-share-A-Origin : goal.ghosts-share-A-Origin
+ghosts-share-A-Origin g a = record { desk = a.desk; honest = Unit {0} }

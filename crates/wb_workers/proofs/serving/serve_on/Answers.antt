@@ -17,14 +17,14 @@ returns-clause-served g c = (
   sym c.in-Ok.ensures.ok.0,
   sym c.in-Ok.ensures.ok.1,
   λ i d e p within.
-    let n = vec_len c.args.stations.now in
-    let full = c.place.ensures.workers in
-    let written = take_written _ c.attend_all.new.workers _ (c.attend_all.ensures.len ∙ c.as_mut_slice.ensures.len) in
-    let places = in_place (λ w. w.station) n _ i d e (record { pass = record { parts = 1; turns = 0; numbers = 0 }; station = d; worked = End; one_part = refl }) c.args.stations.now.items c.unplace-all.new.stations.items c.place.new.workers.items _ c.attend_all.new.workers full within c.place.ensures.order c.unplace-all.ensures.order written in
-    let zero = c.place.ensures.shares (n - 1 - i) (record { pass = record { parts = 1; turns = 0; numbers = 0 }; station = d; worked = End; one_part = refl }) (omega (arith, within)) in
-    let share = back_in_place (λ w. w.pass) n _ i p (record { pass = record { parts = 1; turns = 0; numbers = 0 }; station = d; worked = End; one_part = refl }) c.unplace-all.new.passes.items _ c.attend_all.new.workers full within c.unplace-all.ensures.shares.1 written in
-    let served = rw c.as_mut_slice.ensures.value at (c.attend_all.ensures.served (n - 1 - i) (record { pass = record { parts = 1; turns = 0; numbers = 0 }; station = d; worked = End; one_part = refl }) (omega (arith, within, c.as_mut_slice.ensures.len, full))) in
-    rw c.requires.opened at (rw zero at (rw places.0 at (rw (sym places.1) at (rw (sym share) at served)))),
+      let n = vec_len c.args.stations.now in
+      let full = c.place.ensures.workers in
+      let written = take_written _ c.attend_all.new.workers _ (c.attend_all.ensures.len ∙ c.as_mut_slice.ensures.len) in
+      let places = in_place (λ w. w.station) n _ i d e (record { pass = record { parts = 1; turns = 0; numbers = 0 }; station = d; worked = End; one_part = refl }) c.args.stations.now.items c.unplace-all.new.stations.items c.place.new.workers.items _ c.attend_all.new.workers full within c.place.ensures.order c.unplace-all.ensures.order written in
+      let zero = c.place.ensures.shares (n - 1 - i) (record { pass = record { parts = 1; turns = 0; numbers = 0 }; station = d; worked = End; one_part = refl }) (omega (arith, within)) in
+      let share = back_in_place (λ w. w.pass) n _ i p (record { pass = record { parts = 1; turns = 0; numbers = 0 }; station = d; worked = End; one_part = refl }) c.unplace-all.new.passes.items _ c.attend_all.new.workers full within c.unplace-all.ensures.shares.1 written in
+      let served = rw c.as_mut_slice.ensures.value at (c.attend_all.ensures.served (n - 1 - i) (record { pass = record { parts = 1; turns = 0; numbers = 0 }; station = d; worked = End; one_part = refl }) (omega (arith, within, c.as_mut_slice.ensures.len, full))) in
+      rw c.requires.opened at (rw zero at (rw places.0 at (rw (sym places.1) at (rw (sym share) at served)))),
 )
 
 pub returns-clause-failed : goal.returns-clause-failed
