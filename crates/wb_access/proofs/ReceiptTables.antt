@@ -1,16 +1,13 @@
 -- What is found of the receipts is what the table has.
-use Rattle.std.proofs.Common.{◌≡◌, ℕ, Bool, true, false, ◌==◌, ◌&&◌, not, nat_eq, List, [], ◌∷◌, map, filter, cond, find, Some, None, refl, ap, ◌∙◌, Result, Ok, Err, OnOk}
-use Rattle.std.specs.Cmp.{IsEquivalence, and_equiv, nat_eq_equiv, on_equiv, unsigned_Decides}
+use Rattle.std.proofs.Common.{◌≡◌, ℕ, Bool, true, false, ◌&&◌, nat_eq, List, [], ◌∷◌, map, cond, find, Some, refl, ap, ◌∙◌, Result, Ok, Err, OnOk}
+use Rattle.std.specs.Cmp.{nat_eq_equiv}
 use Rattle.std.specs.Cmp.Lexicographic.{pointwise}
-use Rattle.std.specs.List.{IsDistinct}
-use Rattle.std.specs.Map.{lookup, keys_of}
+use Rattle.std.specs.Map.{lookup}
 use Rattle.std.specs.Option.{option_map}
 use Rattle.std.proofs.lemmas.Cmp.{nat_list_eq_equiv}
-use Rattle.std.proofs.lemmas.Map.{lookup-none}
-use Rattle.std.proofs.lemmas.Map.Entries.{none_past_head}
 use Rattle.wb_base.specs.AnswerList.{is_text}
 use Rattle.wb_base.specs.declared.words.Digest.{Digest}
-use Rattle.wb_access.specs.Receipts.{is_receipt, is_of_report, number_of, unless_of, entry_key, receipt_at}
+use Rattle.wb_access.specs.Receipts.{is_receipt, number_of, entry_key, receipt_at}
 
 -- an entry of the table
 abbrev pub Entry : Type 0
@@ -29,44 +26,6 @@ found t d (e ∷ es) = rw (tested t d e) (by (eq_key (entry_key t d) e.0) (found
     by : (b : Bool) → number_of t d (map receipt_at es) ≡ lookup (eq_key (entry_key t d)) es → option_map (λ r. r.number) (cond b (Some (receipt_at e)) (find (is_receipt t d) (map receipt_at es))) ≡ cond b (Some e.1) (lookup (eq_key (entry_key t d)) es)
     by true f = refl
     by false f = f
-
-keys_equiv : IsEquivalence eq_key
-keys_equiv = and_equiv (on_equiv (λ (k : ℕ × List ℕ). k.0) nat_eq_equiv) (on_equiv (λ (k : ℕ × List ℕ). k.1) nat_list_eq_equiv)
-
--- ---- once the receipts of a report are gone
-
-abbrev pub stays : ℕ → ℕ → Entry → Bool
-stays tenant number e = not (is_of_report tenant number (receipt_at e))
-
-pub stay : (tenant number : ℕ) (es : List Entry) → map receipt_at (filter (stays tenant number) es) ≡ filter (λ r. not (is_of_report tenant number r)) (map receipt_at es)
-stay tenant number [] = refl
-stay tenant number (e ∷ es) = by (stays tenant number e) (stay tenant number es)
-  where
-    by : (b : Bool) → map receipt_at (filter (stays tenant number) es) ≡ filter (λ r. not (is_of_report tenant number r)) (map receipt_at es)
-        → map receipt_at (cond b (e ∷ filter (stays tenant number) es) (filter (stays tenant number) es)) ≡ cond b (receipt_at e ∷ filter (λ r. not (is_of_report tenant number r)) (map receipt_at es)) (filter (λ r. not (is_of_report tenant number r)) (map receipt_at es))
-    by true same = ap (λ rs. receipt_at e ∷ rs) same
-    by false same = same
-
-first_of : (a b : Bool) → (a && b) ≡ true → a ≡ true
-first_of true b e = refl
-first_of false b e = e
-
-pub left : (tenant number : ℕ) (q : ℕ × List ℕ) (es : List Entry) → IsDistinct eq_key (keys_of es) → lookup (eq_key q) (filter (stays tenant number) es) ≡ unless_of tenant number q.0 (lookup (eq_key q) es)
-unfolding IsDistinct
-left tenant number q [] once = refl
-left tenant number q (e ∷ es) once = by (left tenant number q es once.1) (eq_key q e.0) refl (stays tenant number e) refl
-  where
-    of : eq_key q e.0 ≡ true → ((q.0 == tenant) && (e.1 == number)) ≡ is_of_report tenant number (receipt_at e)
-    of is = ap (λ t. (t == tenant) && (e.1 == number)) ((unsigned_Decides q.0 e.0.0).0 (first_of (nat_eq q.0 e.0.0) (pointwise nat_eq q.1 e.0.1) is))
-
-    on : lookup (eq_key q) (filter (stays tenant number) es) ≡ unless_of tenant number q.0 (lookup (eq_key q) es) → (m : Bool) → is_of_report tenant number (receipt_at e) ≡ m → eq_key q e.0 ≡ true → lookup (eq_key q) (cond (not m) (e ∷ filter (stays tenant number) es) (filter (stays tenant number) es)) ≡ cond m None (Some e.1)
-    on rest true at is = rest ∙ ap (unless_of tenant number q.0) (lookup-none (eq_key q) es (none_past_head keys_equiv q e es once is))
-    on rest false at is = rw is refl
-
-    by : lookup (eq_key q) (filter (stays tenant number) es) ≡ unless_of tenant number q.0 (lookup (eq_key q) es) → (b : Bool) → eq_key q e.0 ≡ b → (k : Bool) → stays tenant number e ≡ k → lookup (eq_key q) (filter (stays tenant number) (e ∷ es)) ≡ unless_of tenant number q.0 (cond b (Some e.1) (lookup (eq_key q) es))
-    by rest true is k at = rw (of is) (on rest (is_of_report tenant number (receipt_at e)) refl is)
-    by rest false is true at = rw (at, is) rest
-    by rest false is false at = rw at rest
 
 -- ---- what an Ok gives
 

@@ -1,5 +1,5 @@
 -- Receipts of reports, found by tenant and digest.
-use Rattle.std.specs.Prelude.{ℕ, ◌==◌, ◌&&◌, Bool, List, find, Option, Some, None, option_map, if◌then◌else◌}
+use Rattle.std.specs.Prelude.{ℕ, ◌==◌, ◌&&◌, Bool, List, find, Option, option_map}
 use Rattle.wb_base.specs.Secrets.{same_digest}
 use Rattle.wb_base.specs.declared.words.Digest.{Digest}
 
@@ -16,15 +16,6 @@ is_receipt tenant digest receipt = (receipt.tenant == tenant) && same_digest rec
 -- the number of the tenant's report whose receipt has a digest
 abbrev pub number_of : ℕ → Digest → List Receipt → Option ℕ
 number_of tenant digest receipts = option_map (λ (r : Receipt). r.number) (find (is_receipt tenant digest) receipts)
-
--- a receipt is of the tenant's report of that number
-abbrev pub is_of_report : ℕ → ℕ → Receipt → Bool
-is_of_report tenant number receipt = (receipt.tenant == tenant) && (receipt.number == number)
-
--- the number that is found for a receipt of tenant t, once the receipts of a report are gone
-abbrev pub unless_of : ℕ → ℕ → ℕ → Option ℕ → Option ℕ
-unless_of tenant number t None = None
-unless_of tenant number t (Some n) = if (t == tenant) && (n == number) then None else Some n
 
 -- what a receipt is found by in the table
 abbrev pub entry_key : ℕ → Digest → ℕ × List ℕ

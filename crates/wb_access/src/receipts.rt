@@ -1,8 +1,8 @@
 //! The receipts of live reports.
-ghost use Rattle.std.specs.Prelude.{◌≡◌, ◌+◌, ◌<◌, ◌≤◌, ◌==◌, ◌&&◌, ◌↔◌, ℕ, [], None, Some, IsOk, OnOk, IfErr, filter, not, if◌then◌else◌};
+ghost use Rattle.std.specs.Prelude.{◌≡◌, ◌+◌, ◌<◌, ◌≤◌, ◌==◌, ◌&&◌, ◌↔◌, ℕ, [], None, Some, IsOk, OnOk, IfErr, if◌then◌else◌};
 ghost use Rattle.wb_base.specs.declared.words.Digest.{Digest as Code};
 ghost use Rattle.wb_base.specs.Secrets.{same_digest};
-ghost use Rattle.wb_access.specs.Receipts.{number_of, is_of_report, entry_key, unless_of};
+ghost use Rattle.wb_access.specs.Receipts.{number_of, entry_key};
 
 use crate::AccessFault;
 use std::alloc::Global;
@@ -89,13 +89,11 @@ impl ReceiptBox {
         self.numbers.get(&key(tenant, digest)).copied()
     }
 
-    /// Drops the receipts of a report, as it is purged. It looks at all receipts once.
-    pub fn remove(&mut self, tenant: Tenant, number: Number)
-        ensures items { self.new.items ≡ filter (λ receipt. not (is_of_report tenant number receipt)) self.old.items }
-        ensures found { (t : ℕ) (d : Code) → number_of t d self.new.items ≡ unless_of tenant number t (number_of t d self.old.items) }
+    /// Drops a receipt of a tenant, as its report is purged. It looks at no other.
+    pub fn remove(&mut self, tenant: Tenant, digest: &Digest)
+        ensures found { (t : ℕ) (d : Code) → number_of t d self.new.items ≡ (if (tenant == t) && same_digest digest.now d then None else number_of t d self.old.items) }
         ensures kept { self.old.spare ≤ self.new.spare }
     {
-        self.numbers
-            .retain(|key, of| key.0 != tenant.id() || *of != number);
+        self.numbers.remove(&key(tenant, digest));
     }
 }

@@ -178,7 +178,7 @@ fn tenants_have_their_own_receipts(rt: HostRuntime) -> Result<(), Fail> {
     let two = Tenant::try_new(2).ok_or("a tenant")?;
     let first = Number::try_new(1).ok_or("a number")?;
     assert_eq!(rt; receipts.find(one, &other), Some(first));
-    receipts.remove(one, first);
+    receipts.remove(one, &other);
     assert_eq!(rt; receipts.find(one, &other), None);
     assert_eq!(rt; receipts.find(one, &code), Number::try_new(3));
     assert_eq!(rt; receipts.find(two, &code), Some(first));

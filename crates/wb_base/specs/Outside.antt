@@ -1,8 +1,8 @@
 -- Counts of faults, and what a failed write does to bytes that are told.
-use Rattle.std.specs.Prelude.{◌≡◌, ℕ, ◌+◌, ◌-◌, ◌^◌, ◌≤◌, min, List, ◌++◌, Option, Result, OnErr, IsErrOf}
+use Rattle.std.specs.Prelude.{◌≡◌, ℕ, ◌+◌, ◌-◌, ◌^◌, ◌≤◌, min, List, ◌++◌, Option, Result, OnOk, OnErr, IsErrOf}
 use Rattle.std.specs.Io.KnownBytes.{Appends}
 use Rattle.wb_base.specs.declared.faults.KeepErr.{KeepErr}
-use Rattle.wb_base.specs.declared.faults.KeepErr.TheVariants.{Failed as KeeperFailed}
+use Rattle.wb_base.specs.declared.faults.KeepErr.TheVariants.{Failed as KeeperFailed, Memory as KeeperMemory}
 
 -- one more, up to the last value
 abbrev pub one_more : ℕ → ℕ
@@ -12,14 +12,17 @@ one_more n = min (n + 1) (2 ^ 64 - 1)
 abbrev pub Rose : ℕ → ℕ → Type 0
 Rose before now = one_more before ≤ now
 
--- the count did not fall, and where the call failed, it rose
+-- the count did not fall: it stayed where the call was Ok, and rose where it failed
 pub record HasCause {T E : Type 0} (before now : ℕ) (result : Result T E) : Type 0 where
   pub later : before ≤ now
+  pub stayed : OnOk result (now ≡ before)
   pub failed : OnErr result (Rose before now)
 
 -- the same of a keeper, whose want of memory is no fault
 pub record KeeperHasCause {T : Type 0} (before now : ℕ) (result : Result T KeepErr) : Type 0 where
   pub later : before ≤ now
+  pub stayed : OnOk result (now ≡ before)
+  pub wanted : IsErrOf result KeeperMemory → now ≡ before
   pub failed : IsErrOf result KeeperFailed → Rose before now
 
 -- told bytes grow by a front part of these

@@ -97,7 +97,14 @@ pub fn put_opening(
     let tenant = tenancy.configuration.tenant();
     let numbering = draw_number(tenancy.configuration.settings(), tenancy.numbering, time);
     put_numbering(alloc, batch, tenant, &numbering)?;
-    put_entry(alloc, batch, tenant, number, 1, opening.case.trail().get(0))?;
+    put_entry(
+        alloc,
+        batch,
+        tenant,
+        number,
+        1,
+        opening.case.case().trail().get(0),
+    )?;
     put_sealed(alloc, batch, tenant, number, &opening.secret)
 }
 
@@ -147,6 +154,7 @@ pub fn keep<K: Keeper>(keeper: &mut K, batch: &[Change]) -> Result<(), Lost>
     ensures err { K.honest keeper.new → (rows : List KeptRow) → K.holds keeper.old rows → OnErr result (K.holds keeper.new rows) }
     ensures later { K.count keeper.old ≤ K.count keeper.new }
     ensures fault { result ≡ Err Lost.Keeper → Rose (K.count keeper.old) (K.count keeper.new) }
+    ensures stayed { result ≢ Err Lost.Keeper → K.count keeper.new ≡ K.count keeper.old }
     ensures asked { OnErr result (batch.now ≢ []) }
 {
     if batch.is_empty() {

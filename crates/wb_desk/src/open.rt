@@ -1,5 +1,5 @@
 //! Why a host is not opened, and the rows that it is opened over.
-ghost use Rattle.std.specs.Prelude.{◌≡◌, ◌≤◌, List, Err, IfOk};
+ghost use Rattle.std.specs.Prelude.{◌≡◌, ◌≢◌, ◌≤◌, List, Err, IfOk};
 ghost use Rattle.wb_base.specs.KeptRows.{key_cmp, key_of};
 ghost use Rattle.wb_base.specs.Outside.{Rose};
 ghost use Rattle.wb_base.specs.declared.rows.Row.{Row as KeptRow};
@@ -68,6 +68,7 @@ pub fn load<K: Keeper>(keeper: &mut K) -> Result<Vec<Row>, Lost>
     ensures ascending { IfOk result (λ loaded. IsAscending key_cmp key_of loaded.items) }
     ensures later { K.count keeper.old ≤ K.count keeper.new }
     ensures fault { result ≡ Err Lost.Keeper → Rose (K.count keeper.old) (K.count keeper.new) }
+    ensures stayed { result ≢ Err Lost.Keeper → K.count keeper.new ≡ K.count keeper.old }
 {
     match keeper.load() {
         Ok(rows) => Ok(rows),

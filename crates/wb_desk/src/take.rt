@@ -7,20 +7,18 @@ ghost use Rattle.wb_model.specs.Changes.{Begins, Notes, LogsIn, LogsOut};
 ghost use Rattle.wb_model.specs.Host.{plain_after, drawn, sealed_under};
 ghost use Rattle.wb_model.specs.Tables.{Who as WhoValue};
 ghost use Rattle.wb_model.specs.declared.entry.Entry.{Entry as EntryValue};
-ghost use Rattle.wb_tables.specs.Kept.{case_of, plain_of, place_of, sealed_of};
+ghost use Rattle.wb_tables.specs.Kept.{plain_of, place_of, sealed_of};
 ghost use Rattle.wb_tables.specs.Logins.{AreEarlier, login_of, session_of};
 ghost use Rattle.wb_tables.specs.Noted.{IsReady};
 ghost use Rattle.wb_tables.specs.Places.{IsPlace};
 ghost use Rattle.wb_tables.specs.Receipted.{HasOwnReceipt, is_submitted};
 ghost use Rattle.wb_desk.specs.Ready.{AreBy};
 
-use std::alloc::Global;
 use wb_base::{Answers, Moment, Number, Tenant};
-use wb_case::Case;
-use wb_custody::{AccessDesk, SealedTable};
+use wb_custody::SealedTable;
 use wb_model::{Numbering, TenantItem};
 use wb_plan::{Noted, Opening};
-use wb_tables::{Login, Report, Tenancy};
+use wb_tables::{Login, Tenancy};
 use wb_terms::day_of;
 
 /// The numbering after a draw.
@@ -39,20 +37,6 @@ pub fn draw_number(settings: &TenantItem, numbering: Numbering, time: Moment) ->
         at: time,
         drawn: before + 1,
         last: numbering.last + 1,
-    }
-}
-
-// The report of a number that begins. It takes no memory.
-fn begun(alloc: Global, number: Number, case: Case) -> Report
-    requires none { requests case.items ≡ [] }
-    ensures case { case_of result ≡ record { number = number; trail = case.items } }
-    ensures trail { result.case.items ≡ case.items }
-    ensures requests { result.desk.items ≡ requests result.case.items }
-{
-    Report {
-        number,
-        case,
-        desk: AccessDesk::new(alloc),
     }
 }
 
@@ -105,13 +89,7 @@ pub fn log_out(tenancy: &mut Tenancy, turn: u64)
 }
 
 /// A report begins: its number is drawn, and the report and its identity answers are put into room that was made.
-pub fn open_case(
-    alloc: Global,
-    tenancy: &mut Tenancy,
-    sealed: &mut SealedTable,
-    time: Moment,
-    opening: Opening,
-)
+pub fn open_case(tenancy: &mut Tenancy, sealed: &mut SealedTable, time: Moment, opening: Opening)
     requires place { (turns : ℕ) × IsPlace turns sealed.old.items (place_of tenancy.old) }
     requires number { tenancy.old.numbering.last < 4_294_967_295 }
     requires room { 0 < tenancy.old.cases.spare }
@@ -128,7 +106,7 @@ pub fn open_case(
     let Some(number) = Number::try_new(tenancy.numbering.last + 1) else {
         unreachable!();
     };
-    tenancy.cases.add(begun(alloc, number, opening.case));
+    tenancy.cases.add(opening.case.numbered(number));
     tenancy.numbering = draw_number(tenancy.configuration.settings(), tenancy.numbering, time);
     put_secret(
         sealed,

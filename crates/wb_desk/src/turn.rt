@@ -26,13 +26,7 @@ use wb_plan::{At, Plan, Planned, tenant_of};
 use wb_tables::{Tenancy, place_at, purge_all};
 
 // Makes the change of a turn that is ready, over purged tables. It takes no memory and cannot fail.
-fn make(
-    alloc: Global,
-    tenancy: &mut Tenancy,
-    sealed: &mut SealedTable,
-    time: Moment,
-    change: Planned,
-)
+fn make(tenancy: &mut Tenancy, sealed: &mut SealedTable, time: Moment, change: Planned)
     requires place { (turns : ℕ) × IsPlace turns sealed.old.items (place_of tenancy.old) }
     requires room { IsRoomy time tenancy.old sealed.old.spare change }
     requires own { IsOwn (plain_of tenancy.old) change }
@@ -42,7 +36,7 @@ fn make(
 {
     match change {
         Planned::Nothing => {}
-        Planned::Begins(opening) => open_case(alloc, tenancy, sealed, time, opening),
+        Planned::Begins(opening) => open_case(tenancy, sealed, time, opening),
         Planned::Notes(noted) => note_entry(tenancy, sealed, noted),
         Planned::LogsIn(login) => log_in(tenancy, login),
         Planned::LogsOut(turn, _) => log_out(tenancy, turn),
@@ -52,7 +46,6 @@ fn make(
 
 // Makes the change of the tenant at a place.
 fn make_at(
-    alloc: Global,
     tenancies: &mut [Tenancy],
     place: usize,
     sealed: &mut SealedTable,
@@ -69,7 +62,7 @@ fn make_at(
     ensures sessions { sessions_at (map place_of tenancies.new) ≤ sessions_at (map place_of tenancies.old) + 1 }
 {
     let tenancy = &mut tenancies[place];
-    make(alloc, tenancy, sealed, time, change)
+    make(tenancy, sealed, time, change)
 }
 
 // A turn of the tenant at a place.
@@ -90,6 +83,7 @@ fn turn_at<K: Keeper>(
     ensures back { K.honest keeper.new → K.honest keeper.old }
     ensures later { K.count keeper.old ≤ K.count keeper.new }
     ensures fault { result ≡ Err Lost.Keeper → Rose (K.count keeper.old) (K.count keeper.new) }
+    ensures stayed { result ≢ Err Lost.Keeper → K.count keeper.new ≡ K.count keeper.old }
 {
     let Ok(batched) = prepare_at(alloc, tenancies, place, sealed, at, asked) else {
         return Err(Lost::Memory);
@@ -100,7 +94,7 @@ fn turn_at<K: Keeper>(
     }
     purge_all(tenancies, sealed, at.time);
     let Plan { told, change } = batched.plan;
-    make_at(alloc, tenancies, place, sealed, at.time, change);
+    make_at(tenancies, place, sealed, at.time, change);
     Ok(told)
 }
 
@@ -122,6 +116,7 @@ fn turn_without<K: Keeper>(
     ensures back { K.honest keeper.new → K.honest keeper.old }
     ensures later { K.count keeper.old ≤ K.count keeper.new }
     ensures fault { result ≡ Err Lost.Keeper → Rose (K.count keeper.old) (K.count keeper.new) }
+    ensures stayed { result ≢ Err Lost.Keeper → K.count keeper.new ≡ K.count keeper.old }
 {
     let Ok(unnamed) = prepare_without(alloc, tenancies, t, at.time) else {
         return Err(Lost::Memory);
@@ -150,6 +145,7 @@ pub fn turn<K: Keeper>(
     ensures back { K.honest keeper.new → K.honest keeper.old }
     ensures later { K.count keeper.old ≤ K.count keeper.new }
     ensures fault { result ≡ Err Lost.Keeper → Rose (K.count keeper.old) (K.count keeper.new) }
+    ensures stayed { result ≢ Err Lost.Keeper → K.count keeper.new ≡ K.count keeper.old }
 {
     let t = tenant_of(&asked.command);
     match place_at(tenancies, t) {

@@ -13,6 +13,8 @@ pub trait Origin: Ledger {
     ghost honest: { Type 0 };
 }
 
+/// A brand says nothing of a desk by itself: where books are opened at one, the proof of that call picks what they were opened
+/// with, and these members are those of a brand that opens none.
 impl Origin for Brand {
     ghost use Rattle.std.specs.Prelude.{[]};
     ghost use Rattle.wb_tables.specs.Standing.{Standing};

@@ -24,7 +24,7 @@ use crate::turn::At;
 use std::alloc::Global;
 use wb_base::{Day, Memory, Text, UserId};
 use wb_model::{Body, Command, Custodied, Due, Listed, Told};
-use wb_tables::{Cases, Configuration, Report, Tenancy, lives, reads, today_at};
+use wb_tables::{Cases, Configuration, Filed, Report, Tenancy, lives, reads, today_at};
 use wb_views::{
     admin_view, context_view, custody_view, due_view, list_view, listed, public_view,
     push_custodied, push_dues, sort_dues,
@@ -95,14 +95,15 @@ fn is_listed(report: &Report, today: Day, user: UserId) -> bool
 // The rows of the live reports that a user reads.
 fn listed_rows(
     alloc: Global,
-    cases: &[Report],
+    cases: &[Filed],
     today: Day,
     user: UserId,
 ) -> Result<Vec<Listed>, Memory>
     ensures { IfOk result (λ rows. rows.items ≡ rows_of.all_listed (rows_of.readable user (filter (lives_on today) (map case_of cases.now)))) }
 {
     let mut rows = Vec::new(alloc);
-    for report in cases {
+    for filed in cases {
+        let report = filed.report();
         if is_listed(report, today, user) {
             rows.push(listed(alloc, report.number, &report.case)?)?;
         }
@@ -121,11 +122,12 @@ fn list(alloc: Global, tenancy: &Tenancy, at: &At, user: UserId) -> Result<Told,
 }
 
 // What is due on the live reports that a user reads, report by report.
-fn dues_of(alloc: Global, cases: &[Report], today: Day, user: UserId) -> Result<Vec<Due>, Memory>
+fn dues_of(alloc: Global, cases: &[Filed], today: Day, user: UserId) -> Result<Vec<Due>, Memory>
     ensures { IfOk result (λ rows. rows.items ≡ rows_of.dues (rows_of.readable user (filter (lives_on today) (map case_of cases.now)))) }
 {
     let mut rows = Vec::new(alloc);
-    for report in cases {
+    for filed in cases {
+        let report = filed.report();
         if is_listed(report, today, user) {
             push_dues(&mut rows, report.number, &report.case)?;
         }

@@ -18,7 +18,7 @@ use wb_case::Case;
 use wb_custody::{AccessDesk, what_legal_trails_say_of_requests};
 use wb_list::Items;
 use wb_rows::CaseItem;
-use wb_tables::{Report, Tenancy, place_at};
+use wb_tables::{Filed, Report, Tenancy, place_at};
 
 // The requests for an identity that a legal trail tells.
 fn requests_of(alloc: Global, case: &Case) -> Result<AccessDesk, Memory>
@@ -40,12 +40,13 @@ fn add_case(alloc: Global, tenancy: &mut Tenancy, item: CaseItem) -> Result<(), 
     ensures { OnOk result (place_of tenancy.new ≡ with_case (case_report item) (place_of tenancy.old)) }
 {
     let desk = requests_of(alloc, &item.case)?;
-    tenancy.cases.reserve()?;
-    tenancy.cases.add(Report {
+    let report = Report {
         number: item.number,
         case: item.case,
         desk,
-    });
+    };
+    tenancy.cases.reserve()?;
+    tenancy.cases.add(Filed::new(alloc, report)?);
     Ok(())
 }
 

@@ -10,7 +10,7 @@ use wb_base::{Memory, Number, Row, Tenant};
 use wb_custody::SealedTable;
 use wb_model::{ContextItem, Entry, FormItem, TenantItem, UserItem};
 use wb_rows::{entry_row, numbering_row, sealed_row};
-use wb_tables::{Configuration, Report, Tenancy};
+use wb_tables::{Configuration, Filed, Tenancy};
 use wb_tenants::{context_row, form_row, settings_row, user_row};
 
 /// What a tenant is set up with several of, each with its row.
@@ -153,11 +153,12 @@ fn add_trails(
     alloc: Global,
     rows: &mut Vec<Row>,
     tenant: Tenant,
-    reports: &[Report],
+    reports: &[Filed],
 ) -> Result<(), Memory>
     ensures { OnOk result (rows.new.items ≡ rows.old.items ++ trail_rows tenant (map case_of reports.now)) }
 {
-    for report in reports {
+    for filed in reports {
+        let report = filed.report();
         let trail = report.case.trail().as_slice();
         add_trail(alloc, rows, tenant, report.number, trail)?;
     }
@@ -185,13 +186,13 @@ fn add_all_answers(
     alloc: Global,
     rows: &mut Vec<Row>,
     tenant: Tenant,
-    reports: &[Report],
+    reports: &[Filed],
     sealed: &SealedTable,
 ) -> Result<(), Memory>
     ensures { OnOk result (rows.new.items ≡ rows.old.items ++ sealed_rows tenant (sealed_of sealed.now.items tenant) (map case_of reports.now)) }
 {
-    for report in reports {
-        add_answers(alloc, rows, tenant, report.number, sealed)?;
+    for filed in reports {
+        add_answers(alloc, rows, tenant, filed.report().number, sealed)?;
     }
     Ok(())
 }

@@ -4,15 +4,14 @@ ghost use Rattle.wb_looks.specs.Targeted.{told_of};
 
 use std::alloc::Global;
 use wb_base::{Answers, Memory, Number, Row};
-use wb_case::Case;
 use wb_looks::{Refusal, refuse};
 use wb_model::{Entry, Told};
-use wb_tables::{Login, Proposal, Who};
+use wb_tables::{Begun, Login, Proposal, Who};
 
 /// A report that begins: it has its first entry, and its identity answers where there are any.
 #[derive(Drop)]
 pub struct Opening {
-    pub case: Case,
+    pub case: Begun,
     pub secret: Option<Answers>,
 }
 

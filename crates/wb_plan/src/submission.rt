@@ -24,7 +24,7 @@ use wb_case::Case;
 use wb_list::TryClone;
 use wb_looks::{At, Refusal};
 use wb_model::{Actor, Body, ContextItem, Deed, Entry, FormItem, Numbering, TenantItem, Told};
-use wb_tables::{Tenancy, report_of_receipt};
+use wb_tables::{Begun, Tenancy, report_of_receipt};
 use wb_terms::{ack_due, day_of, expiry, feedback_due};
 use wb_trigger::{Split, check};
 use wb_views::submission_view;
@@ -151,11 +151,11 @@ fn secret_in(mark: bool, sealed: Answers) -> Option<Answers>
 }
 
 // The report that begins with an entry.
-fn started(alloc: Global, entry: Entry) -> Result<Case, Memory>
-    ensures { IfOk result (λ case. case.items ≡ entry ∷ []) }
+fn started(alloc: Global, entry: Entry) -> Result<Begun, Memory>
+    ensures { IfOk result (λ begun. begun.items ≡ entry ∷ []) }
 {
     match Case::start(alloc, entry) {
-        Ok(case) => Ok(case),
+        Ok(case) => Begun::new(alloc, case),
         Err(_) => Err(Memory),
     }
 }

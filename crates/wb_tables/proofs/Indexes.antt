@@ -303,7 +303,7 @@ left_live today n (c ∷ cs) e = by (λ g. left_live today n cs g) (has_number n
     by rest false true f g = rw f (ap (λ ds. c ∷ ds) (rest g))
     by rest false false f g = rw f (rest g)
 
-all_filter : {X : Type 0} (p q : X → Bool) (xs : List X) → list_all p xs ≡ true → list_all p (filter q xs) ≡ true
+pub all_filter : {X : Type 0} (p q : X → Bool) (xs : List X) → list_all p xs ≡ true → list_all p (filter q xs) ≡ true
 all_filter p q [] e = refl
 all_filter p q (x ∷ xs) e = by (q x) (first_and (p x) _ e) (all_filter p q xs (second_and (p x) _ e))
   where

@@ -1,18 +1,15 @@
 -- The table of receipts has those of the reports.
-use Rattle.std.proofs.Common.{◌≡◌, ℕ, ◌++◌, Bool, true, false, cond, List, [], ◌∷◌, length, map, find, Option, Some, None, refl, sym, ap, ◌∙◌, subst, arith}
-use Rattle.std.specs.Prelude.{◌==◌, ◌&&◌, ◌||◌, filter, fold, is_some, not, unwrap_or, if◌then◌else◌}
-use Rattle.std.specs.Cmp.Lexicographic.{bytes_decides, slice_cmp}
-use Rattle.std.specs.List.{list_any}
+use Rattle.std.proofs.Common.{◌≡◌, ℕ, ℤ, ◌++◌, Bool, true, false, cond, List, [], ◌∷◌, length, map, find, Option, Some, None, refl, sym, ap, ◌∙◌, arith}
+use Rattle.std.specs.Prelude.{◌==◌, ◌&&◌, ◌||◌, fold, is_some, not, unwrap_or, if◌then◌else◌}
+use Rattle.std.specs.Cmp.Lexicographic.{bytes_decides}
+use Rattle.std.specs.List.{list_all}
 use Rattle.std.specs.Option.{option_map}
-use Rattle.std.specs.Ordering.{match_ordering, nat_cmp, ordering_then}
-use Rattle.std.specs.declared.cmp.Ordering.{Ordering}
-use Rattle.std.specs.declared.cmp.Ordering.TheVariants.{Less, Equal, Greater}
 use Rattle.std.proofs.lemmas.Bool.Decides.{nat_tests}
-use Rattle.wb_access.specs.Receipts.{Receipt, number_of, unless_of}
+use Rattle.std.proofs.lemmas.List.Folds.{list_all-append, list_any-append}
+use Rattle.wb_access.specs.Receipts.{Receipt, number_of}
 use Rattle.wb_base.specs.Secrets.{same_digest}
 use Rattle.wb_base.specs.AnswerList.{is_text}
 use Rattle.wb_base.specs.declared.words.Digest.{Digest}
-use Rattle.wb_list.specs.Keyed.{insert_item}
 use Rattle.wb_model.specs.declared.act.Act.{Act}
 use Rattle.wb_model.specs.declared.act.Act.TheVariants as acts
 use Rattle.wb_model.specs.declared.act.Move.{Move}
@@ -27,8 +24,9 @@ use Rattle.wb_model.specs.Trails.{Submission, receipt, submission_in, submitted}
 use Rattle.wb_model.proofs.Found.{find_true}
 use Rattle.wb_model.proofs.Leaving.{apart_filter, apart_map, apart_push}
 use Rattle.wb_model.proofs.LiveActs.{silent_receipt}
-use Rattle.wb_tables.specs.Receipted.{AreReceipted, HasOwnReceipt, is_submitted}
-use Rattle.wb_tables.proofs.Indexes.{first_and, second_and, without}
+use Rattle.wb_tables.specs.Lives.{lives_on, is_dead}
+use Rattle.wb_tables.specs.Receipted.{AreReceipted, HasOwnReceipt, is_submitted, has_submission}
+use Rattle.wb_tables.proofs.Indexes.{all_filter, first_and, second_and, without}
 use Rattle.wb_tables.proofs.Lookups.{find_kept, kept}
 
 abbrev number_at : Case → ℕ
@@ -106,11 +104,12 @@ find_last {X} p (y ∷ xs) x on none = by (p y) none (λ f. find_last p xs x on 
 as_trail : (tenant : ℕ) (d e : Digest) (trail : List Entry) → d.0 ≡ receipt trail → ((tenant == tenant) && same_digest d e) ≡ is_text (receipt trail) e.0
 as_trail tenant d e trail is = let self : (tenant == tenant) ≡ true = grind (arith, nat_tests) in rw self (ap (λ s. is_text s e.0) is)
 
-pub receipted_more : (tenant : ℕ) (cs : List Case) (rs new : List Receipt) (c : Case) (d : Digest) → AreReceipted tenant cs rs → d.0 ≡ receipt c.trail → HasOwnReceipt c.trail cs
+pub receipted_more : (tenant : ℕ) (cs : List Case) (rs new : List Receipt) (c : Case) (d : Digest) → AreReceipted tenant cs rs → d.0 ≡ receipt c.trail → HasOwnReceipt c.trail cs → is_submitted c.trail ≡ true
     → ((t : ℕ) (e : Digest) → number_of t e new ≡ (if (tenant == t) && same_digest d e then Some c.number else number_of t e rs)) → AreReceipted tenant (cs ++ c ∷ []) new
-receipted_more tenant cs rs new c d h is own found = record {
+receipted_more tenant cs rs new c d h is own begun found = record {
   numbers = λ e. found tenant e ∙ (ap (λ b. cond b (Some c.number) (number_of tenant e rs)) (as_trail tenant d e c.trail is) ∙ by e (has_receipt e c) refl);
   apart = apart_push has_receipt cs c h.apart own;
+  submitted = list_all-append has_submission cs (c ∷ []) ∙ rw (h.submitted, begun) refl;
 }
   where
     by : (e : Digest) (b : Bool) → has_receipt e c ≡ b → cond b (Some c.number) (number_of tenant e rs) ≡ option_map number_at (with_receipt e (cs ++ c ∷ []))
@@ -120,26 +119,68 @@ receipted_more tenant cs rs new c d h is own found = record {
 -- ---- room, which moves no receipt to another report
 
 pub receipted_same : (tenant : ℕ) (cs : List Case) (rs new : List Receipt) → ((t : ℕ) (d : Digest) → number_of t d new ≡ number_of t d rs) → AreReceipted tenant cs rs → AreReceipted tenant cs new
-receipted_same tenant cs rs new found h = record { numbers = λ d. found tenant d ∙ h.numbers d; apart = h.apart }
+receipted_same tenant cs rs new found h = record { numbers = λ d. found tenant d ∙ h.numbers d; apart = h.apart; submitted = h.submitted }
 
 -- ---- a report less
 
-pub receipted_left : (tenant n : ℕ) (cs : List Case) (rs new : List Receipt) → AreReceipted tenant cs rs → ((t : ℕ) (d : Digest) → number_of t d new ≡ unless_of tenant n t (number_of t d rs)) → AreReceipted tenant (without n cs) new
-receipted_left tenant n cs rs new h found = record {
-  numbers = λ d. found tenant d ∙ (ap (unless_of tenant n tenant) (h.numbers d) ∙ (by (with_receipt d cs) ∙ sym (ap (option_map number_at) (find_kept has_receipt d (λ c. not (has_number n c)) cs h.apart))));
-  apart = apart_filter has_receipt (λ c. not (has_number n c)) cs h.apart;
+-- an item that is found is the one that a key finds that it has, where no two have it
+under_key : {K : Type 0} (P : K → Case → Bool) (k : K) (p : Case → Bool) (cs : List Case) (c : Case) → Apart P cs → find p cs ≡ Some c → P k c ≡ true → find (P k) cs ≡ Some c
+under_key P k p [] c apart e is = absurd (cc e)
+under_key P k p (x ∷ xs) c apart e is = by (p x) e (λ f. under_key P k p xs c apart.1 f is)
+  where
+    on : (b : Bool) → P k x ≡ b → find (P k) xs ≡ Some c → cond b (Some x) (find (P k) xs) ≡ Some c
+    on true hit rest = absurd (cc (sym (apart.0 k hit) ∙ rest))
+    on false hit rest = rest
+
+    by : (b : Bool) → cond b (Some x) (find p xs) ≡ Some c → (find p xs ≡ Some c → find (P k) xs ≡ Some c) → cond (P k x) (Some x) (find (P k) xs) ≡ Some c
+    by true f rest =
+        let same : x ≡ c = cc f in
+        let here : P k x ≡ true = ap (P k) same ∙ is in
+        rw here f
+    by false f rest = on (P k x) refl (rest f)
+
+-- a report that does not live is there
+pub dead_report : (n : ℕ) (today : ℤ) (cs : List Case) → is_dead n today cs ≡ true → report n cs ≡ None → ⊥
+dead_report n today [] dead none = absurd (cc dead)
+dead_report n today (c ∷ cs) dead none = by (has_number n c) dead none (λ d e. dead_report n today cs d e)
+  where
+    by : (b : Bool) → ((b && not (lives_on today c)) || is_dead n today cs) ≡ true → cond b (Some c) (report n cs) ≡ None → (is_dead n today cs ≡ true → report n cs ≡ None → ⊥) → ⊥
+    by true d e rest = absurd (cc e)
+    by false d e rest = rest d e
+
+-- each report that is found has a submission
+pub submitted_found : (p : Case → Bool) (cs : List Case) (c : Case) → list_all has_submission cs ≡ true → find p cs ≡ Some c → is_submitted c.trail ≡ true
+submitted_found p [] c all e = absurd (cc e)
+submitted_found p (x ∷ xs) c all e = by (p x) e (λ f. submitted_found p xs c (second_and (has_submission x) _ all) f)
+  where
+    by : (b : Bool) → cond b (Some x) (find p xs) ≡ Some c → (find p xs ≡ Some c → is_submitted c.trail ≡ true) → is_submitted c.trail ≡ true
+    by true f rest = let same : x ≡ c = cc f in ap has_submission (sym same) ∙ first_and (has_submission x) _ all
+    by false f rest = rest f
+
+pub receipted_left : (tenant n : ℕ) (cs : List Case) (rs new : List Receipt) (c : Case) (d : Digest) → Apart has_number cs → AreReceipted tenant cs rs → report n cs ≡ Some c → d.0 ≡ receipt c.trail
+    → ((t : ℕ) (e : Digest) → number_of t e new ≡ (if (tenant == t) && same_digest d e then None else number_of t e rs)) → AreReceipted tenant (without n cs) new
+receipted_left tenant n cs rs new c d numbers h there is found = record {
+  numbers = λ e. found tenant e ∙ (ap (λ b. cond b None (number_of tenant e rs)) (as_trail tenant d e c.trail is) ∙ (by e (has_receipt e c) refl ∙ sym (ap (option_map number_at) (find_kept has_receipt e stays cs h.apart))));
+  apart = apart_filter has_receipt stays cs h.apart;
+  submitted = all_filter has_submission stays cs h.submitted;
 }
   where
-    self : (tenant == tenant) ≡ true
-    self = grind (arith, nat_tests)
+    stays : Case → Bool
+    stays x = not (has_number n x)
 
-    on : (c : Case) (b : Bool) → cond b None (Some c.number) ≡ option_map number_at (cond (not b) (Some c) None)
-    on c true = refl
-    on c false = refl
+    other : (e : Digest) → has_receipt e c ≡ false → (x : Case) → with_receipt e cs ≡ Some x → (b : Bool) → has_number n x ≡ b → Some x.number ≡ option_map number_at (cond (not b) (Some x) None)
+    other e off x f true hit =
+        let same : c ≡ x = cc (there, under_key has_number n (has_receipt e) cs x numbers f hit) in
+        absurd (cc (off, ap (has_receipt e) same ∙ find_true (has_receipt e) cs x f))
+    other e off x f false hit = refl
 
-    by : (w : Option Case) → unless_of tenant n tenant (option_map number_at w) ≡ option_map number_at (kept (λ c. not (has_number n c)) w)
-    by None = refl
-    by (Some c) = rw self (on c (c.number == n))
+    left : (e : Digest) → has_receipt e c ≡ false → (w : Option Case) → with_receipt e cs ≡ w → option_map number_at w ≡ option_map number_at (kept stays w)
+    left e off None f = refl
+    left e off (Some x) f = other e off x f (has_number n x) refl
+
+    by : (e : Digest) (b : Bool) → has_receipt e c ≡ b → cond b None (number_of tenant e rs) ≡ option_map number_at (kept stays (with_receipt e cs))
+    by e true on = let here : has_number n c ≡ true = find_true (has_number n) cs c there in rw (under_key has_receipt e (has_number n) cs c h.apart there on, here) refl
+    by e false off = h.numbers e ∙ left e off (with_receipt e cs) refl
 
 -- ---- one more entry of a report
 
@@ -158,10 +199,19 @@ number_noted n e p same (c ∷ cs) = ap (λ b. option_map number_at (cond b (Som
     by true rest = refl
     by false rest = rest
 
+submitted_noted : (n : ℕ) (e : Entry) (cs : List Case) → list_all has_submission cs ≡ true → list_all has_submission (map (noted n e) cs) ≡ true
+submitted_noted n e [] all = refl
+submitted_noted n e (c ∷ cs) all = by (c.number == n) (first_and (has_submission c) _ all) (submitted_noted n e cs (second_and (has_submission c) _ all))
+  where
+    by : (b : Bool) → is_submitted c.trail ≡ true → list_all has_submission (map (noted n e) cs) ≡ true → (is_submitted (cond b (c.trail ++ e ∷ []) c.trail) && list_all has_submission (map (noted n e) cs)) ≡ true
+    by true is rest = rw (list_any-append (λ (x : Entry). is_some (submission_in x.deed)) c.trail (e ∷ []), is, rest) refl
+    by false is rest = rw (is, rest) refl
+
 pub receipted_noted : (tenant n : ℕ) (e : Entry) (cs : List Case) (rs : List Receipt) → submission_in e.deed ≡ None → AreReceipted tenant cs rs → AreReceipted tenant (map (noted n e) cs) rs
 receipted_noted tenant n e cs rs later h = record {
   numbers = λ d. h.numbers d ∙ sym (number_noted n e (has_receipt d) (noted_receipt n e later d) cs);
   apart = apart_map has_receipt (noted n e) cs (noted_receipt n e later) h.apart;
+  submitted = submitted_noted n e cs h.submitted;
 }
 
 -- what an act and a move put on a trail is no submission
@@ -176,22 +226,7 @@ move_later at _ = refl
 -- ---- the report that is found
 
 under_number : (p : Case → Bool) (cs : List Case) (c : Case) → Apart has_number cs → find p cs ≡ Some c → report c.number cs ≡ Some c
-under_number p [] c apart e = absurd (cc e)
-under_number p (x ∷ xs) c apart e = by (p x) e (λ f. under_number p xs c apart.1 f)
-  where
-    self : (c.number == c.number) ≡ true
-    self = grind (arith, nat_tests)
-
-    on : (b : Bool) → (x.number == c.number) ≡ b → report c.number xs ≡ Some c → cond b (Some x) (report c.number xs) ≡ Some c
-    on true is rest = absurd (cc (sym (apart.0 c.number is) ∙ rest))
-    on false is rest = rest
-
-    by : (b : Bool) → cond b (Some x) (find p xs) ≡ Some c → (find p xs ≡ Some c → report c.number xs ≡ Some c) → cond (x.number == c.number) (Some x) (report c.number xs) ≡ Some c
-    by true f rest =
-        let same : x ≡ c = cc f in
-        let here : (x.number == c.number) ≡ true = ap (λ (y : Case). y.number == c.number) same ∙ self in
-        rw here f
-    by false f rest = on (x.number == c.number) refl (rest f)
+under_number p cs c apart e = let self : (c.number == c.number) ≡ true = grind (arith, nat_tests) in under_key has_number c.number p cs c apart e self
 
 -- the table leads to the report with the receipt, and where it has none there is none
 pub receipted_found : (tenant n : ℕ) (d : Digest) (cs : List Case) (rs : List Receipt) → Apart has_number cs → AreReceipted tenant cs rs → Some n ≡ number_of tenant d rs → report n cs ≡ with_receipt d cs

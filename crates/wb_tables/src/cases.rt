@@ -21,6 +21,7 @@ ghost use Rattle.wb_terms.specs.Index.{same_term};
 ghost use Rattle.wb_terms.specs.declared.term_index.Term.{Term as TermData};
 
 use crate::asked::{Asked, put_asked};
+use crate::filed::{Filed, report_in};
 use crate::noting::{Acting, Moving, Noting, expires};
 use crate::tenancy::Report;
 use std::alloc::Global;
@@ -36,7 +37,7 @@ use wb_terms::{Term, TermIndex};
 #[derive(Drop)]
 pub struct Cases {
     tenant: Tenant,
-    cases: Sorted<Report>,
+    cases: Sorted<Filed>,
     asked: Sorted<Asked>,
     terms: TermIndex,
     receipts: ReceiptBox,
@@ -109,7 +110,7 @@ impl Cases {
     }
 
     /// All reports, in the order of their numbers.
-    pub fn as_slice(&self) -> &[Report]
+    pub fn as_slice(&self) -> &[Filed]
         ensures all { result.now ≡ self.now.items }
         ensures ascending { IsAscending nat_cmp (λ report. report.number) self.now.items }
         ensures custodied { AreCustodied self.now.items }
@@ -122,16 +123,16 @@ impl Cases {
         ensures found { option_map case_of (option_copied result) ≡ report_by number (map case_of self.now.items) }
         ensures custodied { IfSome result (λ report. report.now.desk.items ≡ requests report.now.case.items) }
     {
-        self.cases.find(&number)
+        report_in(self.cases.find(&number))
     }
 
-    /// The report whose receipt has a digest, found by two binary searches.
+    /// The report whose receipt has a digest, found by the hash of the receipt and a binary search.
     pub fn with_receipt(&self, digest: &Digest) -> Option<&Report>
         ensures found { option_map case_of (option_copied result) ≡ with_receipt_by digest.now (map case_of self.now.items) }
         ensures custodied { IfSome result (λ report. report.now.desk.items ≡ requests report.now.case.items) }
     {
         let number = self.receipts.find(self.tenant, digest)?;
-        self.cases.find(&number.get())
+        report_in(self.cases.find(&number.get()))
     }
 
     /// How many reports have requests for their identity.
@@ -149,7 +150,7 @@ impl Cases {
         ensures custodied { result.now.desk.items ≡ requests result.now.case.items }
     {
         let number = self.asked.get(at).number;
-        match self.cases.find(&number.get()) {
+        match report_in(self.cases.find(&number.get())) {
             Some(report) => report,
             None => unreachable!(),
         }
@@ -171,23 +172,24 @@ impl Cases {
     }
 
     /// Adds a report with the greatest number and a receipt of its own, into room that was made. It takes no memory.
-    pub fn add(&mut self, report: Report)
+    pub fn add(&mut self, filed: Filed)
         requires room { 0 < self.old.spare }
-        requires above { (last : ℕ) × (AtMost last (map case_of self.old.items) × (last < report.number)) }
-        requires submitted { is_submitted report.case.items ≡ true }
-        requires own { HasOwnReceipt report.case.items (map case_of self.old.items) }
-        requires custodied { report.desk.items ≡ requests report.case.items }
+        requires above { (last : ℕ) × (AtMost last (map case_of self.old.items) × (last < filed.number)) }
+        requires submitted { is_submitted filed.case.items ≡ true }
+        requires own { HasOwnReceipt filed.case.items (map case_of self.old.items) }
+        requires custodied { filed.desk.items ≡ requests filed.case.items }
         ensures tenant { self.new.tenant ≡ self.old.tenant }
-        ensures items { self.new.items ≡ self.old.items ++ report ∷ [] }
+        ensures items { self.new.items ≡ self.old.items ++ filed ∷ [] }
         ensures room { self.old.spare ≤ self.new.spare + 1 }
     {
+        let report = filed.report();
         let Some(digest) = receipt(report.case.trail().as_slice()) else {
             unreachable!();
         };
-        let term = expiry(self.tenant, &report);
+        let term = expiry(self.tenant, report);
         let number = report.number;
         let has_requests = report.desk.len() != 0;
-        self.cases.add(report);
+        self.cases.add(filed);
         put_asked(&mut self.asked, number, has_requests);
         self.terms.add(term);
         self.receipts.add(self.tenant, digest, number);
@@ -267,10 +269,15 @@ impl Cases {
         ensures kept { self.old.spare ≤ self.new.spare }
     {
         let term = self.terms.first_up_to(self.tenant, today, Kind::Expiry)?;
-        self.cases.take(&term.number.get());
+        let Some(filed) = self.cases.take(&term.number.get()) else {
+            unreachable!();
+        };
+        let Some(digest) = receipt(filed.report().case.trail().as_slice()) else {
+            unreachable!();
+        };
         self.asked.take(&term.number.get());
         self.terms.remove(&term);
-        self.receipts.remove(self.tenant, term.number);
+        self.receipts.remove(self.tenant, &digest);
         Some(term.number)
     }
 }

@@ -2,6 +2,7 @@
 ghost use Rattle.std.specs.Prelude.{◌≡◌};
 ghost use Rattle.wb_model.specs.Trails.{expires as expires_by};
 
+use crate::filed::Filed;
 use crate::tenancy::Report;
 use wb_base::{Day, Moment};
 use wb_list::ItemChange;
@@ -15,7 +16,7 @@ pub(crate) struct Acting {
     pub(crate) act: Act,
 }
 
-impl ItemChange<Report> for Acting {
+impl ItemChange<Filed> for Acting {
     type Answer = Result<Entry, CaseFault>;
 
     ghost use Rattle.wb_case.specs.Plans.{IsInRange};
@@ -25,8 +26,8 @@ impl ItemChange<Report> for Acting {
 
     ghost makes = { λ acting old new answer. IsActed acting.at acting.by acting.act old new answer };
 
-    fn change(self, report: &mut Report) -> Result<Entry, CaseFault> {
-        report.case.plan(self.at, self.by, self.act)
+    fn change(self, filed: &mut Filed) -> Result<Entry, CaseFault> {
+        filed.report.case.plan(self.at, self.by, self.act)
     }
 }
 
@@ -38,7 +39,7 @@ pub(crate) struct Moving {
     pub(crate) move_: Move,
 }
 
-impl ItemChange<Report> for Moving {
+impl ItemChange<Filed> for Moving {
     type Answer = Result<Entry, CustodyFault>;
 
     ghost use Rattle.std.specs.Prelude.{◌≡◌, ◌≤◌, length, false};
@@ -49,7 +50,8 @@ impl ItemChange<Report> for Moving {
 
     ghost makes = { λ moving old new answer. IsMoved moving.at moving.by moving.move_ old new answer };
 
-    fn change(self, report: &mut Report) -> Result<Entry, CustodyFault> {
+    fn change(self, filed: &mut Filed) -> Result<Entry, CustodyFault> {
+        let report = &mut filed.report;
         let entries = report.case.trail().len();
         let mark = report.case.summary().has_identity;
         match report
@@ -85,7 +87,7 @@ pub(crate) fn expires(report: &Report) -> Day
     report.case.summary().expires
 }
 
-impl ItemChange<Report> for Noting {
+impl ItemChange<Filed> for Noting {
     type Answer = NotedEntry;
 
     ghost use Rattle.wb_tables.specs.Noted.{IsRoomy, IsNoted};
@@ -94,7 +96,8 @@ impl ItemChange<Report> for Noting {
 
     ghost makes = { λ noting old new answer. IsNoted noting.0 old new answer };
 
-    fn change(self, report: &mut Report) -> NotedEntry {
+    fn change(self, filed: &mut Filed) -> NotedEntry {
+        let report = &mut filed.report;
         let before = expires(report);
         report.desk.take(&self.0);
         report.case.take(self.0);

@@ -1,5 +1,5 @@
 //! A reader of a script's setup and frames.
-ghost use Rattle.std.specs.Prelude.{◌≡◌, ◌≤◌, ◌^◌, Some, None, Err, IfOk, IfErr, IfSome};
+ghost use Rattle.std.specs.Prelude.{◌≡◌, ◌≢◌, ◌≤◌, ◌^◌, Some, None, Err, IfOk, IfErr, IfSome};
 ghost use Rattle.std.specs.Io.KnownBytes.{Keeps};
 ghost use Rattle.wb_wire.specs.FrameReading.{TookNext, HasCause, after_next};
 ghost use Rattle.wb_wire.specs.SetupReading.{TookSetup, LacksSetup, after_setup};
@@ -83,6 +83,7 @@ impl FrameReader {
         ensures stops { IfErr result (λ no. self.new ≡ record self.old { stopped = Some no }) }
         ensures again { IfSome self.old.stopped (λ no. (result ≡ Err no) × Keeps (S.left source.old) (S.left source.new)) }
         ensures later { S.count source.old ≤ S.count source.new }
+        ensures stayed { result ≢ Err FrameNo.Read → S.count source.new ≡ S.count source.old }
     {
         if let Some(no) = self.stopped {
             return Err(no);
@@ -103,6 +104,7 @@ impl FrameReader {
         ensures stops { IfErr result (λ no. self.new ≡ record self.old { stopped = Some no }) }
         ensures again { IfSome self.old.stopped (λ no. (result ≡ Err no) × Keeps (S.left source.old) (S.left source.new)) }
         ensures later { S.count source.old ≤ S.count source.new }
+        ensures stayed { result ≢ Err FrameNo.Read → S.count source.new ≡ S.count source.old }
     {
         if let Some(no) = self.stopped {
             return Err(no);
@@ -120,6 +122,7 @@ impl FrameReader {
         ensures cause { IfErr result (λ no. LacksSetup self.old (S.left source.old) (S.left source.new) (S.count source.old) (S.count source.new) no) }
         ensures same { IfErr result (λ no. self.new ≡ self.old) }
         ensures later { S.count source.old ≤ S.count source.new }
+        ensures stayed { result ≢ Err FrameNo.Read → S.count source.new ≡ S.count source.old }
     {
         let most = LIMIT - self.taken;
         let mut room = [0u8; LINE_ROOM];
@@ -154,6 +157,7 @@ impl FrameReader {
         ensures cause { IfErr result (λ no. HasCause self.old (S.left source.old) (S.left source.new) (S.count source.old) (S.count source.new) no) }
         ensures same { IfErr result (λ no. self.new ≡ self.old) }
         ensures later { S.count source.old ≤ S.count source.new }
+        ensures stayed { result ≢ Err FrameNo.Read → S.count source.new ≡ S.count source.old }
     {
         let bad = FrameNo::Bad(self.given + 1);
         let most = LIMIT - self.taken;

@@ -1,5 +1,5 @@
 //! Taking the parts of a frame from a source, of which at most so many bytes may be taken.
-ghost use Rattle.std.specs.Prelude.{◌≡◌, ◌<◌, ◌≤◌, length, take, [], IfOk, IfErr};
+ghost use Rattle.std.specs.Prelude.{◌≡◌, ◌≢◌, ◌<◌, ◌≤◌, length, take, [], Err, IfOk, IfErr};
 ghost use Rattle.std.specs.Io.KnownBytes.{Consumes, IsAtEnd};
 ghost use Rattle.wb_wire.specs.FrameReading.{Stopped, TookLine, StoppedInLine, TookBytes, StoppedInBytes, TookByte, TookBody, StoppedInBody};
 
@@ -38,6 +38,7 @@ fn take_some<S: Source>(source: &mut S, most: u64, into: &mut [u8]) -> Result<us
     ensures end { IfOk result (λ n. n ≡ 0 → IsAtEnd (S.left source.new)) }
     ensures err { IfErr result (λ no. Stopped most (S.left source.old) (S.left source.new) (S.count source.old) (S.count source.new) [] no) }
     ensures later { S.count source.old ≤ S.count source.new }
+    ensures stayed { result ≢ Err FrameNo.Read → S.count source.new ≡ S.count source.old }
 {
     if most == 0 {
         let mut probe = [0u8; 1];
@@ -63,6 +64,7 @@ pub fn take_line<S: Source>(
     ensures ok { IfOk result (λ line. TookLine most (S.left source.old) (S.left source.new) room.new line) }
     ensures err { IfErr result (λ no. StoppedInLine most (S.left source.old) (S.left source.new) (S.count source.old) (S.count source.new) no) }
     ensures later { S.count source.old ≤ S.count source.new }
+    ensures stayed { result ≢ Err FrameNo.Read → S.count source.new ≡ S.count source.old }
 {
     let mut used = 0;
     let mut byte = [0u8; 1];
@@ -94,6 +96,7 @@ fn fill<S: Source>(source: &mut S, most: u64, room: &mut [u8]) -> Result<usize, 
     ensures end { IfOk result (λ n. n < length room.new → IsAtEnd (S.left source.new)) }
     ensures err { IfErr result (λ no. StoppedInBytes (length room.new) most (S.left source.old) (S.left source.new) (S.count source.old) (S.count source.new) no) }
     ensures later { S.count source.old ≤ S.count source.new }
+    ensures stayed { result ≢ Err FrameNo.Read → S.count source.new ≡ S.count source.old }
 {
     let mut at = 0;
     while at < room.len() {
@@ -123,6 +126,7 @@ fn take_bytes<S: Source>(
     ensures ok { IfOk result (λ part. TookBytes size most (S.left source.old) (S.left source.new) part) }
     ensures err { IfErr result (λ no. StoppedInBytes size most (S.left source.old) (S.left source.new) (S.count source.old) (S.count source.new) no) }
     ensures later { S.count source.old ≤ S.count source.new }
+    ensures stayed { result ≢ Err FrameNo.Read → S.count source.new ≡ S.count source.old }
 {
     let mut bytes = match zeros(alloc, size) {
         Ok(bytes) => bytes,
@@ -144,6 +148,7 @@ fn take_byte<S: Source>(source: &mut S, most: u64) -> Result<Option<u8>, FrameNo
     ensures ok { IfOk result (λ byte. TookByte most (S.left source.old) (S.left source.new) byte) }
     ensures err { IfErr result (λ no. Stopped most (S.left source.old) (S.left source.new) (S.count source.old) (S.count source.new) [] no) }
     ensures later { S.count source.old ≤ S.count source.new }
+    ensures stayed { result ≢ Err FrameNo.Read → S.count source.new ≡ S.count source.old }
 {
     let mut byte = [0u8; 1];
     match take_some(source, most, &mut byte) {
@@ -163,6 +168,7 @@ pub fn take_body<S: Source>(
     ensures ok { IfOk result (λ part. TookBody size most (S.left source.old) (S.left source.new) part) }
     ensures err { IfErr result (λ no. StoppedInBody size most (S.left source.old) (S.left source.new) (S.count source.old) (S.count source.new) no) }
     ensures later { S.count source.old ≤ S.count source.new }
+    ensures stayed { result ≢ Err FrameNo.Read → S.count source.new ≡ S.count source.old }
 {
     let bytes = match take_bytes(alloc, source, most, size) {
         Ok(Part::Whole(bytes)) => bytes,

@@ -12,7 +12,7 @@ loop-at-preserved g c =
       fits = search rules;
       most = omega (arith, c.loop-at.invariant.most, c.in-Ok.ensures.most);
       taken = rw grown (Consumes-trans _ _ _ _ _ c.loop-at.invariant.taken c.in-Ok.ensures.ok);
-      later = omega (arith, c.loop-at.invariant.later, c.take_some.ensures.later);
+      stayed = grind (arith, c.in-Ok.ensures.stayed, c.loop-at.invariant.stayed);
     }
 
 pub returns-in-Err-clause-err : goal.returns-in-Err-clause-err
@@ -20,5 +20,5 @@ returns-in-Err-clause-err g c =
     let whole : length (take c.loop-at.at c.loop-at.room) ≡ c.loop-at.at = length-take-le c.loop-at.at c.loop-at.room c.loop-at.invariant.fits in (
       take c.loop-at.at c.loop-at.room,
       search rules,
-      stopped_there c.args.most c.loop-at.at _ _ _ _ _ _ (take c.loop-at.at c.loop-at.room) c.in-Err.no c.loop-at.invariant.later whole c.loop-at.invariant.most c.loop-at.invariant.taken c.in-Err.ensures.err,
+      stopped_there c.args.most c.loop-at.at _ _ _ _ _ _ (take c.loop-at.at c.loop-at.room) c.in-Err.no (omega (arith, c.loop-at.invariant.stayed)) whole c.loop-at.invariant.most c.loop-at.invariant.taken c.in-Err.ensures.err,
     )

@@ -1,4 +1,4 @@
-use Rattle.std.proofs.Common.{◌≤◌, ◌-◌, length, take}
+use Rattle.std.proofs.Common.{◌≡◌, ◌≤◌, ◌-◌, length, take}
 use Rattle.std.specs.Io.KnownBytes.{Consumes}
 use Rattle.wb_wire.proofs.taking.fill.Given as goal
 
@@ -7,7 +7,7 @@ invariant-loop-at g l = record {
   fits : l.at ≤ length l.room;
   most : l.at ≤ l.most;
   taken : Consumes (g.S.Source.left l.initial.source) (g.S.Source.left l.source) (take l.at l.room);
-  later : g.S.Source.count l.initial.source ≤ g.S.Source.count l.source;
+  stayed : g.S.Source.count l.source ≡ g.S.Source.count l.initial.source;
 }
 
 abbrev pub decreases-loop-at : goal.decreases-loop-at

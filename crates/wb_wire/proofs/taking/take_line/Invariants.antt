@@ -10,7 +10,7 @@ invariant-loop-used g l = record {
   most : l.used ≤ l.most;
   taken : Consumes (g.S.Source.left l.initial.source) (g.S.Source.left l.source) (take l.used l.room);
   line : Lacks 10 (take l.used l.room);
-  later : g.S.Source.count l.initial.source ≤ g.S.Source.count l.source;
+  stayed : g.S.Source.count l.source ≡ g.S.Source.count l.initial.source;
 }
 
 abbrev pub decreases-loop-used : goal.decreases-loop-used

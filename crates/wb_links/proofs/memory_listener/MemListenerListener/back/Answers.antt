@@ -1,4 +1,4 @@
-use Rattle.std.proofs.Common.{◌≡◌, ◌<◌, ℕ, refl, ap, arith}
+use Rattle.std.proofs.Common.{◌≡◌, ◌<◌, refl, ap, arith}
 use Rattle.wb_links.specs.MemoryLinks.{ListenerState, lines_of}
 use Rattle.wb_links.proofs.memory_listener.MemListenerListener.back.Goals as goal
 

@@ -1,8 +1,7 @@
-use Rattle.std.proofs.Common.{◌≡◌, ◌+◌, ◌∷◌, List, Some, map, refl, sym, ap, ◌∙◌, subst}
-use Rattle.std.specs.Prelude.{IfSome}
+use Rattle.std.proofs.Common.{◌≡◌, ◌+◌, ◌∷◌, List, Some, map, refl, sym, ap, ◌∙◌}
 use Rattle.std.specs.Vec.Iter.{into_iter_items}
-use Rattle.wb_links.specs.Lines.{Line, IsLine, Lines}
-use Rattle.wb_links.specs.MemoryLinks.{LinkState, ListenerState, line_of, lines_of}
+use Rattle.wb_links.specs.Lines.{Line, Lines}
+use Rattle.wb_links.specs.MemoryLinks.{ListenerState, line_of, lines_of}
 use Rattle.wb_links.proofs.memory_listener.MemListenerListener.next.Goals as goal
 
 pub returns-in-Some-clause-given : goal.returns-in-Some-clause-given

@@ -1,8 +1,17 @@
-use Rattle.std.proofs.Common.{◌≡◌, ◌<◌, ◌++◌, ◌∷◌, [], ℕ, List, map, sym, ap, ◌∙◌, subst}
+use Rattle.std.proofs.Common.{◌≡◌, ◌<◌, ◌++◌, ◌==◌, ◌&&◌, ◌∷◌, [], ℕ, List, length, map, find, Some, None, not, cond, sym, ap, ◌∙◌, subst}
+use Rattle.std.specs.Ordering.{nat_cmp}
+use Rattle.wb_access.specs.Receipts.{number_of}
+use Rattle.wb_base.specs.Secrets.{same_digest}
+use Rattle.wb_base.specs.declared.words.Digest.{Digest}
+use Rattle.wb_list.specs.Keyed.{insert_item}
 use Rattle.wb_model.specs.Opened.{AtMost}
-use Rattle.wb_tables.specs.Indexed.{Reports, IsIndexed, AreCustodied, AreAsked}
+use Rattle.wb_tables.specs.Indexed.{Reports, IsIndexed, AreCustodied, AreAsked, expiry_of}
 use Rattle.wb_tables.specs.Lives.{case_of}
 use Rattle.wb_tables.specs.Receipted.{AreReceipted, HasOwnReceipt}
+use Rattle.wb_tables.specs.declared.asked.Asked.{Asked}
+use Rattle.wb_tables.specs.declared.tenancy.Report.{Report}
+use Rattle.wb_terms.specs.Index.{same_term}
+use Rattle.wb_terms.specs.declared.term_index.Term.{Term}
 use Rattle.wb_tables.proofs.AskedReports.{asked_more}
 use Rattle.wb_tables.proofs.CaseLists.{absent_above, insert_above, map_push}
 use Rattle.wb_tables.proofs.Indexes.{free_term, indexed_more}
@@ -11,39 +20,42 @@ use Rattle.wb_tables.proofs.ReceiptTables.{begun_by, free_receipt, given_is, giv
 use Rattle.wb_tables.proofs.cases.Cases.add.Goals as goal
 
 pub unreachable-requires : goal.unreachable-requires
-unreachable-requires c = given_some c.as_slice.result.now c.args.report.case.items (c.as_slice.ensures ∙ c.trail.ensures) c.requires.submitted c.in_default.ensures
+unreachable-requires c = given_some c.as_slice.result.now c.args.filed.case.items (c.as_slice.ensures ∙ (c.trail.ensures ∙ ap (λ (r : Report). r.case.items) c.report-report.ensures)) c.requires.submitted c.in_default.ensures
 
-above : (c : goal.After-add-arg-1) → (last : ℕ) × (AtMost last (map case_of c.self.inside.cases.items) × (last < c.args.report.number))
+above : (c : goal.After-add-arg-1) → (last : ℕ) × (AtMost last (map case_of c.self.inside.cases.items) × (last < c.args.filed.number))
 above c = rw (← ap (λ (r : Reports). r.items) c.self.view_is) at c.requires.above
 
 pub add-requires-clause-free : goal.add-requires-clause-free
-add-requires-clause-free c = let a = above c in absent_above a.0 c.args.report.number c.self.inside.cases.items a.1.0 a.1.1
+add-requires-clause-free c = let a = above c in absent_above a.0 c.args.filed.number c.self.inside.cases.items a.1.0 a.1.1
 
 pub add-requires-2-clause-free : goal.add-requires-2-clause-free
 add-requires-2-clause-free c =
-    let a : (last : ℕ) × (AtMost last (map case_of c.self.inside.cases.items) × (last < c.args.report.number)) = rw (← ap (λ (r : Reports). r.items) c.self.view_is) at c.requires.above in
-    rw c.expiry-term.ensures (free_term c.self.inside.tenant a.0 (map case_of c.self.inside.cases.items) c.self.inside.terms.items (case_of c.args.report) c.self.invariant.0 a.1.0 a.1.1)
+    let a : (last : ℕ) × (AtMost last (map case_of c.self.inside.cases.items) × (last < c.args.filed.number)) = rw (← ap (λ (r : Reports). r.items) c.self.view_is) at c.requires.above in
+    rw c.expiry-term.ensures (subst (λ (r : Report). find (same_term (expiry_of c.self.inside.tenant (case_of r))) c.self.inside.terms.items ≡ None) (sym c.report-report.ensures)
+    (free_term c.self.inside.tenant a.0 (map case_of c.self.inside.cases.items) c.self.inside.terms.items (case_of c.args.filed) c.self.invariant.0 a.1.0 a.1.1))
 
 pub add-requires-3-clause-free : goal.add-requires-3-clause-free
 add-requires-3-clause-free c =
-    let own : HasOwnReceipt c.args.report.case.items (map case_of c.self.inside.cases.items) = rw (← ap (λ (r : Reports). r.items) c.self.view_is) at c.requires.own in
-    free_receipt c.self.inside.tenant (map case_of c.self.inside.cases.items) c.self.inside.receipts.items c.in-Some.digest c.args.report.case.items c.self.invariant.2 (given_is c.as_slice.result.now c.args.report.case.items c.in-Some.digest (c.as_slice.ensures ∙ c.trail.ensures) c.requires.submitted c.in-Some.ensures) own
+    let own : HasOwnReceipt c.args.filed.case.items (map case_of c.self.inside.cases.items) = rw (← ap (λ (r : Reports). r.items) c.self.view_is) at c.requires.own in
+    free_receipt c.self.inside.tenant (map case_of c.self.inside.cases.items) c.self.inside.receipts.items c.in-Some.digest c.args.filed.case.items c.self.invariant.2 (given_is c.as_slice.result.now c.args.filed.case.items c.in-Some.digest (c.as_slice.ensures ∙ (c.trail.ensures ∙ ap (λ (r : Report). r.case.items) c.report-report.ensures)) c.requires.submitted c.in-Some.ensures) own
 
 pub invariant_of-self : goal.invariant_of-self
 invariant_of-self c =
-    let a : (last : ℕ) × (AtMost last (map case_of c.self.inside.cases.items) × (last < c.args.report.number)) = rw (← ap (λ (r : Reports). r.items) c.self.view_is) at c.requires.above in
-    let own : HasOwnReceipt c.args.report.case.items (map case_of c.self.inside.cases.items) = rw (← ap (λ (r : Reports). r.items) c.self.view_is) at c.requires.own in
-    let more : c.add.new.self.items ≡ c.self.inside.cases.items ++ c.args.report ∷ [] = c.add.ensures.items ∙ insert_above a.0 c.self.inside.cases.items c.args.report a.1.0 a.1.1 in (
-      subst (λ (cs : List _). IsIndexed c.self.inside.tenant cs c.add-2.new.self.items) (sym (ap (map case_of) more ∙ map_push c.self.inside.cases.items c.args.report))
-          (indexed_more c.self.inside.tenant a.0 (map case_of c.self.inside.cases.items) c.self.inside.terms.items c.add-2.new.self.items (case_of c.args.report) c.self.invariant.0 a.1.0 a.1.1 (begun_by c.args.report.case.items c.requires.submitted) (rw c.expiry-term.ensures at c.add-2.ensures.found)),
-      subst AreCustodied (sym more) (custodied_pushed c.self.inside.cases.items c.args.report c.self.invariant.1 c.requires.custodied),
-      subst (λ (cs : List _). AreReceipted c.self.inside.tenant cs c.add-3.new.self.items) (sym (ap (map case_of) more ∙ map_push c.self.inside.cases.items c.args.report))
-          (receipted_more c.self.inside.tenant (map case_of c.self.inside.cases.items) c.self.inside.receipts.items c.add-3.new.self.items (case_of c.args.report) c.in-Some.digest c.self.invariant.2 (given_is c.as_slice.result.now c.args.report.case.items c.in-Some.digest (c.as_slice.ensures ∙ c.trail.ensures) c.requires.submitted c.in-Some.ensures) own c.add-3.ensures.found),
-      subst (λ (cs : List _). AreAsked cs c.put_asked.new.index.items) (sym (ap (map case_of) more ∙ map_push c.self.inside.cases.items c.args.report))
-          (asked_more a.0 (map case_of c.self.inside.cases.items) c.self.inside.asked.items c.put_asked.new.index.items c.args.report c.len-has_requests.result c.self.invariant.3 c.requires.custodied a.1.0 a.1.1 c.len-has_requests.ensures c.put_asked.ensures.items),
+    let a : (last : ℕ) × (AtMost last (map case_of c.self.inside.cases.items) × (last < c.args.filed.number)) = rw (← ap (λ (r : Reports). r.items) c.self.view_is) at c.requires.above in
+    let own : HasOwnReceipt c.args.filed.case.items (map case_of c.self.inside.cases.items) = rw (← ap (λ (r : Reports). r.items) c.self.view_is) at c.requires.own in
+    let more : c.add.new.self.items ≡ c.self.inside.cases.items ++ c.args.filed ∷ [] = c.add.ensures.items ∙ insert_above a.0 c.self.inside.cases.items c.args.filed a.1.0 a.1.1 in (
+      subst (λ (cs : List _). IsIndexed c.self.inside.tenant cs c.add-2.new.self.items) (sym (ap (map case_of) more ∙ map_push c.self.inside.cases.items c.args.filed))
+          (indexed_more c.self.inside.tenant a.0 (map case_of c.self.inside.cases.items) c.self.inside.terms.items c.add-2.new.self.items (case_of c.args.filed) c.self.invariant.0 a.1.0 a.1.1 (begun_by c.args.filed.case.items c.requires.submitted) (subst (λ (r : Report). (u : Term) → find (same_term u) c.add-2.new.self.items ≡ cond (same_term u (expiry_of c.self.inside.tenant (case_of r))) (Some (expiry_of c.self.inside.tenant (case_of r))) (find (same_term u) c.self.inside.terms.items)) c.report-report.ensures (rw c.expiry-term.ensures at c.add-2.ensures.found))),
+      subst AreCustodied (sym more) (custodied_pushed c.self.inside.cases.items c.args.filed c.self.invariant.1 c.requires.custodied),
+      subst (λ (cs : List _). AreReceipted c.self.inside.tenant cs c.add-3.new.self.items) (sym (ap (map case_of) more ∙ map_push c.self.inside.cases.items c.args.filed))
+          (receipted_more c.self.inside.tenant (map case_of c.self.inside.cases.items) c.self.inside.receipts.items c.add-3.new.self.items (case_of c.args.filed) c.in-Some.digest c.self.invariant.2 (given_is c.as_slice.result.now c.args.filed.case.items c.in-Some.digest (c.as_slice.ensures ∙ (c.trail.ensures ∙ ap (λ (r : Report). r.case.items) c.report-report.ensures)) c.requires.submitted c.in-Some.ensures) own c.requires.submitted
+          (subst (λ (r : Report). (t : ℕ) (e : Digest) → number_of t e c.add-3.new.self.items ≡ cond ((c.self.inside.tenant == t) && same_digest c.in-Some.digest e) (Some r.number) (number_of t e c.self.inside.receipts.items)) c.report-report.ensures c.add-3.ensures.found)),
+      subst (λ (cs : List _). AreAsked cs c.put_asked.new.index.items) (sym (ap (map case_of) more ∙ map_push c.self.inside.cases.items c.args.filed))
+          (asked_more a.0 (map case_of c.self.inside.cases.items) c.self.inside.asked.items c.put_asked.new.index.items c.args.filed c.len-has_requests.result c.self.invariant.3 c.requires.custodied a.1.0 a.1.1 (c.len-has_requests.ensures ∙ ap (λ (r : Report). length r.desk.items) c.report-report.ensures)
+          (subst (λ (r : Report). c.put_asked.new.index.items ≡ cond (not (c.len-has_requests.result == 0)) (insert_item nat_cmp (λ (x : Asked). x.number) c.self.inside.asked.items (record { number = r.number })) c.self.inside.asked.items) c.report-report.ensures c.put_asked.ensures.items)),
     )
 
 pub returns-clause-items : goal.returns-clause-items
 returns-clause-items c =
-    let a : (last : ℕ) × (AtMost last (map case_of c.self.inside.cases.items) × (last < c.args.report.number)) = rw (← ap (λ (r : Reports). r.items) c.self.view_is) at c.requires.above in
-    rw (← ap (λ (r : Reports). r.items) c.self.view_is) (c.add.ensures.items ∙ insert_above a.0 c.self.inside.cases.items c.args.report a.1.0 a.1.1)
+    let a : (last : ℕ) × (AtMost last (map case_of c.self.inside.cases.items) × (last < c.args.filed.number)) = rw (← ap (λ (r : Reports). r.items) c.self.view_is) at c.requires.above in
+    rw (← ap (λ (r : Reports). r.items) c.self.view_is) (c.add.ensures.items ∙ insert_above a.0 c.self.inside.cases.items c.args.filed a.1.0 a.1.1)

@@ -15,13 +15,13 @@ unreachable-requires c =
     let items = c.self.inside.cases.items in
     let found = asked_found items c.self.inside.asked.items c.args.at c.get.result.now c.self.invariant.3 c.self.invariant.0.apart c.get.ensures in
     let there : c.args.at < length (filter has_requests (map case_of items)) = rw (← ap (λ (r : Reports). r.items) c.self.view_is) at c.requires.there in
-    not_past (filter has_requests (map case_of items)) c.args.at there (found ∙ ap (option_map case_of) (ap (λ n. find (has_key nat_cmp number_of n) items) (sym c.get-2.ensures.value) ∙ (sym c.find.ensures.item ∙ ap option_copied c.in-None.is)))
+    not_past (filter has_requests (map case_of items)) c.args.at there (found ∙ ap (option_map case_of) (ap (λ n. find (has_key nat_cmp number_of n) items) (sym c.get-2.ensures.value) ∙ (sym (c.report_in.ensures ∙ c.find.ensures.item) ∙ ap option_copied c.in-None.is)))
 
 pub returns-clause-report : goal.returns-clause-report
 returns-clause-report c =
     let items = c.self.inside.cases.items in
     let found = asked_found items c.self.inside.asked.items c.args.at c.get.result.now c.self.invariant.3 c.self.invariant.0.apart c.get.ensures in
-    rw (← ap (λ (r : Reports). r.items) c.self.view_is) (found ∙ ap (option_map case_of) (ap (λ n. find (has_key nat_cmp number_of n) items) (sym c.get-2.ensures.value) ∙ (sym c.find.ensures.item ∙ ap option_copied c.in-Some.is)))
+    rw (← ap (λ (r : Reports). r.items) c.self.view_is) (found ∙ ap (option_map case_of) (ap (λ n. find (has_key nat_cmp number_of n) items) (sym c.get-2.ensures.value) ∙ (sym (c.report_in.ensures ∙ c.find.ensures.item) ∙ ap option_copied c.in-Some.is)))
 
 pub returns-clause-custodied : goal.returns-clause-custodied
-returns-clause-custodied c = custodied_found (has_key nat_cmp number_of c.get-2.result) c.self.inside.cases.items c.in-Some.report.now c.self.invariant.1 (sym c.find.ensures.item ∙ ap option_copied c.in-Some.is)
+returns-clause-custodied c = custodied_found (has_key nat_cmp number_of c.get-2.result) c.self.inside.cases.items c.in-Some.report.now c.self.invariant.1 (sym (c.report_in.ensures ∙ c.find.ensures.item) ∙ ap option_copied c.in-Some.is)

@@ -8,7 +8,7 @@ use Rattle.wb_tables.proofs.NotedReports.{custodied_some}
 use Rattle.wb_tables.proofs.cases.Cases.find.Goals as goal
 
 pub returns-clause-found : goal.returns-clause-found
-returns-clause-found c = rw (← ap (λ (r : Reports). r.items) c.self.view_is) (ap (option_map case_of) c.find.ensures.item ∙ sym (report-found c.args.number c.self.inside.cases.items))
+returns-clause-found c = rw (← ap (λ (r : Reports). r.items) c.self.view_is) (ap (option_map case_of) (c.report_in.ensures ∙ c.find.ensures.item) ∙ sym (report-found c.args.number c.self.inside.cases.items))
 
 pub returns-clause-custodied : goal.returns-clause-custodied
-returns-clause-custodied c = custodied_some (has_key nat_cmp number_of c.args.number) c.self.inside.cases.items c.find.result c.self.invariant.1 c.find.ensures.item
+returns-clause-custodied c = custodied_some (has_key nat_cmp number_of c.args.number) c.self.inside.cases.items c.report_in.result c.self.invariant.1 (c.report_in.ensures ∙ c.find.ensures.item)
