@@ -1,25 +1,16 @@
 -- What a host begins with that is opened over what is kept and a setup.
-use Rattle.std.specs.Prelude.{◌≡◌, ℕ, ◌==◌, Bool, true, if◌then◌else◌, List, [], ◌∷◌, ◌++◌, map, not, filter, None, Ok}
-use Rattle.wb_base.specs.declared.rows.Change.{Change}
+use Rattle.std.specs.Prelude.{◌≡◌, ℕ, List, Ok}
 use Rattle.wb_base.specs.declared.rows.Row.{Row}
-use Rattle.wb_kinds.specs.declared.item.NumberingItem.{NumberingItem}
 use Rattle.wb_model.specs.declared.registry.Lists.{Lists}
-use Rattle.wb_model.specs.Legal.{ascends_from}
-use Rattle.wb_model.specs.Opened.{Apart}
-use Rattle.wb_model.specs.Openings.{registry_of, empty_tables}
 use Rattle.wb_model.specs.Past.{Opening}
 use Rattle.wb_model.specs.Pasts.{AllOpened}
-use Rattle.wb_model.specs.SetUps.{has_tenant, tenant_ids}
-use Rattle.wb_model.specs.Tables.{Case, has_receipt}
-use Rattle.wb_model.specs.Tenants.{Tenancy, Hosts}
+use Rattle.wb_model.specs.SetUps.{tenant_ids}
+use Rattle.wb_model.specs.Tenants.{Hosts}
 use Rattle.wb_row_rules.specs.declared.faults.RowFault.{RowFault}
 use Rattle.wb_row_rules.specs.declared.faults.RowFault.TheVariants.{BadRow, BadSet, Memory}
-use Rattle.wb_row_rules.specs.Reports.{Report}
 use Rattle.wb_rows.specs.Held.{Held}
 use Rattle.wb_rows.specs.Judged.{judged}
-use Rattle.wb_rows.specs.Openings.{case_of, cases_of, tables_of, time_of, with_setup}
-use Rattle.wb_rows.specs.Puts.{tenant_puts}
-use Rattle.wb_tables.specs.Kept.{PlainTenancy}
+use Rattle.wb_rows.specs.Openings.{tables_of, time_of, with_setup}
 use Rattle.wb_setup.specs.Joined.{joined}
 use Rattle.wb_desk.specs.declared.batch.Lost.{Lost}
 use Rattle.wb_desk.specs.declared.batch.Lost.TheVariants as lost

@@ -1,5 +1,5 @@
 -- Links that a listener gave, attended one after another.
-use Rattle.std.specs.Prelude.{◌≡◌, ◌⊎◌, ◌+◌, ◌-◌, ◌^◌, ◌≤◌, ℕ, List, [], ◌∷◌, ◌++◌, Option, Some}
+use Rattle.std.specs.Prelude.{◌≡◌, ◌≢◌, ◌⊎◌, ◌+◌, ◌-◌, ◌^◌, ◌≤◌, ℕ, List, [], ◌∷◌, ◌++◌, Option, Some}
 use Rattle.wb_base.specs.Outside.{Rose}
 use Rattle.wb_model.specs.declared.body.Told.{Told}
 use Rattle.wb_model.specs.Requests.{Frame}
@@ -21,13 +21,15 @@ clock_of left count = record { left = left; count = count }
 abbrev pub sides_of : Line → Option (List Tick) → ℕ → Sides
 sides_of line moments share = record { left = Some line.left; got = Some line.got; moments = moments; share = share }
 
--- a connection over it ended so: by a fault of the link, or of the ticker, only where that failed
+-- a connection over it ended so: by a fault of the link, or of the ticker, where and only where that failed
 pub record IsAttended (Ran : ℕ → Frame → Told → Type 0) (a b : Line) (share share' : ℕ) (clock clock' : Clock) : Type 0 where
   pub how : Ended
   pub ended : IsEnded Ran (sides_of a clock.left share) (sides_of b clock'.left share') how
   pub read_failed : how ≡ endings.ReadFault → Rose a.count b.count
   pub write_failed : how ≡ endings.WriteFault → Rose a.count b.count
   pub clock_failed : how ≡ endings.ClockFault → Rose clock.count clock'.count
+  pub link_stayed : how ≢ endings.ReadFault → how ≢ endings.WriteFault → b.count ≡ a.count
+  pub clock_stayed : how ≢ endings.ClockFault → clock'.count ≡ clock.count
 
 -- each in turn, each from the share and the ticks that the one before it left
 abbrev pub AreAttended : (ℕ → Frame → Told → Type 0) → List Line → List Line → ℕ → ℕ → Clock → Clock → Type 0

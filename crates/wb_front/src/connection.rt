@@ -1,5 +1,5 @@
 //! A connection: request after request is taken from its link, and each has its reply.
-ghost use Rattle.std.specs.Prelude.{◌≡◌, ◌≤◌, ◌⊎◌, ◌||◌, nat_eq, true, Some, None, if◌then◌else◌};
+ghost use Rattle.std.specs.Prelude.{◌≡◌, ◌≢◌, ◌≤◌, ◌⊎◌, ◌||◌, nat_eq, true, Some, None, if◌then◌else◌};
 ghost use Rattle.std.specs.Io.KnownBytes.{Appends};
 ghost use Rattle.wb_base.specs.Outside.{AppendsFront, Rose};
 ghost use Rattle.wb_model.specs.declared.wire.WireFault.{WireFault as FaultData};
@@ -62,6 +62,7 @@ fn refuse<L: Link>(link: &mut L, no: &WireNo) -> Ended
     ensures sent { ((result ≡ Ended.Refused no.now.fault) × Appends (L.got link.old) (L.got link.new) (reply_bytes (refusal_of no.now.fault true))) ⊎ ((result ≡ Ended.WriteFault) × Rose (L.count link.old) (L.count link.new) × AppendsFront (L.got link.old) (L.got link.new) (reply_bytes (refusal_of no.now.fault true))) }
     ensures left { L.left link.new ≡ L.left link.old }
     ensures later { L.count link.old ≤ L.count link.new }
+    ensures stayed { result ≢ Ended.WriteFault → L.count link.new ≡ L.count link.old }
 {
     let answer = refusal(no);
     match send(link, &answer, true) {
@@ -95,6 +96,8 @@ pub fn serve_connection<
     ensures read_fault { result ≡ Ended.ReadFault → Rose (L.count link.old) (L.count link.new) }
     ensures write_fault { result ≡ Ended.WriteFault → Rose (L.count link.old) (L.count link.new) }
     ensures clock_fault { result ≡ Ended.ClockFault → Rose (T.count ticker.old) (T.count ticker.new) }
+    ensures link_stayed { result ≢ Ended.ReadFault → result ≢ Ended.WriteFault → L.count link.new ≡ L.count link.old }
+    ensures clock_stayed { result ≢ Ended.ClockFault → T.count ticker.new ≡ T.count ticker.old }
 {
     let Ok(inbox) = Inbox::new(alloc) else {
         return Ended::Memory;

@@ -45,8 +45,9 @@ fn add_case(alloc: Global, tenancy: &mut Tenancy, item: CaseItem) -> Result<(), 
         case: item.case,
         desk,
     };
+    let filed = Filed::new(alloc, report)?;
     tenancy.cases.reserve()?;
-    tenancy.cases.add(Filed::new(alloc, report)?);
+    tenancy.cases.add(filed);
     Ok(())
 }
 

@@ -20,7 +20,7 @@ pub loop-before-init : goal.loop-before-init
 loop-before-init g c =
     let Ran : ℕ → Frame → Told → Type 0 = λ share frame told. g.G.Gate.ran share frame told in
     let a : Sides = record { left = g.L.Link.left c.args.link.now; got = g.L.Link.got c.args.link.now; moments = g.T.Ticker.left c.args.ticker.now; share = c.args.pass.now.turns } in
-    (([], subst (IsOpenYet Ran a a []) (sym c.in-Ok.ensures) (nothing_yet Ran a), refl), refl, omega arith, omega arith)
+    (([], subst (IsOpenYet Ran a a []) (sym c.in-Ok.ensures) (nothing_yet Ran a), refl), refl, refl, refl)
 
 pub returns-in-End-clause-ended : goal.returns-in-End-clause-ended
 returns-in-End-clause-ended g c =
@@ -85,4 +85,4 @@ loop-before-preserved g c =
     let x : Exchange = record { request = take c.in-Request.size c.next.new.self; reply = reply_of c.in-Ok-reply_to.answer; tick = c.in-Ok-reply_to.ensures.answered.0 } in
     let yet = more Ran a (g.L.Link.left c.loop-before.link) (g.L.Link.got c.loop-before.link) (g.T.Ticker.left c.loop-before.ticker) c.loop-before.pass.turns inv.0 c.loop-before.inbox inv.1 (omega (arith, inv.2, c.loop-before-test.true)) c.next.new.self (g.L.Link.left c.next.new.link) (g.L.Link.got c.next.new.link) c.in-Ok-next.ensures.flows c.in-Ok-next.ensures.got
     c.in-Request.size came.1 c.first.result.now c.first.ensures c.in-Ok-reply_to.answer c.in-Ok-reply_to.ensures.answered.0 c.reply_to.new.pass.turns (g.T.Ticker.left c.reply_to.new.ticker) c.in-Ok-reply_to.ensures.answered.1 (g.L.Link.left c.send.new.link) (g.L.Link.got c.send.new.link) c.in-Ok-send.ensures.left (subst (Appends (g.L.Link.got c.next.new.link) (g.L.Link.got c.send.new.link)) (as_said c.in-Ok-reply_to.answer c.closes_after.result c.loop-before.before (length inv.0) c.closes_after.ensures inv.2) c.in-Ok-send.ensures.ok) c.if-answer.false in
-    ((inv.0 ++ x ∷ [], subst (IsOpenYet Ran a _ (inv.0 ++ x ∷ [])) (sym c.drop_first.ensures) yet, length_more inv.0 x ∙ ap (λ n. n + 1) inv.2), c.reply_to.ensures.parts ∙ c.loop-before.invariant.1, omega (arith, c.loop-before.invariant.2, c.in-Ok-next.ensures.cause.later, c.in-Ok-send.ensures.cause.later), omega (arith, c.loop-before.invariant.3, c.in-Ok-reply_to.ensures.cause.later))
+    ((inv.0 ++ x ∷ [], subst (IsOpenYet Ran a _ (inv.0 ++ x ∷ [])) (sym c.drop_first.ensures) yet, length_more inv.0 x ∙ ap (λ n. n + 1) inv.2), c.reply_to.ensures.parts ∙ c.loop-before.invariant.1, c.in-Ok-send.ensures.cause.stayed ∙ (c.in-Ok-next.ensures.cause.stayed ∙ c.loop-before.invariant.2), c.in-Ok-reply_to.ensures.cause.stayed ∙ c.loop-before.invariant.3)

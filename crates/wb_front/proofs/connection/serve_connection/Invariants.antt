@@ -1,4 +1,4 @@
-use Rattle.std.proofs.Common.{◌≡◌, ◌≤◌, List, length}
+use Rattle.std.proofs.Common.{◌≡◌, List, length}
 use Rattle.wb_front.specs.Served.{Exchange}
 use Rattle.wb_front.specs.Endings.{IsOpenYet}
 use Rattle.wb_front.proofs.connection.serve_connection.Given as goal
@@ -8,4 +8,4 @@ invariant-loop-before g l =
     ((xs : List Exchange) × IsOpenYet (λ share frame told. g.G.Gate.ran share frame told)
     (record { left = g.L.Link.left l.fn.link; got = g.L.Link.got l.fn.link; moments = g.T.Ticker.left l.fn.ticker; share = l.fn.pass.turns })
     (record { left = g.L.Link.left l.link; got = g.L.Link.got l.link; moments = g.T.Ticker.left l.ticker; share = l.pass.turns }) xs l.inbox × (length xs ≡ l.before))
-    × (l.pass.parts ≡ l.fn.pass.parts) × (g.L.Link.count l.fn.link ≤ g.L.Link.count l.link) × (g.T.Ticker.count l.fn.ticker ≤ g.T.Ticker.count l.ticker)
+    × (l.pass.parts ≡ l.fn.pass.parts) × (g.L.Link.count l.link ≡ g.L.Link.count l.fn.link) × (g.T.Ticker.count l.ticker ≡ g.T.Ticker.count l.fn.ticker)

@@ -1,4 +1,4 @@
-use Rattle.std.proofs.Common.{ℕ, refl, subst}
+use Rattle.std.proofs.Common.{ℕ, refl, ◌∙◌, subst}
 use Rattle.wb_base.specs.Outside.{Rose}
 use Rattle.wb_model.specs.declared.body.Told.{Told}
 use Rattle.wb_model.specs.Requests.{Frame}
@@ -21,6 +21,8 @@ returns-clause-attended g c = λ x a told line.
         read_failed = λ e. subst (λ n. Rose n b.count) line.counts (c.serve_connection.ensures.read_fault e);
         write_failed = λ e. subst (λ n. Rose n b.count) line.counts (c.serve_connection.ensures.write_fault e);
         clock_failed = c.serve_connection.ensures.clock_fault;
+        link_stayed = λ r w. c.serve_connection.ensures.link_stayed r w ∙ line.counts;
+        clock_stayed = c.serve_connection.ensures.clock_stayed;
       },
       c.back.ensures.came x b told (record { has_left = still.2; has_got = still.3; counts = refl }),
     )
