@@ -1,5 +1,5 @@
 //! The host that kept rows and a script's setup open.
-ghost use Rattle.std.specs.Prelude.{◌≡◌, ◌≢◌, ◌≤◌, ◌^◌, ℕ, List, Ok, IfOk, IfErr};
+ghost use Rattle.std.specs.Prelude.{◌≡◌, ◌≢◌, ◌≤◌, ◌^◌, ℕ, List, Ok, Err, IfOk, IfErr};
 ghost use Rattle.wb_base.specs.declared.rows.Row.{Row};
 ghost use Rattle.wb_tables.specs.Standing.{hosts_of};
 ghost use Rattle.wb_model.specs.Past.{Past};
@@ -57,6 +57,7 @@ pub fn open<S: Source, K: Keeper>(
     ensures limit { reader.new.taken ≤ 2 ^ 40 }
     ensures back { K.honest keeper.new → K.honest keeper.old }
     ensures later { S.count source.old ≤ S.count source.new }
+    ensures stayed { result ≢ Err Status.ReadFault → S.count source.new ≡ S.count source.old }
 {
     let setup = match reader.setup(alloc, source) {
         Ok(setup) => setup,
