@@ -1,6 +1,6 @@
 -- The writes of a reply, one after another.
-use Rattle.std.proofs.Common.{◌≡◌, ℕ, List, ◌++◌, Option, Result, Ok, Err, sym, ap, ◌∙◌, append_assoc, ◌+◌, length, length-append, subst}
-use Rattle.std.specs.Prelude.{codes, OnErr}
+use Rattle.std.proofs.Common.{◌≡◌, ℕ, List, ◌++◌, Option, sym, ap, ◌∙◌, ◌+◌, length, length-append, subst}
+use Rattle.std.specs.Prelude.{codes}
 use Rattle.std.specs.Io.KnownBytes.{Appends}
 use Rattle.std.proofs.KnownBytes.{Appends-trans}
 use Rattle.wb_base.specs.Outside.{AppendsFront}

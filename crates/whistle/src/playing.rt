@@ -30,6 +30,8 @@ fn play<S: Source, W: Sink, K: Keeper>(
     ensures ran { Ran (S.left source.old) (S.left source.new) (W.held sink.old) (W.held sink.new) (S.count source.old) (S.count source.new) (W.count sink.old) (W.count sink.new) (K.count keeper.old) (K.count keeper.new) (K.honest keeper.new) (K.holds keeper.old) (K.holds keeper.new) result }
     ensures no_usage { result ≢ Status.Usage }
     ensures back { K.honest keeper.new → K.honest keeper.old }
+    ensures read_on { result ≢ Status.ReadFault → S.count source.new ≡ S.count source.old }
+    ensures written_on { result ≢ Status.WriteFault → W.count sink.new ≡ W.count sink.old }
 {
     one_reading();
     losses_are_told();
@@ -69,6 +71,8 @@ pub fn play_script<S: Source, W: Sink, K: Keeper>(
     ensures ran { Ran (S.left source.old) (S.left source.new) (W.held sink.old) (W.held sink.new) (S.count source.old) (S.count source.new) (W.count sink.old) (W.count sink.new) (K.count keeper.old) (K.count keeper.new) (K.honest keeper.new) (K.holds keeper.old) (K.holds keeper.new) result }
     ensures no_usage { result ≢ Status.Usage }
     ensures back { K.honest keeper.new → K.honest keeper.old }
+    ensures read_on { result ≢ Status.ReadFault → S.count source.new ≡ S.count source.old }
+    ensures written_on { result ≢ Status.WriteFault → W.count sink.new ≡ W.count sink.old }
     ensures complete { (setup : List ℕ) (lists : Lists) (frames : List ScriptFrame) (kept : List KeptRow) (held : Held) → IsSetup setup → lists_in setup ≡ Ok lists → AllByRecursion IsFrame frames → S.left source.old ≡ Some (script_text setup frames) → length (script_text setup frames) < 2 ^ 40 → K.honest keeper.new → K.holds keeper.old kept → judged kept ≡ Ok held → (Rose (S.count source.old) (S.count source.new) → ⊥) → (Rose (W.count sink.old) (W.count sink.new) → ⊥) → (Rose (K.count keeper.old) (K.count keeper.new) → ⊥) → (result ≡ Status.Done) ⊎ (result ≡ Status.NoMemory) }
 {
     one_frame();

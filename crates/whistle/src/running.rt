@@ -1,5 +1,5 @@
 //! The top call.
-ghost use Rattle.std.specs.Prelude.{ℕ, List, Option, Some, Ok, ◌≡◌, ◌⊎◌, ◌<◌, ◌^◌, length};
+ghost use Rattle.std.specs.Prelude.{ℕ, List, Option, Some, Ok, ◌≡◌, ◌≢◌, ◌⊎◌, ◌<◌, ◌^◌, length};
 ghost use Rattle.std.specs.List.{AllByRecursion};
 ghost use Rattle.wb_base.specs.Outside.{Rose};
 ghost use Rattle.wb_base.specs.declared.rows.Row.{Row as KeptRow};
@@ -28,6 +28,7 @@ use wb_words::{Plan, PlanFault, plan};
 fn make_script<W: Sink>(turns: u32, sink: &mut W) -> Status
     ensures ends { (result ≡ Status.Done) ⊎ (result ≡ Status.WriteFault) }
     ensures writes { Writes (W.held sink.old) (W.held sink.new) (W.count sink.old) (W.count sink.new) turns result }
+    ensures written_on { result ≢ Status.WriteFault → W.count sink.new ≡ W.count sink.old }
 {
     match make(turns, sink) {
         Ok(()) => Status::Done,
@@ -48,6 +49,9 @@ pub fn run<S: Source, W: Sink, K: Keeper>(
 ) -> Status
     ensures did { Did (S.left source.old) (S.left source.new) (W.held sink.old) (W.held sink.new) (S.count source.old) (S.count source.new) (W.count sink.old) (W.count sink.new) (K.count keeper.old) (K.count keeper.new) (K.honest keeper.new) (K.holds keeper.old) (K.holds keeper.new) words.now result }
     ensures back { K.honest keeper.new → K.honest keeper.old }
+    // The source failed at no call of a run that does not say so, nor did the sink.
+    ensures read_on { result ≢ Status.ReadFault → S.count source.new ≡ S.count source.old }
+    ensures written_on { result ≢ Status.WriteFault → W.count sink.new ≡ W.count sink.old }
     // A whole script whose setup is accepted is played to its end over rows that are read, where nothing failed, or there was no memory.
     ensures complete { (store : Option (List ℕ)) (setup : List ℕ) (lists : Lists) (frames : List ScriptFrame) (kept : List KeptRow) (held : Held) → Asks words.now (Play store) → IsSetup setup → lists_in setup ≡ Ok lists → AllByRecursion IsFrame frames → S.left source.old ≡ Some (script_text setup frames) → length (script_text setup frames) < 2 ^ 40 → K.honest keeper.new → K.holds keeper.old kept → judged kept ≡ Ok held → (Rose (S.count source.old) (S.count source.new) → ⊥) → (Rose (W.count sink.old) (W.count sink.new) → ⊥) → (Rose (K.count keeper.old) (K.count keeper.new) → ⊥) → (result ≡ Status.Done) ⊎ (result ≡ Status.NoMemory) }
     // A tally over rows that are read is written, where the generated setup is accepted and the sink did not fail, or there was no memory, or the keeper failed when the host was opened.

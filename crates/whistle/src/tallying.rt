@@ -1,5 +1,5 @@
 //! Generated scripts that are played and tallied.
-ghost use Rattle.std.specs.Prelude.{◌≢◌, ◌≤◌, IfOk, IfErr};
+ghost use Rattle.std.specs.Prelude.{◌≡◌, ◌≢◌, ◌≤◌, IfOk, IfErr};
 ghost use Rattle.whistle.specs.TallyText.{counted, tally_text};
 ghost use Rattle.whistle.specs.Tallies.{PlayedTurns, IsTallyOf, Stopped, Tallied};
 
@@ -67,6 +67,7 @@ pub fn tally<W: Sink, K: Keeper>(alloc: Global, turns: u32, sink: &mut W, keeper
     ensures tallied { Tallied (K.count keeper.old) (K.count keeper.new) (K.honest keeper.new) (K.holds keeper.old) (K.holds keeper.new) (W.held sink.old) (W.held sink.new) (W.count sink.old) (W.count sink.new) turns result }
     ensures no_usage { result ≢ Status.Usage }
     ensures back { K.honest keeper.new → K.honest keeper.old }
+    ensures written_on { result ≢ Status.WriteFault → W.count sink.new ≡ W.count sink.old }
 {
     let routes = match Routes::new(alloc) {
         Ok(routes) => routes,

@@ -16,5 +16,5 @@ pub loop-before-preserved : goal.loop-before-preserved
 loop-before-preserved g c = record {
   so_far = after_frame (g.W.Sink.held c.args.sink.now) (g.W.Sink.held c.loop-before.sink) (g.W.Sink.held c.write_all.new.self) c.loop-before.before c.args.turns (omega (arith, c.loop-before-test.true)) c.loop-before.invariant.so_far
       (subst (Appends (g.W.Sink.held c.loop-before.sink) (g.W.Sink.held c.write_all.new.self)) (c.as_bytes.ensures ∙ c.frame_at.ensures) c.in-Ok-write_all.ensures.ok);
-  later = omega (arith, c.loop-before.invariant.later, c.write_all.ensures.cause.later);
+  stayed = c.in-Ok-write_all.ensures.cause.stayed ∙ c.loop-before.invariant.stayed;
 }

@@ -1,4 +1,4 @@
-use Rattle.std.proofs.Common.{inr, ◌++◌, [], ◌∷◌, length-append, ap, ◌∙◌, arith}
+use Rattle.std.proofs.Common.{inr, refl, ◌++◌, [], ◌∷◌, length-append, ap, ◌∙◌, arith}
 use Rattle.std.proofs.KnownBytes.{Consumes-trans}
 use Rattle.wb_model.specs.Pasts.{standing_hosts}
 use Rattle.wb_model.specs.Scripts.{past_after}
@@ -29,8 +29,8 @@ loop-frame-init g c =
       few = omega (arith, ap (λ (h : Hosts). h.turns) (begins.opens.stands ∙ ap standing_hosts begins.opens.opened.opens));
       limit = c.open.ensures.limit;
       back = c.open.ensures.back;
-      read_later = c.open.ensures.later;
-      written_later = omega arith;
+      read_on = c.open.ensures.stayed (λ is. absurd cc);
+      written_on = refl;
     }
 
 pub loop-frame-preserved : goal.loop-frame-preserved
@@ -55,8 +55,8 @@ loop-frame-preserved g c =
       few = omega (arith, c.answer_frame-answer.ensures.turns, c.loop-frame.invariant.few, ap (λ (p : Progress). p.taken) goes, some_bytes frame);
       limit = c.next.ensures.limit;
       back = λ h. c.loop-frame.invariant.back (c.answer_frame-answer.ensures.back h);
-      read_later = omega (arith, c.next.ensures.later, c.loop-frame.invariant.read_later);
-      written_later = omega (arith, c.write_answer.ensures.cause.later, c.loop-frame.invariant.written_later);
+      read_on = c.in-Ok-Some.ensures.stayed (λ is. absurd cc) ∙ c.loop-frame.invariant.read_on;
+      written_on = c.in-Ok-write_answer.ensures.cause.stayed ∙ c.loop-frame.invariant.written_on;
     }
 
 pub loop-frame-smaller : goal.loop-frame-smaller
@@ -78,7 +78,7 @@ returns-in-Err-write_answer-clause-ran g c =
       start = was.start;
       whole = was.whole;
       opened = was.opened;
-      plays = (more was.frames frame, more was.places is.0, both.0, omega (arith, c.loop-frame.invariant.written_later, c.in-Err-write_answer.ensures.cause.failed), both.1, both.2);
+      plays = (more was.frames frame, more was.places is.0, both.0, omega (arith, c.loop-frame.invariant.written_on, c.in-Err-write_answer.ensures.cause.failed), both.1, both.2);
     })
 
 pub returns-in-Ok-None-clause-ran : goal.returns-in-Ok-None-clause-ran
@@ -111,7 +111,7 @@ returns-in-Err-Read-clause-ran g c =
       start = was.start;
       whole = was.whole;
       opened = was.opened;
-      plays = (was.frames, was.places, wrote was.loaded was.setup was.start _ _ _ _ _ _ _ _ _ _ c.loop-frame.reader was.frames was.places was.so_far _ part.0 part.1 _ _ _ _, omega (arith, c.loop-frame.invariant.read_later, cause.0), (part.0, taken, part.2));
+      plays = (was.frames, was.places, wrote was.loaded was.setup was.start _ _ _ _ _ _ _ _ _ _ c.loop-frame.reader was.frames was.places was.so_far _ part.0 part.1 _ _ _ _, omega (arith, c.loop-frame.invariant.read_on, cause.0), (part.0, taken, part.2));
     })
 
 pub returns-in-Err-Bad-clause-ran : goal.returns-in-Err-Bad-clause-ran

@@ -1,4 +1,4 @@
-use Rattle.std.proofs.Common.{◌≤◌, ◌-◌, ◌+◌, ◌^◌}
+use Rattle.std.proofs.Common.{◌≡◌, ◌≤◌, ◌-◌, ◌+◌, ◌^◌}
 use Rattle.wb_tables.specs.Standing.{hosts_of}
 use Rattle.whistle.proofs.PlayLemmas.{InRun}
 use Rattle.whistle.proofs.playing.play.Given as goal
@@ -10,8 +10,8 @@ invariant-loop-frame g l = record {
   few : l.desk.turns ≤ l.reader.taken;
   limit : l.reader.taken ≤ 2 ^ 40;
   back : g.K.Keeper.honest l.keeper → g.K.Keeper.honest l.fn.keeper;
-  read_later : g.S.Source.count l.fn.source ≤ g.S.Source.count l.source;
-  written_later : g.W.Sink.count l.fn.sink ≤ g.W.Sink.count l.sink;
+  read_on : g.S.Source.count l.source ≡ g.S.Source.count l.fn.source;
+  written_on : g.W.Sink.count l.sink ≡ g.W.Sink.count l.fn.sink;
 }
 
 abbrev pub decreases-loop-frame : goal.decreases-loop-frame

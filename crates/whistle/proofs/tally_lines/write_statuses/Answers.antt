@@ -1,4 +1,4 @@
-use Rattle.std.proofs.Common.{◌∙◌, subst, arith}
+use Rattle.std.proofs.Common.{refl, ◌∙◌, subst, arith}
 use Rattle.std.proofs.lemmas.List.{drop_all}
 use Rattle.std.specs.Io.KnownBytes.{Appends}
 use Rattle.wb_base.specs.Outside.{AppendsFront}
@@ -6,7 +6,7 @@ use Rattle.whistle.proofs.TallyLemmas.{no_rows, row_at, parted, in_row, after_ro
 use Rattle.whistle.proofs.tally_lines.write_statuses.Goals as goal
 
 pub loop-row-init : goal.loop-row-init
-loop-row-init g c = record { so_far = no_rows (g.W.Sink.held c.args.sink.now) c.args.rows.now; later = omega arith }
+loop-row-init g c = record { so_far = no_rows (g.W.Sink.held c.args.sink.now) c.args.rows.now; stayed = refl }
 
 pub returns-in-Err-clause-err : goal.returns-in-Err-clause-err
 returns-in-Err-clause-err g c =
@@ -17,7 +17,7 @@ pub loop-row-preserved : goal.loop-row-preserved
 loop-row-preserved g c = record {
   so_far = after_row (g.W.Sink.held c.args.sink.now) (g.W.Sink.held c.loop-row.sink) (g.W.Sink.held c.write_all.new.self) c.args.rows.now c.loop-row.row-index (row_at c.args.rows.now c.loop-row.row-index) (parted c.args.rows.now c.loop-row.row-index (omega (arith, c.loop-row-test.true))) c.loop-row.invariant.so_far
       (subst (Appends (g.W.Sink.held c.loop-row.sink) (g.W.Sink.held c.write_all.new.self)) (c.as_bytes.ensures ∙ c.status_line.ensures) c.in-Ok.ensures.ok);
-  later = omega (arith, c.loop-row.invariant.later, c.write_all.ensures.cause.later);
+  stayed = c.in-Ok.ensures.cause.stayed ∙ c.loop-row.invariant.stayed;
 }
 
 pub returns-clause-ok : goal.returns-clause-ok

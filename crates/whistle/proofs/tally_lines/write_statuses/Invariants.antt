@@ -1,9 +1,9 @@
-use Rattle.std.proofs.Common.{◌≤◌}
+use Rattle.std.proofs.Common.{◌≡◌}
 use Rattle.whistle.proofs.TallyLemmas.{WroteRows}
 use Rattle.whistle.proofs.tally_lines.write_statuses.Given as goal
 
 abbrev pub invariant-loop-row : goal.invariant-loop-row
 invariant-loop-row g l = record {
   so_far : WroteRows (g.W.Sink.held l.fn.sink) (g.W.Sink.held l.sink) l.fn.rows l.row-index;
-  later : g.W.Sink.count l.fn.sink ≤ g.W.Sink.count l.sink;
+  stayed : g.W.Sink.count l.sink ≡ g.W.Sink.count l.fn.sink;
 }
