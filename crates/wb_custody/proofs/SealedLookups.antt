@@ -1,24 +1,21 @@
--- The order of sealed answers, and what their look-ups find after an edit.
-use Rattle.std.proofs.Common.{◌≡◌, ◌≢◌, ◌⊎◌, inl, inr, ℕ, List, find, Option, Some, refl, sym, ap, ◌∙◌}
+-- The order of sealed answers, and what is found of them by hash.
+use Rattle.std.proofs.Common.{◌≡◌, ◌≢◌, ◌⊎◌, inl, inr, ℕ, Bool, true, false, ◌&&◌, nat_eq, List, [], ◌∷◌, map, find, cond, Option, Some, None, Result, Ok, Err, OnOk, refl, sym, ap, ◌∙◌, subst}
 use Rattle.std.specs.declared.cmp.Ordering.{Ordering}
 use Rattle.std.specs.declared.cmp.Ordering.TheVariants.{Less, Equal, Greater}
 use Rattle.std.specs.Option.{option_map}
-use Rattle.std.specs.Ordering.{nat_cmp, ordering_then}
-use Rattle.std.specs.Cmp.{IsTotalOrder, nat_cmp_is, nat_cmp_total, on_total, then_total, both_tied, unsigned_ties}
-use Rattle.std.specs.FinMap.{nat_cmp-IsAntisymmetric}
+use Rattle.std.specs.Ordering.{is_eq, nat_cmp}
+use Rattle.std.specs.List.{AllByRecursion}
+use Rattle.std.specs.List.Sorted.{IsStrictlySortedBy}
+use Rattle.std.specs.Map.{lookup}
+use Rattle.std.proofs.lemmas.Map.Keys.{sorted_head, sorted_tail}
+use Rattle.std.specs.Cmp.{IsTotalOrder, nat_cmp_is, nat_cmp_total, nat_eq_equiv, on_total, then_total, both_tied, unsigned_Decides, unsigned_ties}
 use Rattle.wb_base.specs.AnswerList.{Answered}
 use Rattle.wb_base.proofs.AnswerLemmas.{find-same}
-use Rattle.wb_list.specs.Keyed.{has_key, insert_item, without_first}
-use Rattle.wb_list.proofs.KeyedLookups.{find-inserted, find-beside, find-left}
+use Rattle.wb_list.specs.Keyed.{IsAscending, has_key}
+use Rattle.wb_list.proofs.KeyedLemmas.{ascending-insert_item}
+use Rattle.wb_list.proofs.KeyedLookups.{find-after}
 use Rattle.wb_custody.specs.declared.sealed.SealedItem.{SealedItem}
-use Rattle.wb_custody.specs.SealedAnswers.{answers_of, is_of}
-
--- tenant, then number
-abbrev pub pair_cmp : ℕ × ℕ → ℕ × ℕ → Ordering
-pair_cmp a b = ordering_then (nat_cmp a.0 b.0) (nat_cmp a.1 b.1)
-
-abbrev pub key_of : SealedItem → ℕ × ℕ
-key_of item = (item.tenant, item.number)
+use Rattle.wb_custody.specs.SealedAnswers.{answers_of, in_order, is_of, item_at, key_of, pair_cmp}
 
 pub pair_total : IsTotalOrder pair_cmp
 pair_total = then_total (on_total (λ (p : ℕ × ℕ). p.0) nat_cmp_total) (on_total (λ (p : ℕ × ℕ). p.1) nat_cmp_total)
@@ -29,15 +26,6 @@ same_number n = sym (nat_cmp_is n n Equal refl)
 same_pair : (t n : ℕ) → pair_cmp (t, n) (t, n) ≡ Equal
 same_pair t n = rw (same_number t, same_number n) refl
 
-both_equal : (a b : Ordering) → ordering_then a b ≡ Equal → (a ≡ Equal) × (b ≡ Equal)
-both_equal Less b e = absurd cc
-both_equal Equal b e = (refl, e)
-both_equal Greater b e = absurd cc
-
-other_pair : (t n u m : ℕ) → (u ≢ t) ⊎ (m ≢ n) → pair_cmp (t, n) (u, m) ≢ Equal
-other_pair t n u m (inl ne) e = ne (sym (nat_cmp-IsAntisymmetric t u (both_equal (nat_cmp t u) (nat_cmp n m) e).0))
-other_pair t n u m (inr ne) e = ne (sym (nat_cmp-IsAntisymmetric n m (both_equal (nat_cmp t u) (nat_cmp n m) e).1))
-
 -- the look-up by the order of keys
 abbrev looked_up : List SealedItem → ℕ → ℕ → Option Answered
 looked_up items t n = option_map (λ (x : SealedItem). x.answers) (find (has_key pair_cmp key_of (t, n)) items)
@@ -45,23 +33,143 @@ looked_up items t n = option_map (λ (x : SealedItem). x.answers) (find (has_key
 same_look_up : (items : List SealedItem) (t n : ℕ) → answers_of items t n ≡ looked_up items t n
 same_look_up items t n = ap (option_map (λ (x : SealedItem). x.answers)) (find-same (is_of t n) (has_key pair_cmp key_of (t, n)) (λ x. both_tied _ _ _ _ (unsigned_ties x.tenant t) (unsigned_ties x.number n)) items)
 
--- the answers that were put are found
-pub answers-put : (items : List SealedItem) (item : SealedItem) → answers_of (insert_item pair_cmp key_of items item) item.tenant item.number ≡ Some item.answers
-answers-put items item =
-    same_look_up (insert_item pair_cmp key_of items item) item.tenant item.number
-    ∙ ap (option_map (λ (x : SealedItem). x.answers)) (find-inserted pair_total key_of items item (item.tenant, item.number) (same_pair item.tenant item.number))
+-- ---- lists in that order
 
--- and those of other reports are as they were
-pub answers-beside : (items : List SealedItem) (item : SealedItem) (t n : ℕ) → (t ≢ item.tenant) ⊎ (n ≢ item.number) → answers_of (insert_item pair_cmp key_of items item) t n ≡ answers_of items t n
-answers-beside items item t n other =
-    same_look_up (insert_item pair_cmp key_of items item) t n
-    ∙ (ap (option_map (λ (x : SealedItem). x.answers)) (find-beside pair_total key_of items item (t, n) (other_pair item.tenant item.number t n other)) ∙ sym (same_look_up items t n))
+is_equal : (r : Ordering) → is_eq r ≡ true → r ≡ Equal
+is_equal Less e = cc
+is_equal Equal e = refl
+is_equal Greater e = cc
 
--- and so they are where answers were taken out
-pub answers-left : (items : List SealedItem) (t n u m : ℕ) → (u ≢ t) ⊎ (m ≢ n) → answers_of (without_first (has_key pair_cmp key_of (t, n)) items) u m ≡ answers_of items u m
-answers-left items t n u m other =
-    same_look_up (without_first (has_key pair_cmp key_of (t, n)) items) u m
-    ∙ (ap (option_map (λ (x : SealedItem). x.answers)) (find-left pair_total key_of items (u, m) (t, n) apart) ∙ sym (same_look_up items u m))
+not_equal : (r : Ordering) → r ≡ Greater → is_eq r ≡ false
+not_equal r e = rw e refl
+
+behind : (a b : ℕ × ℕ) → pair_cmp a b ≡ Less → pair_cmp b a ≡ Greater
+behind a b less = rw (pair_total.antisymm b a, less) refl
+
+before : (a b : ℕ × ℕ) → pair_cmp a b ≡ Greater → pair_cmp b a ≡ Less
+before a b greater = rw (pair_total.antisymm b a, greater) refl
+
+beside : (a b : ℕ × ℕ) → pair_cmp a b ≡ Equal → pair_cmp b a ≡ Equal
+beside a b equal = rw (pair_total.antisymm b a, equal) refl
+
+abbrev Above : ℕ × ℕ → List SealedItem → Type 0
+Above k items = AllByRecursion (λ q. pair_cmp k q ≡ Less) (map key_of items)
+
+-- a key below all is not found
+none_below : (items : List SealedItem) (k : ℕ × ℕ) → Above k items → find (has_key pair_cmp key_of k) items ≡ None
+none_below [] k all = refl
+none_below (y ∷ ys) k all = rw (not_equal (pair_cmp (key_of y) k) (behind k (key_of y) all.0)) (none_below ys k all.1)
+
+-- what is above a key is above one that it ties with, and above one below it
+tied : (k q : ℕ × ℕ) → pair_cmp k q ≡ Equal → (items : List SealedItem) → Above k items → Above q items
+tied k q same [] all = tt
+tied k q same (z ∷ zs) all = (sym (pair_total.congr k q (key_of z) same) ∙ all.0, tied k q same zs all.1)
+
+lower : (k q : ℕ × ℕ) → pair_cmp q k ≡ Less → (items : List SealedItem) → Above k items → Above q items
+lower k q less [] all = tt
+lower k q less (z ∷ zs) all = (pair_total.trans q k (key_of z) less all.0, lower k q less zs all.1)
+
+own : (x : SealedItem) (xs : List SealedItem) → find (has_key pair_cmp key_of (key_of x)) (x ∷ xs) ≡ Some x
+own x xs = rw (same_pair x.tenant x.number) refl
+
+-- two lists in that order in which each key finds the same are the same
+pub same_items : (xs ys : List SealedItem) → IsAscending pair_cmp key_of xs → IsAscending pair_cmp key_of ys → ((k : ℕ × ℕ) → find (has_key pair_cmp key_of k) xs ≡ find (has_key pair_cmp key_of k) ys) → xs ≡ ys
+same_items [] [] a b f = refl
+same_items [] (y ∷ ys) a b f = absurd (cc (f (key_of y) ∙ own y ys))
+same_items (x ∷ xs) [] a b f = absurd (cc (sym (own x xs) ∙ f (key_of x)))
+same_items (x ∷ xs) (y ∷ ys) a b f = by (pair_cmp (key_of x) (key_of y)) refl (λ c d g. same_items xs ys c d g)
   where
-    apart : (x : SealedItem) → pair_cmp (key_of x) (u, m) ≡ Equal → pair_cmp (key_of x) (t, n) ≢ Equal
-    apart x at here = other_pair t n u m other (sym (pair_total.congr (key_of x) (t, n) (u, m) here) ∙ at)
+    above_x : Above (key_of x) xs
+    above_x = sorted_head pair_cmp (key_of x) (map key_of xs) a
+
+    above_y : Above (key_of y) ys
+    above_y = sorted_head pair_cmp (key_of y) (map key_of ys) b
+
+    first : pair_cmp (key_of x) (key_of y) ≡ Equal → x ≡ y
+    first equal =
+        let found : find (has_key pair_cmp key_of (key_of x)) (y ∷ ys) ≡ Some y = rw (beside (key_of x) (key_of y) equal) refl in
+        cc (sym (own x xs) ∙ (f (key_of x) ∙ found))
+
+    rest : x ≡ y → (k : ℕ × ℕ) → find (has_key pair_cmp key_of k) xs ≡ find (has_key pair_cmp key_of k) ys
+    rest same k = on (has_key pair_cmp key_of k x) refl
+      where
+        on : (h : Bool) → has_key pair_cmp key_of k x ≡ h → find (has_key pair_cmp key_of k) xs ≡ find (has_key pair_cmp key_of k) ys
+        on true hit =
+            let tie = is_equal (pair_cmp (key_of x) k) hit in
+            none_below xs k (tied (key_of x) k tie xs above_x) ∙ sym (none_below ys k (tied (key_of x) k tie ys (subst (λ (z : SealedItem). Above (key_of z) ys) (sym same) above_y)))
+        on false off = rw off at (subst (λ (z : SealedItem). find (has_key pair_cmp key_of k) (x ∷ xs) ≡ find (has_key pair_cmp key_of k) (z ∷ ys)) (sym same) (f k))
+
+    by : (r : Ordering) → pair_cmp (key_of x) (key_of y) ≡ r → (IsAscending pair_cmp key_of xs → IsAscending pair_cmp key_of ys → ((k : ℕ × ℕ) → find (has_key pair_cmp key_of k) xs ≡ find (has_key pair_cmp key_of k) ys) → xs ≡ ys) → x ∷ xs ≡ y ∷ ys
+    by Less is more = absurd (cc (sym (own x xs) ∙ (f (key_of x) ∙ none_below (y ∷ ys) (key_of x) (is, lower (key_of y) (key_of x) is ys above_y))))
+    by Greater is more =
+        let less = before (key_of x) (key_of y) is in
+        absurd (cc (sym (own y ys) ∙ (sym (f (key_of y)) ∙ none_below (x ∷ xs) (key_of y) (less, lower (key_of x) (key_of y) less xs above_x))))
+    by Equal is more =
+        let same = first is in
+        ap (λ z. z ∷ xs) same ∙ ap (λ zs. y ∷ zs) (more (sorted_tail pair_cmp (key_of x) (map key_of xs) a) (sorted_tail pair_cmp (key_of y) (map key_of ys) b) (rest same))
+
+-- ---- the table by hash
+
+abbrev pub Entry : Type 0
+Entry = (ℕ × ℕ) × Answered
+
+abbrev pub eq_key : ℕ × ℕ → ℕ × ℕ → Bool
+eq_key a b = nat_eq a.0 b.0 && nat_eq a.1 b.1
+
+pub ascending : (es : List Entry) → IsAscending pair_cmp key_of (in_order es)
+unfolding IsStrictlySortedBy
+ascending [] = tt
+ascending (e ∷ es) = ascending-insert_item pair_total key_of (in_order es) (item_at e) (ascending es)
+
+tested : (t n : ℕ) (e : Entry) → has_key pair_cmp key_of (t, n) (item_at e) ≡ eq_key (t, n) e.0
+tested t n e = sym (both_tied _ _ _ _ (unsigned_ties e.0.0 t) (unsigned_ties e.0.1 n)) ∙ (ap (λ b. b && nat_eq e.0.1 n) (nat_eq_equiv.symm e.0.0 t) ∙ ap (λ b. nat_eq t e.0.0 && b) (nat_eq_equiv.symm e.0.1 n))
+
+abbrev item_under : ℕ → ℕ → Answered → SealedItem
+item_under t n answers = record { tenant = t; number = n; answers = answers }
+
+first_of : (a b : Bool) → (a && b) ≡ true → a ≡ true
+first_of true b e = refl
+first_of false b e = e
+
+second_of : (a b : Bool) → (a && b) ≡ true → b ≡ true
+second_of true b e = e
+second_of false b e = absurd (cc e)
+
+-- each key finds in the list what the table has under it
+found_item : (t n : ℕ) (es : List Entry) → find (has_key pair_cmp key_of (t, n)) (in_order es) ≡ option_map (item_under t n) (lookup (eq_key (t, n)) es)
+found_item t n [] = refl
+found_item t n (e ∷ es) = find-after pair_total key_of (in_order es) (item_at e) (t, n) ∙ (ap (λ b. cond b (Some (item_at e)) (find (has_key pair_cmp key_of (t, n)) (in_order es))) (tested t n e) ∙ by (eq_key (t, n) e.0) refl (found_item t n es))
+  where
+    by : (b : Bool) → eq_key (t, n) e.0 ≡ b → find (has_key pair_cmp key_of (t, n)) (in_order es) ≡ option_map (item_under t n) (lookup (eq_key (t, n)) es)
+        → cond b (Some (item_at e)) (find (has_key pair_cmp key_of (t, n)) (in_order es)) ≡ option_map (item_under t n) (cond b (Some e.1) (lookup (eq_key (t, n)) es))
+    by true is rest =
+        let tenant = (unsigned_Decides t e.0.0).0 (first_of (nat_eq t e.0.0) (nat_eq n e.0.1) is) in
+        let number = (unsigned_Decides n e.0.1).0 (second_of (nat_eq t e.0.0) (nat_eq n e.0.1) is) in
+        ap (λ (k : ℕ). Some (item_under k e.0.1 e.1)) (sym tenant) ∙ ap (λ (k : ℕ). Some (item_under t k e.1)) (sym number)
+    by false is rest = rest
+
+answers_in : (t n : ℕ) (o : Option Answered) → option_map (λ (x : SealedItem). x.answers) (option_map (item_under t n) o) ≡ o
+answers_in t n None = refl
+answers_in t n (Some a) = refl
+
+pub answers-found : (es : List Entry) (t n : ℕ) → answers_of (in_order es) t n ≡ lookup (eq_key (t, n)) es
+answers-found es t n = same_look_up (in_order es) t n ∙ (ap (option_map (λ (x : SealedItem). x.answers)) (found_item t n es) ∙ answers_in t n (lookup (eq_key (t, n)) es))
+
+-- tables in which each key finds the same are seen as the same list
+pub same_list : (es fs : List Entry) → ((k : ℕ × ℕ) → lookup (eq_key k) es ≡ lookup (eq_key k) fs) → in_order es ≡ in_order fs
+same_list es fs f = same_items (in_order es) (in_order fs) (ascending es) (ascending fs) (λ k. found_item k.0 k.1 es ∙ (ap (option_map (item_under k.0 k.1)) (f k) ∙ sym (found_item k.0 k.1 fs)))
+
+-- a key of another report is another
+pub other_key : (t n u m : ℕ) → (u ≢ t) ⊎ (m ≢ n) → eq_key (t, n) (u, m) ≡ false
+other_key t n u m other = by (eq_key (t, n) (u, m)) refl other
+  where
+    by : (b : Bool) → eq_key (t, n) (u, m) ≡ b → (u ≢ t) ⊎ (m ≢ n) → b ≡ false
+    by false is o = refl
+    by true is (inl ne) = absurd (ne (sym ((unsigned_Decides t u).0 (first_of (nat_eq t u) (nat_eq n m) is))))
+    by true is (inr ne) = absurd (ne (sym ((unsigned_Decides n m).0 (second_of (nat_eq t u) (nat_eq n m) is))))
+
+-- ---- what an Ok gives
+
+pub on_ok : {T E P : Type 0} (r : Result T E) (x : T) → r ≡ Ok x → OnOk r P → P
+on_ok (Ok y) x is p = p
+on_ok (Err e) x is p = absurd (cc is)

@@ -5,9 +5,10 @@ ghost use Rattle.wb_custody.specs.SealedAnswers.{answers_of};
 
 use std::alloc::Global;
 use std::cmp::Ordering;
+use std::collections::HashMap;
 use std::marker::Model;
 use wb_base::{Answers, Memory, Number, Tenant};
-use wb_list::{Keyed, Sorted};
+use wb_list::Keyed;
 
 /// The identity answers of a report.
 #[derive(Drop)]
@@ -33,19 +34,29 @@ impl Keyed for SealedItem {
     }
 }
 
-/// The identity answers of all reports, in the order of tenant and number, seen as that list and the room for more.
+// What the answers of a report are found by in the table.
+fn key(tenant: Tenant, number: Number) -> (u32, u32)
+    ensures { result ≡ (tenant, number) }
+{
+    (tenant.id(), number.get())
+}
+
+/// The identity answers of all reports, seen as their list in the order of tenant and number, and the room for more. They are
+/// found by hash: putting some in or taking some out moves no others.
 #[derive(Drop)]
 pub struct SealedTable {
-    items: Sorted<SealedItem>,
+    answers: HashMap<(u32, u32), Answers>,
 }
 
 impl Model for SealedTable {
+    ghost use Rattle.std.specs.HashMap.{spare};
     ghost use Rattle.wb_list.specs.Room.{Room};
+    ghost use Rattle.wb_custody.specs.SealedAnswers.{in_order};
     ghost use Rattle.wb_custody.specs.declared.sealed.SealedItem.{SealedItem as Item};
 
     ghost Value = { Room Item };
 
-    ghost view = { λ table. table.items };
+    ghost view = { λ table. record { items = in_order table.answers.entries; spare = spare table.answers } };
 }
 
 impl SealedTable {
@@ -54,7 +65,7 @@ impl SealedTable {
         ensures { result.items ≡ [] }
     {
         SealedTable {
-            items: Sorted::new(alloc),
+            answers: HashMap::new(alloc),
         }
     }
 
@@ -64,7 +75,10 @@ impl SealedTable {
         ensures room { OnOk result (0 < self.new.spare) }
         ensures kept { self.old.spare ≤ self.new.spare }
     {
-        self.items.reserve(1)
+        match self.answers.reserve(1) {
+            Ok(()) => Ok(()),
+            Err(_) => Err(Memory),
+        }
     }
 
     /// Puts the identity answers of a report, in place of earlier ones, into room that was made. It takes no memory.
@@ -74,21 +88,15 @@ impl SealedTable {
         ensures others { (t n : ℕ) → (t ≢ tenant) ⊎ (n ≢ number) → answers_of self.new.items t n ≡ answers_of self.old.items t n }
         ensures room { self.old.spare ≤ self.new.spare + 1 }
     {
-        self.items.set(SealedItem {
-            tenant,
-            number,
-            answers,
-        });
+        let put: Result<_, _> = self.answers.insert(key(tenant, number), answers);
+        put.unwrap();
     }
 
     /// The identity answers of a report.
     pub fn get(&self, tenant: Tenant, number: Number) -> Option<&Answers>
         ensures { option_copied result ≡ answers_of self.now.items tenant number }
     {
-        match self.items.find(&(tenant, number)) {
-            Some(item) => Some(&item.answers),
-            None => None,
-        }
+        self.answers.get(&key(tenant, number))
     }
 
     /// Drops the identity answers of a report. It takes no memory.
@@ -97,6 +105,6 @@ impl SealedTable {
         ensures others { (t n : ℕ) → (t ≢ tenant) ⊎ (n ≢ number) → answers_of self.new.items t n ≡ answers_of self.old.items t n }
         ensures room { self.old.spare ≤ self.new.spare }
     {
-        let _ = self.items.take(&(tenant, number));
+        self.answers.remove(&key(tenant, number));
     }
 }
