@@ -1,4 +1,3 @@
-pub mod Runs
 pub mod TenantRuns
 pub mod LookUps
 pub mod Versions

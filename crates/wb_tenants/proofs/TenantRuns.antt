@@ -6,7 +6,7 @@ use Rattle.std.specs.Ordering.{nat_cmp, ordering_then, is_lt, is_le, is_eq, Matc
 use Rattle.std.specs.declared.cmp.Ordering.{Ordering}
 use Rattle.std.specs.declared.cmp.Ordering.TheVariants.{Less, Equal, Greater}
 use Rattle.wb_list.specs.Keyed.{IsAscending, IsRun}
-use Rattle.wb_tenants.proofs.Runs.{before_parted, within_parted, run_between}
+use Rattle.wb_list.proofs.KeyedRuns.{before_parted, within_parted, run_between}
 use Rattle.wb_setup.specs.Keys.{Key, key_cmp}
 
 not_less : Greater ≡ Less → ⊥

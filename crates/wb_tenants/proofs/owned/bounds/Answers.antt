@@ -1,6 +1,6 @@
 use Rattle.std.proofs.Common.{arith, ◌-◌}
 use Rattle.std.specs.Ordering.{nat_cmp}
-use Rattle.wb_tenants.proofs.Runs.{run_ordered}
+use Rattle.wb_list.proofs.KeyedRuns.{run_ordered}
 use Rattle.wb_tenants.proofs.TenantRuns.{part_between}
 use Rattle.wb_tenants.proofs.owned.bounds.Goals as goal
 
