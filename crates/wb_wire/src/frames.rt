@@ -70,7 +70,7 @@ impl FrameReader {
     }
 
     /// The next frame, None where the input has ended after a whole frame, or why there is none. After an error it
-    /// answers that error again and takes nothing.
+    /// answers that error again and asks its source for nothing.
     pub fn next<S: Source>(
         &mut self,
         alloc: Global,
@@ -81,7 +81,7 @@ impl FrameReader {
         ensures limit { self.new.taken ≤ 2 ^ 40 }
         ensures cause { self.old.stopped ≡ None → IfErr result (λ no. HasCause self.old (S.left source.old) (S.left source.new) (S.count source.old) (S.count source.new) no) }
         ensures stops { IfErr result (λ no. self.new ≡ record self.old { stopped = Some no }) }
-        ensures again { IfSome self.old.stopped (λ no. (result ≡ Err no) × Keeps (S.left source.old) (S.left source.new)) }
+        ensures again { IfSome self.old.stopped (λ no. (result ≡ Err no) × Keeps (S.left source.old) (S.left source.new) × (S.count source.new ≡ S.count source.old)) }
         ensures later { S.count source.old ≤ S.count source.new }
         ensures stayed { result ≢ Err FrameNo.Read → S.count source.new ≡ S.count source.old }
     {
@@ -95,14 +95,14 @@ impl FrameReader {
     }
 
     /// The bytes of the setup's frame with which the input begins, or why there are none. After an error it answers that
-    /// error again and takes nothing.
+    /// error again and asks its source for nothing.
     pub fn setup<S: Source>(&mut self, alloc: Global, source: &mut S) -> Result<Vec<u8>, FrameNo>
         ensures ok { IfOk result (λ bytes. TookSetup (S.left source.old) (S.left source.new) bytes.items) }
         ensures goes_on { IfOk result (λ bytes. self.new ≡ after_setup self.old bytes.items) }
         ensures limit { self.new.taken ≤ 2 ^ 40 }
         ensures cause { self.old.stopped ≡ None → IfErr result (λ no. LacksSetup self.old (S.left source.old) (S.left source.new) (S.count source.old) (S.count source.new) no) }
         ensures stops { IfErr result (λ no. self.new ≡ record self.old { stopped = Some no }) }
-        ensures again { IfSome self.old.stopped (λ no. (result ≡ Err no) × Keeps (S.left source.old) (S.left source.new)) }
+        ensures again { IfSome self.old.stopped (λ no. (result ≡ Err no) × Keeps (S.left source.old) (S.left source.new) × (S.count source.new ≡ S.count source.old)) }
         ensures later { S.count source.old ≤ S.count source.new }
         ensures stayed { result ≢ Err FrameNo.Read → S.count source.new ≡ S.count source.old }
     {
