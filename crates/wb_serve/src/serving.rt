@@ -1,5 +1,5 @@
 //! The call that serves.
-ghost use Rattle.std.specs.Prelude.{◌≡◌, ◌⊎◌, ◌<◌, ◌≤◌, ℕ, List, Option, Some, None, Ok, All, IfSome, true, false, if◌then◌else◌, vec_len, slice_index_or, length};
+ghost use Rattle.std.specs.Prelude.{◌≡◌, ◌≢◌, ◌⊎◌, ◌<◌, ◌≤◌, ℕ, List, Option, Some, None, Ok, All, IfSome, true, false, if◌then◌else◌, vec_len, slice_index_or, length};
 ghost use Rattle.std.specs.Io.KnownBytes.{Keeps};
 ghost use Rattle.wb_base.specs.declared.rows.Row.{Row as KeptRow};
 ghost use Rattle.wb_base.specs.Outside.{Rose};
@@ -71,6 +71,7 @@ where
     Li::End: Send,
     requires some { 0 < vec_len stations.old }
     requires held { K.honest keeper → (rows : List KeptRow) × K.holds keeper rows }
+    ensures read_on { result.status ≢ Status.ReadFault → S.count setup.new ≡ S.count setup.old }
     ensures keeper { result.keeper ≡ None → (result.status ≡ Status.NoMemory) × ((k : _) × (desk : Standing) × OpensOne (S.left setup.old) (S.left setup.new) (K.honest k) (K.holds keeper) desk) }
     ensures stations { vec_len stations.new ≡ vec_len stations.old }
     ensures none { (HasServed result.status → ⊥) → stations.new.items ≡ stations.old.items }
@@ -123,6 +124,8 @@ where
     // Words are told to be no form only where they are none; then that is told, or there was no memory, and nothing is read or served.
     ensures usage { result.status ≡ Status.Usage → IsServeForm words.now → ⊥ }
     ensures no_form { (IsServeForm words.now → ⊥) → ((result.status ≡ Status.Usage) ⊎ (result.status ≡ Status.NoMemory)) × (result.keeper ≡ Some keeper) × Keeps (S.left setup.old) (S.left setup.new) × (S.count setup.new ≡ S.count setup.old) }
+    // The setup's source failed at no call of a run that does not say so.
+    ensures read_on { result.status ≢ Status.ReadFault → S.count setup.new ≡ S.count setup.old }
     ensures keeper { result.keeper ≡ None → (result.status ≡ Status.NoMemory) × ((k : _) × (desk : Standing) × OpensOne (S.left setup.old) (S.left setup.new) (K.honest k) (K.holds keeper) desk) }
     ensures stations { vec_len stations.new ≡ vec_len stations.old }
     // Where no host served, the stations are as they were, and there is a cause.

@@ -1,5 +1,5 @@
 //! What a host that serves is started with: its setup's text, and the rows that are kept.
-ghost use Rattle.std.specs.Prelude.{◌≡◌, ◌≤◌, List, IfOk, IfErr};
+ghost use Rattle.std.specs.Prelude.{◌≡◌, ◌≢◌, ◌≤◌, List, Err, IfOk, IfErr};
 ghost use Rattle.wb_tables.specs.Standing.{hosts_of};
 ghost use Rattle.wb_base.specs.declared.rows.Row.{Row};
 ghost use Rattle.wb_model.specs.Past.{Past};
@@ -21,6 +21,7 @@ fn read_text<S: Source>(alloc: Global, setup: &mut S) -> Result<Vec<u8>, Status>
     ensures ok { IfOk result (λ text. IsText (S.left setup.old) (S.left setup.new) text.items) }
     ensures err { IfErr result (λ status. Unread (S.left setup.old) (S.count setup.old) (S.count setup.new) status) }
     ensures later { S.count setup.old ≤ S.count setup.new }
+    ensures stayed { result ≢ Err Status.ReadFault → S.count setup.new ≡ S.count setup.old }
 {
     let mut text = Vec::new(alloc);
     let mut piece = [0; 8_192];
@@ -52,6 +53,7 @@ pub fn start<S: Source, K: Keeper>(
     ensures ok { IfOk result (λ started. (text : _) × IsText (S.left setup.old) (S.left setup.new) text × ((loaded : List Row) × (start : Past AllOpened) × Opens (K.count keeper.old) (K.count keeper.new) (K.honest keeper.new) (K.holds keeper.old) (K.holds keeper.new) loaded text start (hosts_of started.1))) }
     ensures err { IfErr result (λ status. OpensNone (S.left setup.old) (S.count setup.old) (S.count setup.new) (S.left setup.new) (K.count keeper.old) (K.count keeper.new) (K.honest keeper.new) (K.holds keeper.old) (K.holds keeper.new) status) }
     ensures back { K.honest keeper.new → K.honest keeper.old }
+    ensures stayed { result ≢ Err Status.ReadFault → S.count setup.new ≡ S.count setup.old }
 {
     let Ok(routes) = Routes::new(alloc) else {
         return Err(Status::NoMemory);

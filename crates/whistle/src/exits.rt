@@ -1,5 +1,5 @@
 //! How the program ends: the words that it was called with, the number of its status, and its line on standard error.
-ghost use Rattle.std.specs.Prelude.{◌≡◌, drop, map, string_bytes, IfOk};
+ghost use Rattle.std.specs.Prelude.{◌≡◌, ◌≢◌, drop, map, string_bytes, IfOk};
 ghost use Rattle.std.specs.Vec.Iter.{into_iter_items};
 ghost use Rattle.wb_start.specs.declared.status.Status.{Status};
 ghost use Rattle.whistle.specs.Exits.{TellsLine};
@@ -54,6 +54,8 @@ pub fn run_to_end<S: Source, W: Sink, K: Keeper, E: Sink>(
 ) -> u8
     ensures { (status : Status) × (result ≡ status_number status)
         × Did (S.left source.old) (S.left source.new) (W.held sink.old) (W.held sink.new) (S.count source.old) (S.count source.new) (W.count sink.old) (W.count sink.new) (K.count keeper.old) (K.count keeper.new) (K.honest keeper.new) (K.holds keeper.old) (K.holds keeper.new) words.now status
+        × (status ≢ Status.ReadFault → S.count source.new ≡ S.count source.old)
+        × (status ≢ Status.WriteFault → W.count sink.new ≡ W.count sink.old)
         × TellsLine (E.held errors.old) (E.held errors.new) (E.count errors.old) (E.count errors.new) status }
 {
     let status = run(alloc, words, source, sink, keeper);
