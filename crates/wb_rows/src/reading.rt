@@ -34,7 +34,7 @@ use wb_list::{Items, Sorted};
 use wb_row_rules::{CaseItem, RowFault, reports};
 use wb_tenants::Registry;
 
-// The table of identity answers, each put behind all that are there.
+// The table of identity answers.
 fn sealed_table(alloc: Global, sealed: Sorted<SealedItem>) -> Result<SealedTable, Memory>
     ensures { IfOk result (λ table. (t n : ℕ) → answers_of table.items t n ≡ answers_of sealed.items t n) }
 {

@@ -1,5 +1,9 @@
 -- Which refusals of a database are faults, and how they are counted.
 use Rattle.std.specs.Prelude.{ℕ, Result, Ok, Err}
+use Rattle.std.specs.IoError.{error_kind}
+use Rattle.std.specs.declared.io.Error.{Error as FileError}
+use Rattle.std.specs.declared.io.ErrorKind.{ErrorKind}
+use Rattle.std.specs.declared.io.ErrorKind.TheVariants.{OutOfMemory as NoRoom}
 use Rattle.sqlite.specs.declared.error.Error.{Error}
 use Rattle.sqlite.specs.declared.error.Error.TheVariants.{SqliteFailure}
 use Rattle.sqlite.specs.declared.error.ErrorCode.TheVariants.{OutOfMemory}
@@ -11,6 +15,14 @@ use Rattle.wb_base.specs.declared.faults.KeepErr.TheVariants.{Memory, Failed}
 abbrev pub answer_to : Error → KeepErr
 answer_to (SqliteFailure OutOfMemory) = Memory
 answer_to _ = Failed
+
+-- and so it is with a file that is looked into
+abbrev pub answer_to_kind : ErrorKind → KeepErr
+answer_to_kind NoRoom = Memory
+answer_to_kind _ = Failed
+
+abbrev pub answer_to_file : FileError → KeepErr
+answer_to_file error = answer_to_kind (error_kind error)
 
 -- the count of faults after a failed call: one more, unless memory was wanting
 abbrev pub count_with : ℕ → KeepErr → ℕ

@@ -1,7 +1,7 @@
 //! Why the database gave no answer, and how that is counted.
 ghost use Rattle.std.specs.Prelude.{◌≡◌, ◌≤◌};
 ghost use Rattle.wb_base.specs.declared.faults.KeepErr.TheVariants.{Memory as NoMemory};
-ghost use Rattle.wb_sqlite.specs.Counts.{answer_to, count_with};
+ghost use Rattle.wb_sqlite.specs.Counts.{answer_to, answer_to_file, count_with};
 
 use sqlite::{Error, ErrorCode};
 use std::io::{self, ErrorKind};
@@ -36,6 +36,8 @@ impl From<Error> for Refusal {
 }
 
 impl From<io::Error> for Refusal {
+    ghost from_gives = { λ error refusal. refusal.why ≡ answer_to_file error };
+
     fn from(error: io::Error) -> Refusal {
         if error.kind() == ErrorKind::OutOfMemory {
             Refusal::MEMORY

@@ -20,7 +20,7 @@ pub enum Status {
     ReadFault,
     /// The sink failed.
     WriteFault,
-    /// There was no memory for reading the script or for opening the host.
+    /// There was no memory for the words, for the script or the setup, for opening the host, or for its workers.
     NoMemory,
     /// The frame of this number, counted from 1, is not of the form, or the input ends inside it; 0 is the setup's.
     BadFrame(u64),

@@ -1,5 +1,5 @@
 //! What a tenant is set up with.
-ghost use Rattle.std.specs.Prelude.{◌≡◌, ◌≢◌, Some, IfOk, IfErr, OnOk};
+ghost use Rattle.std.specs.Prelude.{◌≡◌, ◌≢◌, Some, None, Err, IfOk, IfErr, OnOk};
 ghost use Rattle.std.specs.Option.{option_copied};
 ghost use Rattle.wb_model.specs.Openings.{registry_of};
 ghost use Rattle.wb_model.specs.Tables.{user as user_by, user_named as user_called, context as context_by, newest_form as newest_form_by, disablings as disablings_of};
@@ -123,6 +123,7 @@ impl Configuration {
         ensures tenant { self.new.tenant ≡ self.old.tenant }
         ensures registry { self.new.registry ≡ self.old.registry }
         ensures fault { IfErr result (λ fault. fault ≢ AdminFault.Memory → fault_of self.old.registry next.now ≡ Some fault) }
+        ensures wants { result ≡ Err AdminFault.Memory → fault_of self.old.registry next.now ≡ None }
         ensures row { IfOk result (λ kept. kept ≡ row_of self.old.tenant self.old.registry next.now) }
         ensures ready { OnOk result (IsReady self.new next.now) }
     {

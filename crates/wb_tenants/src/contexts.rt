@@ -1,5 +1,5 @@
 //! Setting a context, new or changed.
-ghost use Rattle.std.specs.Prelude.{◌≡◌, ◌≢◌, ◌<◌, true, Some, None, is_some, IsOk, IfOk, IfErr, OnOk, OnErr};
+ghost use Rattle.std.specs.Prelude.{◌≡◌, ◌≢◌, ◌<◌, true, Some, None, Err, is_some, IsOk, IfOk, IfErr, OnOk, OnErr};
 ghost use Rattle.std.specs.List.{list_all};
 ghost use Rattle.wb_model.specs.Fits.{are_distinct};
 ghost use Rattle.wb_model.specs.Openings.{registry_of};
@@ -69,7 +69,8 @@ impl Registry {
 
     // Why a context is not set.
     fn context_fault(&self, tenant: Tenant, id: u32, next: &ContextSet) -> Option<AdminFault>
-        ensures { result ≡ context_fault_in (registry_of self.now.lists tenant) id next.now }
+        ensures fault { result ≡ context_fault_in (registry_of self.now.lists tenant) id next.now }
+        ensures named { result ≢ Some AdminFault.Memory }
     {
         if 1 <= id
             && id <= 64
@@ -109,6 +110,7 @@ impl Registry {
         ensures row { IfOk result (λ kept. kept ≡ row 5 tenant id 0 (context_data (context_item_of tenant id next.now))) }
         ensures room { OnOk result (0 < self.new.contexts) }
         ensures fault { IfErr result (λ fault. fault ≢ AdminFault.Memory → context_fault_in (registry_of self.old.lists tenant) id next.now ≡ Some fault) }
+        ensures wants { result ≡ Err AdminFault.Memory → context_fault_in (registry_of self.old.lists tenant) id next.now ≡ None }
     {
         if let Some(fault) = self.context_fault(tenant, id, next) {
             return Err(fault);
@@ -131,6 +133,7 @@ impl Registry {
         ensures ok { OnOk result (context_fault_in (registry_of self.old.lists tenant) id next ≡ None) }
         ensures set { OnOk result (self.new.lists ≡ with_context tenant id next self.old.lists) }
         ensures fault { IfErr result (λ fault. fault ≢ AdminFault.Memory → context_fault_in (registry_of self.old.lists tenant) id next ≡ Some fault) }
+        ensures wants { result ≡ Err AdminFault.Memory → context_fault_in (registry_of self.old.lists tenant) id next ≡ None }
         ensures err { OnErr result (self.new.lists ≡ self.old.lists) }
         ensures planned { 0 < self.old.contexts → context_fault_in (registry_of self.old.lists tenant) id next ≡ None → IsOk result }
     {

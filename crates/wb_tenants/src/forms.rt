@@ -1,5 +1,5 @@
 //! Setting one more version of a form.
-ghost use Rattle.std.specs.Prelude.{◌≡◌, ◌≢◌, ◌<◌, Some, None, IsOk, IfOk, IfErr, OnOk, OnErr};
+ghost use Rattle.std.specs.Prelude.{◌≡◌, ◌≢◌, ◌<◌, Some, None, Err, IsOk, IfOk, IfErr, OnOk, OnErr};
 ghost use Rattle.std.specs.Option.{option_map_or};
 ghost use Rattle.wb_base.specs.FormJson.{form_data};
 ghost use Rattle.wb_model.specs.Openings.{registry_of};
@@ -26,7 +26,8 @@ impl Registry {
 
     // Why one more version of a form is not set.
     fn form_fault(&self, tenant: Tenant, id: u32) -> Option<AdminFault>
-        ensures { result ≡ form_fault_in (registry_of self.now.lists tenant).forms id }
+        ensures fault { result ≡ form_fault_in (registry_of self.now.lists tenant).forms id }
+        ensures named { result ≢ Some AdminFault.Memory }
     {
         if id < 1 || 16 < id {
             return Some(AdminFault::NotFound);
@@ -72,6 +73,7 @@ impl Registry {
         ensures row { IfOk result (λ kept. kept ≡ row 4 tenant id (next_version id (registry_of self.old.lists tenant).forms) (form_data next.now)) }
         ensures room { OnOk result (0 < self.new.forms) }
         ensures fault { IfErr result (λ fault. fault ≢ AdminFault.Memory → form_fault_in (registry_of self.old.lists tenant).forms id ≡ Some fault) }
+        ensures wants { result ≡ Err AdminFault.Memory → form_fault_in (registry_of self.old.lists tenant).forms id ≡ None }
     {
         if let Some(fault) = self.form_fault(tenant, id) {
             return Err(fault);
@@ -88,6 +90,7 @@ impl Registry {
         ensures ok { OnOk result (form_fault_in (registry_of self.old.lists tenant).forms id ≡ None) }
         ensures set { OnOk result (self.new.lists ≡ with_form tenant id next self.old.lists) }
         ensures fault { IfErr result (λ fault. fault ≢ AdminFault.Memory → form_fault_in (registry_of self.old.lists tenant).forms id ≡ Some fault) }
+        ensures wants { result ≡ Err AdminFault.Memory → form_fault_in (registry_of self.old.lists tenant).forms id ≡ None }
         ensures err { OnErr result (self.new.lists ≡ self.old.lists) }
         ensures planned { 0 < self.old.forms → form_fault_in (registry_of self.old.lists tenant).forms id ≡ None → IsOk result }
     {

@@ -1,5 +1,5 @@
 //! Setting a user, new or changed.
-ghost use Rattle.std.specs.Prelude.{◌≡◌, ◌≢◌, ◌<◌, ◌+◌, ◌==◌, ◌&&◌, ◌||◌, is_some, if◌then◌else◌, find, nat_le, not, false, Some, None, IsOk, IfOk, IfErr, OnOk, OnErr};
+ghost use Rattle.std.specs.Prelude.{◌≡◌, ◌≢◌, ◌<◌, ◌+◌, ◌==◌, ◌&&◌, ◌||◌, is_some, if◌then◌else◌, find, nat_le, not, false, Some, None, Err, IsOk, IfOk, IfErr, OnOk, OnErr};
 ghost use Rattle.std.specs.Option.{option_copied, option_or};
 ghost use Rattle.wb_base.specs.AnswerList.{is_text};
 ghost use Rattle.wb_model.specs.Openings.{registry_of};
@@ -37,7 +37,8 @@ fn has_password(before: Option<&UserItem>, next: &UserSet) -> bool
 
 // The fault of a role that would change, or of one disabling too many.
 fn last_fault(before: Option<&UserItem>, next: &UserSet) -> Option<AdminFault>
-    ensures { result ≡ option_or (role_fixed (option_copied before.entry) next.now) (refuses_where (disables (option_copied before.entry) next.now && nat_le 10_000 (times_disabled (option_copied before.entry))) AdminFault.Full) }
+    ensures fault { result ≡ option_or (role_fixed (option_copied before.entry) next.now) (refuses_where (disables (option_copied before.entry) next.now && nat_le 10_000 (times_disabled (option_copied before.entry))) AdminFault.Full) }
+    ensures named { result ≢ Some AdminFault.Memory }
 {
     let Some(user) = before else {
         return None;
@@ -109,7 +110,8 @@ fn item_after(
 impl Registry {
     // Why a user is not set.
     fn user_fault(&self, tenant: Tenant, id: UserId, next: &UserSet) -> Option<AdminFault>
-        ensures { result ≡ user_fault_in (registry_of self.now.lists tenant).users id next.now }
+        ensures fault { result ≡ user_fault_in (registry_of self.now.lists tenant).users id next.now }
+        ensures named { result ≢ Some AdminFault.Memory }
     {
         let _within = id.id();
         let before = self.user(tenant, id);
@@ -171,6 +173,7 @@ impl Registry {
         ensures row { IfOk result (λ kept. kept ≡ row 3 tenant id 0 (user_data (user_set tenant id next.now self.old.lists))) }
         ensures room { OnOk result (0 < self.new.users) }
         ensures fault { IfErr result (λ fault. fault ≢ AdminFault.Memory → user_fault_in (registry_of self.old.lists tenant).users id next.now ≡ Some fault) }
+        ensures wants { result ≡ Err AdminFault.Memory → user_fault_in (registry_of self.old.lists tenant).users id next.now ≡ None }
     {
         if let Some(fault) = self.user_fault(tenant, id, next) {
             return Err(fault);
@@ -187,6 +190,7 @@ impl Registry {
         ensures ok { OnOk result (user_fault_in (registry_of self.old.lists tenant).users id next ≡ None) }
         ensures set { OnOk result (self.new.lists ≡ with_user tenant id next self.old.lists) }
         ensures fault { IfErr result (λ fault. fault ≢ AdminFault.Memory → user_fault_in (registry_of self.old.lists tenant).users id next ≡ Some fault) }
+        ensures wants { result ≡ Err AdminFault.Memory → user_fault_in (registry_of self.old.lists tenant).users id next ≡ None }
         ensures err { OnErr result (self.new.lists ≡ self.old.lists) }
         ensures planned { 0 < self.old.users → user_fault_in (registry_of self.old.lists tenant).users id next ≡ None → IsOk result }
     {

@@ -15,6 +15,7 @@ use wb_kept::{Origin, Pass};
 use wb_links::{Listener, Ticker};
 use wb_wire::Routes;
 
+/// A worker at its station, with a pass of one part.
 #[derive(Drop)]
 pub struct Worker<Li: Listener, T: Ticker, A: Ledger, B: Ledger> {
     pub pass: Pass<A, B>,

@@ -10,8 +10,8 @@ use Rattle.wb_model.specs.Tables.{user}
 use Rattle.wb_tenants.proofs.UserFaults.{within, left_to_refuse}
 use Rattle.wb_tenants.proofs.registry.Registry.user_fault.Goals as goal
 
-pub returns-in-None : goal.returns-in-None
-returns-in-None c =
+pub returns-in-None-clause-fault : goal.returns-in-None-clause-fault
+returns-in-None-clause-fault c =
     let users = (registry_of c.args.self.now.lists c.args.tenant).users in
     let known : (is_some (user c.args.id users) || is_some c.args.next.now.password) ≡ true = search rules in
     let free : find (λ (x : UserItem). is_text x.name c.args.next.now.name && not (x.id == c.args.id)) users ≡ None = search rules in
