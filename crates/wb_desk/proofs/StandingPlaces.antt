@@ -22,9 +22,10 @@ use Rattle.wb_model.proofs.KeptPasts.{held_opened}
 use Rattle.wb_model.proofs.PartLaw.{part_turns}
 use Rattle.wb_tables.specs.Indexed.{AreFewRequests}
 use Rattle.wb_tables.specs.Kept.{PlainTenancy, tables_of, tenancy_of}
-use Rattle.wb_tables.specs.Logins.{AreEarlier}
+use Rattle.wb_tables.specs.Logins.{AreEarlier, AreThere, NeverFall}
 use Rattle.wb_tables.specs.Places.{IsPlace, ArePlaces}
 use Rattle.wb_tables.specs.Standing.{Standing, hosts_of}
+use Rattle.wb_tables.proofs.HeldSessions.{there_held, moments_held}
 use Rattle.wb_tables.proofs.Indexes.{some_none}
 use Rattle.wb_tables.proofs.Lookups.{there-found}
 use Rattle.wb_desk.specs.Desks.{HasPast}
@@ -71,6 +72,8 @@ record AreHeld (turns : ℕ) (t : Tables) : Type 0 where
   opened : AreOpened at (without_sessions t)
   logins : Apart has_turn t.plain.sessions
   sessions : AreWithin turns t.plain.numbering.last t.plain.sessions
+  there : AreThere t.plain.cases t.plain.sessions
+  moments : NeverFall 0 t.plain.sessions
 
 tables_held : (t : ℕ) (past : Past Opened) → AreByVerdicts t past → AreHeld (turns past) (held past)
 tables_held t past verdicts = record {
@@ -78,6 +81,8 @@ tables_held t past verdicts = record {
   opened = held_opened t (latest (moments (held past))) past verdicts (omega arith);
   logins = logins_held past;
   sessions = sessions_held past;
+  there = there_held past;
+  moments = moments_held past;
 }
 
 -- ---- as a place
@@ -112,6 +117,8 @@ place_held turns items x right is = record {
   ascend = is.opened.ascend;
   most = is.opened.most;
   sessions = is.sessions;
+  there = is.there;
+  moments = is.moments;
   requests = few_requests x.plain.registry.settings.offset is.at x.plain.cases is.opened.legal;
   unsealed = λ n gone.
       let none : report n x.plain.cases ≡ None = some_none (report n x.plain.cases) (sym (there-found n x.plain.cases) ∙ gone) in

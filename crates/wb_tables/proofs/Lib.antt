@@ -4,7 +4,9 @@ pub mod CaseLists
 pub mod Configurations
 pub mod Counting
 pub mod DeadNumbers
+pub mod HeldSessions
 pub mod Indexes
+pub mod LateSessions
 pub mod Lookups
 pub mod NotedReports
 pub mod PlacesAt

@@ -18,6 +18,7 @@ use Rattle.wb_tables.specs.Kept.{PlainTenancy, case_of, place_of, tables_of, ten
 use Rattle.wb_tables.specs.Places.{IsPlace, ArePlaces, is_tenant, is_dead, gone_under}
 use Rattle.wb_tables.specs.declared.tenancy.Report.{Report as KeptCase}
 use Rattle.wb_tables.specs.declared.tenancy.Tenancy.{Tenancy as KeptTenancy}
+use Rattle.wb_tables.proofs.LateSessions.{there_filter, fall_filter}
 
 -- ---- lists
 
@@ -215,6 +216,8 @@ purged_is_place turns time items new x h here = record {
   ascend = ascend_filter 0 (is_live x.plain.registry.settings time) x.plain.cases h.ascend;
   most = most_filter x.plain.numbering.last (is_live x.plain.registry.settings time) x.plain.cases h.most;
   sessions = within_filter turns x.plain.numbering.last (lasts time (live_cases x.plain time)) x.plain.sessions h.sessions;
+  there = there_filter time (live_cases x.plain time) x.plain.sessions;
+  moments = fall_filter 0 (lasts time (live_cases x.plain time)) x.plain.sessions h.moments;
   requests = few_filter (is_live x.plain.registry.settings time) x.plain.cases h.requests;
   unsealed = λ n absent. here n ∙ ap (λ b. if b then sealed_of items x.id n else None) absent;
 }
@@ -228,7 +231,7 @@ same_tenancy : (x y : Tenancy) → x.id ≡ y.id → x.tables ≡ y.tables → x
 same_tenancy x y i t = λ k. record { id = i k; tables = t k }
 
 pub same_place : (turns : ℕ) (items new : List SealedItem) (x : PlainTenancy) → IsPlace turns items x → ((n : ℕ) → answers_of new x.id n ≡ answers_of items x.id n) → IsPlace turns new x
-same_place turns items new x h same = record { id = h.id; plain = h.plain; drawn = h.drawn; ascend = h.ascend; most = h.most; sessions = h.sessions; requests = h.requests; unsealed = λ n e. same n ∙ h.unsealed n e }
+same_place turns items new x h same = record { id = h.id; plain = h.plain; drawn = h.drawn; ascend = h.ascend; most = h.most; sessions = h.sessions; there = h.there; moments = h.moments; requests = h.requests; unsealed = λ n e. same n ∙ h.unsealed n e }
 
 pub places_above : (turns k t : ℕ) (items new : List SealedItem) (xs : List PlainTenancy) → t ≤ k → ArePlaces turns k items xs → AreOthers items new t → ArePlaces turns k new xs
 places_above turns k t items new [] le all others = tt

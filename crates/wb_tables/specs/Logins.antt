@@ -1,11 +1,11 @@
 -- The sessions of a tenant as they are kept, and what they stand for.
-use Rattle.std.specs.Prelude.{◌≡◌, ◌<◌, ◌≤◌, ℕ, List, [], ◌∷◌, count_by}
+use Rattle.std.specs.Prelude.{◌≡◌, ◌<◌, ◌≤◌, ℕ, true, List, [], ◌∷◌, count_by}
 use Rattle.wb_base.specs.declared.callers.Principal.{Principal}
 use Rattle.wb_base.specs.declared.callers.Principal.TheVariants as principals
 use Rattle.wb_access.specs.Sessions.{is_of}
 use Rattle.wb_access.specs.declared.sessions.Session.{Session as KeptSession}
 use Rattle.wb_model.specs.Past.{who_of}
-use Rattle.wb_model.specs.Tables.{Session, Who, TheUser, TheReporter}
+use Rattle.wb_model.specs.Tables.{Case, Session, Who, TheUser, TheReporter, stays}
 use Rattle.wb_tables.specs.declared.tenancy.Login.{Login}
 use Rattle.wb_tables.specs.declared.tenancy.Who.{Who as KeptWho}
 use Rattle.wb_tables.specs.declared.tenancy.Who.TheVariants as kept
@@ -48,3 +48,13 @@ AreFew ss = (caller : Principal) → count_by (is_of caller) ss ≤ 8
 abbrev pub AreEarlier : ℕ → List Session → Type 0
 AreEarlier turn [] = Unit {0}
 AreEarlier turn (s ∷ ss) = (s.turn < turn) × AreEarlier turn ss
+
+-- each reporter who is logged in has a report that is there
+abbrev pub AreThere : List Case → List Session → Type 0
+AreThere cases [] = Unit {0}
+AreThere cases (s ∷ ss) = (stays cases s.who ≡ true) × AreThere cases ss
+
+-- the moments of the logins do not fall, and the first is not before this one
+abbrev pub NeverFall : ℕ → List Session → Type 0
+NeverFall k [] = Unit {0}
+NeverFall k (s ∷ ss) = (k ≤ s.at) × NeverFall s.at ss

@@ -13,6 +13,7 @@ pub use Rattle.wb_tables.specs.Lives.{is_dead}
 use Rattle.wb_tables.specs.Indexed.{AreFewRequests}
 use Rattle.wb_tables.specs.Lives.{case_of, lives_on}
 use Rattle.wb_tables.specs.Kept.{PlainTenancy}
+use Rattle.wb_tables.specs.Logins.{AreThere, NeverFall}
 use Rattle.wb_tables.specs.declared.tenancy.Tenancy.{Tenancy as KeptTenancy}
 
 abbrev pub AreGoodForms : List FormItem → Type 0
@@ -46,6 +47,9 @@ pub record IsPlace (turns : ℕ) (items : List SealedItem) (x : PlainTenancy) : 
   pub most : AtMost x.plain.numbering.last x.plain.cases
   -- each session was made by a turn, and for a report whose number was drawn
   pub sessions : AreWithin turns x.plain.numbering.last x.plain.sessions
+  -- and for one that is there; and they stand in the order of their moments
+  pub there : AreThere x.plain.cases x.plain.sessions
+  pub moments : NeverFall 0 x.plain.sessions
   -- each report has at most 100 requests for its identity
   pub requests : AreFewRequests x.plain.cases
   -- identity answers stand under reports that are there

@@ -1,5 +1,5 @@
 //! The purge of what is not live. It takes no memory and cannot fail.
-ghost use Rattle.std.specs.Prelude.{◌≡◌, ◌≢◌, ◌≤◌, ℕ, map, filter, find, None};
+ghost use Rattle.std.specs.Prelude.{◌≡◌, ◌≢◌, ◌≤◌, ℕ, false, map, filter, find, None};
 ghost use Rattle.wb_custody.specs.SealedAnswers.{answers_of};
 ghost use Rattle.wb_tables.specs.Places.{IsPlace, ArePlaces, is_tenant, gone_under, IsPurged, ArePurged};
 ghost use Rattle.wb_tables.specs.Kept.{case_of, place_of, tables_of, tenancy_of, lives_on, live_place, purged_tenancy};
@@ -11,18 +11,22 @@ use crate::tenancy::Tenancy;
 use wb_base::{Day, Moment, Tenant};
 use wb_custody::SealedTable;
 
-// Drops the reports that are not live, and their identity answers. Each is found by the index of expiry days.
-fn drop_dead(cases: &mut Cases, sealed: &mut SealedTable, tenant: Tenant, today: Day)
+// Drops the reports that are not live, and their identity answers, and says whether there were any. Each is found by the index of expiry days.
+fn drop_dead(cases: &mut Cases, sealed: &mut SealedTable, tenant: Tenant, today: Day) -> bool
     ensures cases { map case_of cases.new.items ≡ filter (lives_on today) (map case_of cases.old.items) }
     ensures reports { cases.new.items ≡ filter (λ r. lives_on today (case_of r)) cases.old.items }
     ensures here { (n : ℕ) → answers_of sealed.new.items tenant n ≡ gone_under n today (map case_of cases.old.items) (answers_of sealed.old.items tenant n) }
     ensures others { (t n : ℕ) → t ≢ tenant → answers_of sealed.new.items t n ≡ answers_of sealed.old.items t n }
     ensures room { cases.old.spare ≤ cases.new.spare }
     ensures sealed_room { sealed.old.spare ≤ sealed.new.spare }
+    ensures gone { result ≡ false → cases.new.items ≡ cases.old.items }
 {
+    let mut has_gone = false;
     while let Some(number) = cases.take_expired(today) {
         sealed.remove(tenant, number);
+        has_gone = true;
     }
+    has_gone
 }
 
 /// Purges a tenant.
@@ -36,8 +40,8 @@ pub fn purge(tenancy: &mut Tenancy, sealed: &mut SealedTable, time: Moment)
 {
     let today = today_at(tenancy, time);
     let tenant = tenancy.configuration.tenant();
-    drop_dead(&mut tenancy.cases, sealed, tenant, today);
-    tenancy.sessions.drop_ended(&tenancy.cases, time);
+    let has_gone = drop_dead(&mut tenancy.cases, sealed, tenant, today);
+    tenancy.sessions.drop_ended(&tenancy.cases, has_gone, time);
 }
 
 // Purges these tenants.

@@ -1,12 +1,12 @@
 //! The sessions of a tenant, and the one that a request presents at a time.
-ghost use Rattle.std.specs.Prelude.{◌≡◌, ◌+◌, ◌<◌, ◌≤◌, ◌==◌, [], length, map, filter, not, option_map, OnOk, nat_lt};
+ghost use Rattle.std.specs.Prelude.{◌≡◌, ◌+◌, ◌<◌, ◌≤◌, ◌==◌, List, [], length, map, filter, not, false, option_map, OnOk, nat_lt};
 ghost use Rattle.wb_access.specs.Sessions.{session_shown};
 ghost use Rattle.wb_model.specs.Changes.{LogsIn};
 ghost use Rattle.wb_model.specs.Host.{is_user, sessions_after};
-ghost use Rattle.wb_model.specs.Tables.{is_there, lasts as lasts_at, session as session_by, stays as stays_by};
+ghost use Rattle.wb_model.specs.Tables.{Case, is_there, lasts as lasts_at, session as session_by, stays as stays_by};
 ghost use Rattle.wb_tables.specs.Kept.{case_of, plain_of, live_plain};
 ghost use Rattle.wb_model.specs.Past.{who_of};
-ghost use Rattle.wb_tables.specs.Logins.{AreEarlier, AreOf, IsOf, login_of, session_of, tenant_in, who_seen};
+ghost use Rattle.wb_tables.specs.Logins.{AreEarlier, AreOf, AreThere, NeverFall, IsOf, login_of, session_of, tenant_in, who_seen};
 ghost use Rattle.wb_tables.specs.Places.{IsLookedUp};
 
 use crate::cases::Cases;
@@ -178,13 +178,51 @@ impl Sessions {
         self.table.drop_of(Principal::User(self.tenant, user));
     }
 
-    /// Drops the sessions that do not last at a time, where these reports are there.
-    pub fn drop_ended(&mut self, cases: &Cases, time: Moment)
+    // Drops the sessions that do not last at a time, where these reports are there. It looks at each, and for its report.
+    fn drop_each(&mut self, cases: &Cases, time: Moment)
         ensures tenant { self.new.tenant ≡ self.old.tenant }
         ensures items { map session_of self.new.items ≡ filter (lasts_at time (map case_of cases.now.items)) (map session_of self.old.items) }
         ensures kept { self.old.spare ≤ self.new.spare }
     {
         self.table.drop_passing(&Ended { time, cases });
+    }
+
+    // Drops the sessions whose time is over.
+    fn drop_late(&mut self, time: Moment)
+        ensures tenant { self.new.tenant ≡ self.old.tenant }
+        ensures items { self.new.items ≡ filter (λ s. nat_lt time (s.at + 14_400)) self.old.items }
+        ensures kept { self.old.spare ≤ self.new.spare }
+    {
+        self.table.drop_ended(time);
+    }
+
+    // Whether the time of the first session is over. Where it is not, that of none is, if moments do not fall.
+    fn is_first_late(&self, time: Moment) -> bool
+        ensures { result ≡ false → (cases : List Case) → AreThere cases (map session_of self.now.items) → NeverFall 0 (map session_of self.now.items) → filter (lasts_at time cases) (map session_of self.now.items) ≡ map session_of self.now.items }
+    {
+        match self.table.as_slice().first() {
+            Some(first) => !is_timely(first, time),
+            None => false,
+        }
+    }
+
+    /// Drops the sessions that do not last at a time, where these reports are there. It looks at the first alone, unless that one's time
+    /// is over or a report has gone.
+    pub fn drop_ended(&mut self, cases: &Cases, has_gone: bool, time: Moment)
+        requires there { has_gone ≡ false → AreThere (map case_of cases.now.items) (map session_of self.old.items) }
+        requires moments { NeverFall 0 (map session_of self.old.items) }
+        ensures tenant { self.new.tenant ≡ self.old.tenant }
+        ensures items { map session_of self.new.items ≡ filter (lasts_at time (map case_of cases.now.items)) (map session_of self.old.items) }
+        ensures kept { self.old.spare ≤ self.new.spare }
+    {
+        if has_gone {
+            self.drop_each(cases, time);
+            return;
+        }
+        if !self.is_first_late(time) {
+            return;
+        }
+        self.drop_late(time);
     }
 }
 

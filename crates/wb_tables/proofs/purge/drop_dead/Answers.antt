@@ -10,7 +10,7 @@ loop-number-smaller c =
 pub loop-number-preserved : goal.loop-number-preserved
 loop-number-preserved c = (
   purging_next c.args.tenant c.args.today c.in-Some.number (map case_of c.args.cases.now.items) (map case_of c.loop-number.cases.items) (map case_of c.take_expired.new.self.items) c.args.sealed.now c.loop-number.sealed c.remove.new.self c.loop-number.invariant.0 c.in-Some.ensures.taken (record { here = c.remove.ensures.here; others = c.remove.ensures.others; room = c.remove.ensures.room }),
-  (c.in-Some.ensures.living ∙ c.loop-number.invariant.1.0, omega (arith, c.loop-number.invariant.1.1, c.take_expired.ensures.kept)),
+  (c.in-Some.ensures.living ∙ c.loop-number.invariant.1.0, omega (arith, c.loop-number.invariant.1.1, c.take_expired.ensures.kept), λ none. absurd cc),
 )
 
 pub returns-clause-cases : goal.returns-clause-cases
