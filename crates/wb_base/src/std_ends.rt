@@ -9,7 +9,7 @@ use crate::{Failed, Sink, Source};
 use std::io::{Read, Write};
 use std::marker::Model;
 
-/// A source over a reader, as over standard input, seen as the count of its faults.
+/// A source over a reader, as over standard input, seen as what the reader tells that it has left and the count of its faults.
 #[derive(Drop)]
 pub struct StdSource<R: Read> {
     inner: R,
@@ -59,7 +59,7 @@ impl<R: Read> Source for StdSource<R> {
     }
 }
 
-/// A sink over a writer, as over standard output, seen as the count of its faults.
+/// A sink over a writer, as over standard output, seen as what the writer tells that it holds and the count of its faults.
 #[derive(Drop)]
 pub struct StdSink<W: Write> {
     inner: W,

@@ -14,12 +14,13 @@ is_of tenant number item = (item.tenant == tenant) && (item.number == number)
 abbrev pub answers_of : List SealedItem → ℕ → ℕ → Option Answered
 answers_of items tenant number = option_map (λ item. item.answers) (find (is_of tenant number) items)
 
--- tenant, then number
+-- the order of reports within all tenants: tenant, then number
 abbrev pub pair_cmp : ℕ × ℕ → ℕ × ℕ → Ordering
 pair_cmp a b = ordering_then (nat_cmp a.0 b.0) (nat_cmp a.1 b.1)
 
-abbrev pub key_of : SealedItem → ℕ × ℕ
-key_of item = (item.tenant, item.number)
+-- the report that identity answers are of
+abbrev pub sealed_place : SealedItem → ℕ × ℕ
+sealed_place item = (item.tenant, item.number)
 
 -- what stands in the table under a tenant and a number
 abbrev pub item_at : (ℕ × ℕ) × Answered → SealedItem
@@ -28,4 +29,4 @@ item_at entry = record { tenant = entry.0.0; number = entry.0.1; answers = entry
 -- all of it, in the order of tenant and number
 abbrev pub in_order : List ((ℕ × ℕ) × Answered) → List SealedItem
 in_order [] = []
-in_order (entry ∷ entries) = insert_item pair_cmp key_of (in_order entries) (item_at entry)
+in_order (entry ∷ entries) = insert_item pair_cmp sealed_place (in_order entries) (item_at entry)

@@ -1,5 +1,5 @@
 -- What a desk keeps of its tenants follows from the past that it stands for.
-use Rattle.std.proofs.Common.{◌≡◌, inl, inr, ℕ, ℤ, ◌<◌, ◌≤◌, ◌+◌, Bool, true, false, cond, List, [], ◌∷◌, map, find, None, refl, sym, ap, ◌∙◌, subst, arith}
+use Rattle.std.proofs.Common.{◌≡◌, inl, inr, ℕ, ℤ, ◌<◌, ◌≤◌, ◌+◌, true, false, List, [], ◌∷◌, map, find, None, refl, sym, ap, ◌∙◌, subst, arith}
 use Rattle.std.proofs.lemmas.Bool.Decides.{nat_tests}
 use Rattle.wb_custody.specs.declared.sealed.SealedItem.{SealedItem}
 use Rattle.wb_custody.specs.SealedAnswers.{answers_of}
@@ -25,7 +25,7 @@ use Rattle.wb_tables.specs.Kept.{PlainTenancy, tables_of, tenancy_of}
 use Rattle.wb_tables.specs.Logins.{AreEarlier, AreThere, NeverFall}
 use Rattle.wb_tables.specs.Places.{IsPlace, ArePlaces}
 use Rattle.wb_tables.specs.Standing.{Standing, hosts_of}
-use Rattle.wb_tables.proofs.HeldSessions.{there_held, moments_held}
+use Rattle.wb_tables.proofs.HeldSessions.{either, there_held, moments_held}
 use Rattle.wb_tables.proofs.Indexes.{some_none}
 use Rattle.wb_tables.proofs.Lookups.{there-found}
 use Rattle.wb_desk.specs.Desks.{HasPast}
@@ -40,10 +40,6 @@ all_within turn k (s ∷ ss) within = (within s (inl refl), all_within turn k ss
 later_within : (turn k : ℕ) (ss : List Session) → AreWithin turn k ss → AreWithin (turn + 1) k ss
 later_within turn k [] are = tt
 later_within turn k (s ∷ ss) are = ((omega (arith, are.0.0), are.0.1), later_within turn k ss are.1)
-
-either : (P : Tables → Type 0) (b : Bool) (x y : Tables) → P x → P y → P (cond b x y)
-either P true x y left right = left
-either P false x y left right = right
 
 sessions_held : (past : Past Opened) → AreWithin (turns past) (held past).plain.numbering.last (held past).plain.sessions
 sessions_held (Opening o) = all_within 0 o.tables.plain.numbering.last o.tables.plain.sessions (λ s h. logins_within (Opening o) s h)

@@ -49,31 +49,43 @@ are_within turn k [] s are h = absurd h
 are_within turn k (z ∷ ss) s are (inl e) = subst (Within turn k) (sym e) are.0
 are_within turn k (z ∷ ss) s are (inr h) = are_within turn k ss s are.1 h
 
--- a session that begins is of its turn
-pub on_turn : (at : At) (g : Registry) (who : Who) (n : ℕ) (trail : List Entry) (e : Effect) (s : Session) → Held s (made (change_on at g who n trail e)) → s.turn ≡ at.turn
-on_turn at g who n trail (Comes role) s (inl e) = ap (λ (z : Session). z.turn) e
-on_turn at g who n trail (Comes role) s (inr h) = absurd h
-on_turn at g who n trail _ s h = absurd h
+-- a session that begins is of its turn and of its moment
+abbrev pub IsBegun : At → Session → Type 0
+IsBegun at s = (s.turn ≡ at.turn) × (s.at ≡ at.time)
 
-pub alone_turn : (at : At) (g : Registry) (who : Option Who) (o : Outcome) (e : Effect) (s : Session) → Held s (made (change_alone at g who o e)) → s.turn ≡ at.turn
-alone_turn at g who o (Comes role) s (inl e) = ap (λ (z : Session). z.turn) e
-alone_turn at g who o (Comes role) s (inr h) = absurd h
-alone_turn at g who o (Sets t proposal) s h = set_is (λ x. Held s (made x) → s.turn ≡ at.turn) _ (λ k. absurd k) (λ x is k. absurd k) h
-alone_turn at g who o _ s h = absurd h
+begun : (at : At) (s z : Session) → s ≡ z → IsBegun at z → IsBegun at s
+begun at s z e is = subst (IsBegun at) (sym e) is
 
-pub did_turn : (at : At) (g : Registry) (trail : List Entry) (a : Asked) (by : Option Principal) (place : Option ℕ) (s : Session) → Held s (made (change_by at g trail a by place)) → s.turn ≡ at.turn
-did_turn at g trail a by None s h = alone_turn at g (option_map who_of by) (outcome g [] a.command) (effect_of at g (option_map who_of by) a.session [] (outline a.command)) s h
-did_turn at g trail a None (Some n) s h = absurd h
-did_turn at g trail a (Some by) (Some n) s h = on_turn at g (who_of by) n trail (effect_of at g (Some (who_of by)) a.session trail (outline a.command)) s h
+begun_on : (at : At) (g : Registry) (who : Who) (n : ℕ) (trail : List Entry) (e : Effect) (s : Session) → Held s (made (change_on at g who n trail e)) → IsBegun at s
+begun_on at g who n trail (Comes role) s (inl e) = begun at s _ e (refl, refl)
+begun_on at g who n trail (Comes role) s (inr h) = absurd h
+begun_on at g who n trail _ s h = absurd h
 
-pub change_turn : (w : What) (at : At) (g : Registry) (trail : List Entry) (s : Session) → Held s (made (change_in w at g trail)) → s.turn ≡ at.turn
-change_turn (Did a by) at g trail s h = did_turn at g trail a by (report_of a.command by) s h
-change_turn (Gap t) at g trail s h = absurd h
-change_turn Idle at g trail s h = absurd h
-change_turn Lost at g trail s h = absurd h
+begun_alone : (at : At) (g : Registry) (who : Option Who) (o : Outcome) (e : Effect) (s : Session) → Held s (made (change_alone at g who o e)) → IsBegun at s
+begun_alone at g who o (Comes role) s (inl e) = begun at s _ e (refl, refl)
+begun_alone at g who o (Comes role) s (inr h) = absurd h
+begun_alone at g who o (Sets t proposal) s h = set_is (λ x. Held s (made x) → IsBegun at s) _ (λ k. absurd k) (λ x is k. absurd k) h
+begun_alone at g who o _ s h = absurd h
+
+begun_by : (at : At) (g : Registry) (trail : List Entry) (a : Asked) (by : Option Principal) (place : Option ℕ) (s : Session) → Held s (made (change_by at g trail a by place)) → IsBegun at s
+begun_by at g trail a by None s h = begun_alone at g (option_map who_of by) (outcome g [] a.command) (effect_of at g (option_map who_of by) a.session [] (outline a.command)) s h
+begun_by at g trail a None (Some n) s h = absurd h
+begun_by at g trail a (Some by) (Some n) s h = begun_on at g (who_of by) n trail (effect_of at g (Some (who_of by)) a.session trail (outline a.command)) s h
+
+begun_in : (w : What) (at : At) (g : Registry) (trail : List Entry) (s : Session) → Held s (made (change_in w at g trail)) → IsBegun at s
+begun_in (Did a by) at g trail s h = begun_by at g trail a by (report_of a.command by) s h
+begun_in (Gap t) at g trail s h = absurd h
+begun_in Idle at g trail s h = absurd h
+begun_in Lost at g trail s h = absurd h
+
+made_begun : (past : Past Opened) (e : Event) (s : Session) → Held s (made (change_at past e)) → IsBegun (at_of past e) s
+made_begun past e s h = begun_in e.what (at_of past e) (registry past) (trail_of (about e.what) (trail past)) s h
 
 pub made_turn : (past : Past Opened) (e : Event) (s : Session) → Held s (made (change_at past e)) → s.turn ≡ turns past + 1
-made_turn past e s h = change_turn e.what (at_of past e) (registry past) (trail_of (about e.what) (trail past)) s h
+made_turn past e s h = (made_begun past e s h).0
+
+pub made_moment : (past : Past Opened) (e : Event) (s : Session) → Held s (made (change_at past e)) → s.at ≡ max (now past) e.moment
+made_moment past e s h = (made_begun past e s h).1
 
 pub stays_within : (past : Past Opened) (time : ℕ) (w : Who) → stays (live_reports past time) w ≡ true → IsWithin (last past) w
 stays_within past time (TheUser u) e = tt

@@ -5,11 +5,10 @@ use Rattle.std.specs.Option.{option_map, is_some}
 use Rattle.std.specs.Prelude.{◌&&◌}
 use Rattle.wb_base.proofs.AnswerLemmas.{find-same}
 use Rattle.wb_custody.specs.declared.sealed.SealedItem.{SealedItem}
-use Rattle.wb_custody.specs.SealedAnswers.{answers_of, is_of}
+use Rattle.wb_custody.specs.SealedAnswers.{answers_of, is_of, pair_cmp, sealed_place}
 use Rattle.wb_list.specs.Keyed.{has_key}
 use Rattle.wb_row_rules.specs.declared.cases.CaseItem.{CaseItem}
 use Rattle.wb_row_rules.specs.Reports.{case_report}
-use Rattle.wb_row_rules.specs.Places.{pair_cmp, sealed_place}
 use Rattle.wb_row_rules.specs.ReportRules.{is_report}
 
 mapped : {X Y : Type 0} (f : X → Y) (o : Option X) → is_some (option_map f o) ≡ is_some o

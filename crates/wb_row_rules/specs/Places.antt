@@ -1,7 +1,5 @@
 -- What tells things apart within all tenants, and the keys of rows.
 use Rattle.std.specs.Prelude.{ℕ}
-use Rattle.std.specs.Ordering.{nat_cmp, ordering_then}
-use Rattle.std.specs.declared.cmp.Ordering.{Ordering}
 use Rattle.wb_base.specs.declared.rows.Key.{Key}
 use Rattle.wb_custody.specs.declared.sealed.SealedItem.{SealedItem}
 use Rattle.wb_kinds.specs.declared.item.EntryItem.{EntryItem}
@@ -36,11 +34,5 @@ sealed_key x = key 7 x.tenant x.number 0
 
 -- ---- the tenant, and a number within it
 
-abbrev pub pair_cmp : ℕ × ℕ → ℕ × ℕ → Ordering
-pair_cmp a b = ordering_then (nat_cmp a.0 b.0) (nat_cmp a.1 b.1)
-
 abbrev pub report_place : Report → ℕ × ℕ
 report_place r = (r.tenant, r.number)
-
-abbrev pub sealed_place : SealedItem → ℕ × ℕ
-sealed_place x = (x.tenant, x.number)

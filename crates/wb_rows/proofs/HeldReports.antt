@@ -11,6 +11,7 @@ use Rattle.std.specs.Option.{option_map}
 use Rattle.std.specs.Ordering.{nat_cmp, ordering_then}
 use Rattle.std.specs.Prelude.{◌==◌, is_some, nat_lt}
 use Rattle.std.specs.declared.cmp.Ordering.TheVariants.{Less, Equal}
+use Rattle.wb_custody.specs.SealedAnswers.{pair_cmp}
 use Rattle.wb_kinds.specs.declared.item.EntryItem.{EntryItem}
 use Rattle.wb_list.specs.Keyed.{IsAscending}
 use Rattle.wb_model.specs.declared.entry.Entry.{Entry}
@@ -23,7 +24,7 @@ use Rattle.wb_model.proofs.TurnRows.{map_held}
 use Rattle.wb_row_rules.specs.Reports.{Report}
 use Rattle.wb_rows.specs.HeldItems.{entry_items, report_items, trail_items}
 use Rattle.wb_rows.specs.Openings.{case_of, cases_of}
-use Rattle.wb_row_rules.specs.Places.{pair_cmp, report_place}
+use Rattle.wb_row_rules.specs.Places.{report_place}
 use Rattle.wb_row_rules.specs.ReportRules.{is_report}
 use Rattle.wb_row_rules.specs.TrailRule.{is_legal_report, offset}
 use Rattle.wb_row_rules.proofs.Lookups.{find-map}

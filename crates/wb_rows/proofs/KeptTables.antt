@@ -7,7 +7,7 @@ use Rattle.std.specs.Option.{option_map, option_map_or}
 use Rattle.std.specs.Prelude.{◌==◌, ◌&&◌, ◌||◌, if◌then◌else◌, is_some, nat_le}
 use Rattle.wb_base.specs.AnswerList.{Answered}
 use Rattle.wb_custody.specs.declared.sealed.SealedItem.{SealedItem}
-use Rattle.wb_custody.specs.SealedAnswers.{answers_of, is_of}
+use Rattle.wb_custody.specs.SealedAnswers.{answers_of, is_of, pair_cmp}
 use Rattle.wb_kinds.specs.declared.item.EntryItem.{EntryItem}
 use Rattle.wb_kinds.specs.declared.item.NumberingItem.{NumberingItem}
 use Rattle.wb_list.specs.Keyed.{IsAscending}
@@ -28,7 +28,7 @@ use Rattle.wb_row_rules.specs.Reports.{Report}
 use Rattle.wb_rows.specs.HeldItems.{report_items, trail_items}
 use Rattle.wb_rows.specs.Judged.{held as tables_read}
 use Rattle.wb_rows.specs.Openings.{case_of, cases_of, numbering_of, tables_of, time_of}
-use Rattle.wb_row_rules.specs.Places.{pair_cmp, report_place}
+use Rattle.wb_row_rules.specs.Places.{report_place}
 use Rattle.wb_row_rules.specs.ReportRules.{are_late_answers, has_its_seal, has_right_answers, is_by_draw, is_drawn, is_late_after, is_numbering_of, is_report, is_right_entry, is_right_numbering, is_right_seal, same_receipt}
 use Rattle.wb_row_rules.specs.TrailRule.{is_legal_report, offset, reports_of}
 use Rattle.wb_rows.proofs.HeldReports.{begins-so, cases-all, firsts-all, found-own, held-true, items-held, numbers-ascend, report-found, report_with, trail-all}

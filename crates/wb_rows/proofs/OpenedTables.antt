@@ -4,6 +4,7 @@ use Rattle.std.specs.List.{list_all}
 use Rattle.std.specs.List.Sorted.{IsStrictlySortedBy}
 use Rattle.wb_base.specs.KeptRows.{key_cmp, key_of}
 use Rattle.wb_base.specs.declared.rows.Row.{Row}
+use Rattle.wb_custody.specs.SealedAnswers.{pair_cmp}
 use Rattle.wb_kinds.specs.declared.item.EntryItem.{EntryItem}
 use Rattle.wb_kinds.specs.declared.item.Item.{Item}
 use Rattle.wb_kinds.specs.Items.{is_in_range, item_row}
@@ -21,7 +22,7 @@ use Rattle.wb_rows.specs.KeptItems.{kept_of}
 use Rattle.wb_rows.specs.ListRules.{has_tenant_rows}
 use Rattle.wb_rows.specs.Blame.{first_breaking}
 use Rattle.wb_rows.specs.Openings.{tables_of, tenancies_of, time_of}
-use Rattle.wb_row_rules.specs.Places.{pair_cmp, report_place}
+use Rattle.wb_row_rules.specs.Places.{report_place}
 use Rattle.wb_rows.specs.ReadItems.{items_in}
 use Rattle.wb_rows.proofs.FitItems.{entries-fit}
 use Rattle.wb_rows.proofs.HeldReports.{firsts-all}

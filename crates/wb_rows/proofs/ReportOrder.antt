@@ -10,12 +10,13 @@ use Rattle.std.specs.declared.cmp.Ordering.TheVariants.{Less, Equal, Greater}
 use Rattle.std.specs.Prelude.{◌==◌, ◌&&◌, if◌then◌else◌}
 use Rattle.wb_base.specs.KeptRows.{key_cmp}
 use Rattle.wb_base.specs.declared.rows.Key.{Key}
+use Rattle.wb_custody.specs.SealedAnswers.{pair_cmp}
 use Rattle.wb_kinds.specs.declared.item.EntryItem.{EntryItem}
 use Rattle.wb_list.specs.Keyed.{IsAscending}
 use Rattle.wb_model.specs.declared.registry.Lists.{Lists}
 use Rattle.wb_row_rules.specs.declared.cases.CaseItem.{CaseItem}
 use Rattle.wb_row_rules.specs.Reports.{Report, case_report}
-use Rattle.wb_row_rules.specs.Places.{entry_key, pair_cmp, report_place}
+use Rattle.wb_row_rules.specs.Places.{entry_key, report_place}
 use Rattle.wb_row_rules.specs.TrailRule.{begun, continued, is_of, begins, goes_on, with_report, reports_after, reports_of}
 use Rattle.wb_custody.proofs.SealedLookups.{pair_total}
 use Rattle.wb_row_rules.proofs.Lookups.{case_place}

@@ -9,6 +9,7 @@ use Rattle.std.specs.declared.cmp.Ordering.TheVariants.{Less}
 use Rattle.wb_base.specs.AnswerList.{Answered}
 use Rattle.wb_base.specs.FormJson.{form_data}
 use Rattle.wb_base.specs.declared.rows.Row.{Row}
+use Rattle.wb_custody.specs.SealedAnswers.{pair_cmp}
 use Rattle.wb_kinds.specs.declared.item.NumberingItem.{NumberingItem}
 use Rattle.wb_list.specs.Keyed.{IsAscending}
 use Rattle.wb_model.specs.declared.registry.ContextItem.{ContextItem}
@@ -29,7 +30,7 @@ use Rattle.wb_row_rules.specs.Reports.{Report}
 use Rattle.wb_rows.specs.Held.{Held}
 use Rattle.wb_rows.specs.HeldRows.{settings_row, numbering_row, user_row, form_row, context_row, trail_rows, sealed_rows, rows_of}
 use Rattle.wb_rows.specs.Openings.{case_of, tenancies_of, tenancy_of}
-use Rattle.wb_row_rules.specs.Places.{pair_cmp, report_place}
+use Rattle.wb_row_rules.specs.Places.{report_place}
 use Rattle.wb_row_rules.specs.ReportRules.{is_numbering_of}
 use Rattle.wb_rows.proofs.Ascending.{in-map}
 use Rattle.wb_rows.proofs.HeldReports.{held-true}

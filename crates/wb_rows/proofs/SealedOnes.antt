@@ -5,9 +5,8 @@ use Rattle.std.specs.Option.{option_or}
 use Rattle.std.specs.Prelude.{◌==◌, ◌&&◌}
 use Rattle.std.specs.List.Sorted.{IsStrictlySortedBy}
 use Rattle.wb_custody.specs.declared.sealed.SealedItem.{SealedItem}
-use Rattle.wb_custody.specs.SealedAnswers.{answers_of, is_of}
+use Rattle.wb_custody.specs.SealedAnswers.{answers_of, is_of, pair_cmp, sealed_place}
 use Rattle.wb_list.specs.Keyed.{IsAscending}
-use Rattle.wb_row_rules.specs.Places.{pair_cmp, sealed_place}
 use Rattle.wb_rows.proofs.SealedRows.{none_there}
 
 -- those that are left have none of the first one's place

@@ -10,14 +10,14 @@ use Rattle.std.specs.Prelude.{◌==◌, ◌&&◌}
 use Rattle.std.specs.declared.cmp.Ordering.{Ordering}
 use Rattle.std.specs.declared.cmp.Ordering.TheVariants.{Less, Equal, Greater}
 use Rattle.wb_custody.specs.declared.sealed.SealedItem.{SealedItem}
-use Rattle.wb_custody.specs.SealedAnswers.{answers_of, is_of}
+use Rattle.wb_custody.specs.SealedAnswers.{answers_of, is_of, pair_cmp, sealed_place}
 use Rattle.wb_custody.proofs.SealedLookups.{pair_total}
 use Rattle.wb_list.specs.Keyed.{IsAscending}
 use Rattle.wb_model.specs.Json.{answers_data}
 use Rattle.wb_model.specs.Rows.{row, sealed_row as answers_row}
 use Rattle.wb_row_rules.specs.Reports.{Report}
 use Rattle.wb_rows.specs.HeldRows.{sealed_rows}
-use Rattle.wb_row_rules.specs.Places.{pair_cmp, report_place, sealed_place}
+use Rattle.wb_row_rules.specs.Places.{report_place}
 use Rattle.wb_row_rules.specs.ReportRules.{is_report}
 use Rattle.wb_rows.proofs.ItemKinds.{sealed_row}
 

@@ -1,6 +1,7 @@
 -- Tables that keep the rules of kept rows, with each value in its range. Their rows are refused by no rule.
 use Rattle.std.specs.Prelude.{◌≡◌, ℕ, true, map}
 use Rattle.std.specs.List.{list_all}
+use Rattle.wb_custody.specs.SealedAnswers.{pair_cmp}
 use Rattle.wb_kinds.specs.declared.item.NumberingItem.{NumberingItem}
 use Rattle.wb_kinds.specs.Good.{is_good}
 use Rattle.wb_list.specs.Keyed.{IsAscending}
@@ -10,7 +11,7 @@ use Rattle.wb_row_rules.specs.Reports.{Report}
 use Rattle.wb_rows.specs.Held.{Held}
 use Rattle.wb_rows.specs.HeldItems.{items_of}
 use Rattle.wb_rows.specs.Openings.{tables_of}
-use Rattle.wb_row_rules.specs.Places.{pair_cmp, report_place}
+use Rattle.wb_row_rules.specs.Places.{report_place}
 
 -- tables of all tenants that keep the rules of kept rows at a moment
 pub record AreGood (at : ℕ) (h : Held) : Type 0 where

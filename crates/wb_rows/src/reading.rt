@@ -3,7 +3,7 @@ ghost use Rattle.std.specs.Prelude.{◌≡◌, ◌≢◌, ℕ, map, true, false,
 ghost use Rattle.std.specs.List.{list_all};
 ghost use Rattle.std.specs.List.Sorted.{IsStrictlySortedBy};
 ghost use Rattle.wb_base.specs.KeptRows.{key_cmp, key_of};
-ghost use Rattle.wb_custody.specs.SealedAnswers.{answers_of};
+ghost use Rattle.wb_custody.specs.SealedAnswers.{answers_of, pair_cmp, sealed_place};
 ghost use Rattle.wb_list.specs.Keyed.{IsAscending};
 ghost use Rattle.wb_model.specs.KeptRules.{AreKept};
 ghost use Rattle.wb_model.specs.Openings.{registry_of, empty_tables};
@@ -18,7 +18,7 @@ ghost use Rattle.wb_rows.specs.Held.{Held, held_by};
 ghost use Rattle.wb_rows.specs.HeldRows.{rows_of};
 ghost use Rattle.wb_rows.specs.Judged.{AreBlames, judged, judged_kept, judged_reports};
 ghost use Rattle.wb_rows.specs.Openings.{tables_of, tenancies_of, time_of};
-ghost use Rattle.wb_row_rules.specs.Places.{entry_key, pair_cmp, sealed_place};
+ghost use Rattle.wb_row_rules.specs.Places.{entry_key};
 ghost use Rattle.wb_row_rules.specs.TrailRule.{is_legal_report, reports_of};
 ghost use Rattle.wb_setup.specs.Keys.{AreInOrder};
 

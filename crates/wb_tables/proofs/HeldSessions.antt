@@ -1,53 +1,15 @@
 -- What stands of the sessions of a past: their reports are there, and their moments do not fall.
-use Rattle.std.proofs.Common.{◌≡◌, inl, inr, ℕ, ◌≤◌, Bool, true, false, cond, not, List, [], ◌∷◌, ◌++◌, filter, Option, Some, None, refl, sym, ap, subst, arith}
-use Rattle.std.specs.Prelude.{◌&&◌, max, option_map}
-use Rattle.wb_base.specs.declared.callers.Principal.{Principal}
-use Rattle.wb_model.specs.declared.command.Asked.{Asked}
-use Rattle.wb_model.specs.declared.entry.Entry.{Entry}
+use Rattle.std.proofs.Common.{◌≡◌, inl, inr, ℕ, ◌≤◌, Bool, true, false, cond, not, List, [], ◌∷◌, ◌++◌, filter, refl, sym, subst, arith}
+use Rattle.std.specs.Prelude.{◌&&◌, max}
 use Rattle.wb_model.specs.declared.event.Event.{Event}
-use Rattle.wb_model.specs.declared.event.What.{What}
-use Rattle.wb_model.specs.declared.event.What.TheVariants.{Did, Gap, Idle, Lost}
-use Rattle.wb_model.specs.Tables.{Registry, Case, Session, Who, lasts}
-use Rattle.wb_model.specs.Requests.{Outcome, outline, outcome}
-use Rattle.wb_model.specs.Changes.{At}
-use Rattle.wb_model.specs.Effects.{Effect, Comes, Sets, effect_of}
-use Rattle.wb_model.specs.OnReports.{change_on}
-use Rattle.wb_model.specs.Rules.{change_alone}
+use Rattle.wb_model.specs.Tables.{Case, Session, lasts}
 use Rattle.wb_model.specs.Host.{Tables, made}
-use Rattle.wb_model.specs.Past.{Past, Opening, Turn, registry, trail, change_at, live_reports, logins, is_ended, stands, tables, now, at_of, who_of, report_of, about, change_by, change_in, trail_of, is_lost, held}
+use Rattle.wb_model.specs.Past.{Past, Opening, Turn, change_at, live_reports, logins, is_ended, stands, tables, now, is_lost, held}
 use Rattle.wb_model.specs.Opened.{Opened}
-use Rattle.wb_model.proofs.Effects.{set_is}
 use Rattle.wb_model.proofs.Found.{Held, held_filter}
-use Rattle.wb_model.proofs.SessionsLaw.{lasts_stays}
+use Rattle.wb_model.proofs.SessionsLaw.{lasts_stays, made_moment}
 use Rattle.wb_tables.specs.Logins.{AreThere, NeverFall}
 use Rattle.wb_tables.proofs.LateSessions.{fall_filter}
-
--- ---- a session that begins is of its turn's moment
-
-on_moment : (at : At) (g : Registry) (who : Who) (n : ℕ) (trail : List Entry) (e : Effect) (s : Session) → Held s (made (change_on at g who n trail e)) → s.at ≡ at.time
-on_moment at g who n trail (Comes role) s (inl e) = ap (λ (z : Session). z.at) e
-on_moment at g who n trail (Comes role) s (inr h) = absurd h
-on_moment at g who n trail _ s h = absurd h
-
-alone_moment : (at : At) (g : Registry) (who : Option Who) (o : Outcome) (e : Effect) (s : Session) → Held s (made (change_alone at g who o e)) → s.at ≡ at.time
-alone_moment at g who o (Comes role) s (inl e) = ap (λ (z : Session). z.at) e
-alone_moment at g who o (Comes role) s (inr h) = absurd h
-alone_moment at g who o (Sets t proposal) s h = set_is (λ x. Held s (made x) → s.at ≡ at.time) _ (λ k. absurd k) (λ x is k. absurd k) h
-alone_moment at g who o _ s h = absurd h
-
-did_moment : (at : At) (g : Registry) (trail : List Entry) (a : Asked) (by : Option Principal) (place : Option ℕ) (s : Session) → Held s (made (change_by at g trail a by place)) → s.at ≡ at.time
-did_moment at g trail a by None s h = alone_moment at g (option_map who_of by) (outcome g [] a.command) (effect_of at g (option_map who_of by) a.session [] (outline a.command)) s h
-did_moment at g trail a None (Some n) s h = absurd h
-did_moment at g trail a (Some by) (Some n) s h = on_moment at g (who_of by) n trail (effect_of at g (Some (who_of by)) a.session trail (outline a.command)) s h
-
-change_moment : (w : What) (at : At) (g : Registry) (trail : List Entry) (s : Session) → Held s (made (change_in w at g trail)) → s.at ≡ at.time
-change_moment (Did a by) at g trail s h = did_moment at g trail a by (report_of a.command by) s h
-change_moment (Gap t) at g trail s h = absurd h
-change_moment Idle at g trail s h = absurd h
-change_moment Lost at g trail s h = absurd h
-
-made_moment : (past : Past Opened) (e : Event) (s : Session) → Held s (made (change_at past e)) → s.at ≡ max (now past) e.moment
-made_moment past e s h = change_moment e.what (at_of past e) (registry past) (trail_of (about e.what) (trail past)) s h
 
 -- ---- the moments of logins
 
@@ -103,7 +65,7 @@ logins_rise (Turn e past) = rise_more past e (logins_rise past)
 
 -- ---- what stands
 
-either : (P : Tables → Type 0) (b : Bool) (x y : Tables) → P x → P y → P (cond b x y)
+pub either : (P : Tables → Type 0) (b : Bool) (x y : Tables) → P x → P y → P (cond b x y)
 either P true x y left right = left
 either P false x y left right = right
 

@@ -2,10 +2,11 @@ use Rattle.std.proofs.Common.{rules, ◌≡◌, ◌≢◌, true, Ok, Err, IfErr,
 use Rattle.std.specs.List.{list_all}
 use Rattle.std.specs.List.Sorted.{IsStrictlySortedBy}
 use Rattle.wb_base.specs.KeptRows.{key_cmp}
+use Rattle.wb_custody.specs.SealedAnswers.{pair_cmp, sealed_place}
 use Rattle.wb_list.specs.Keyed.{IsAscending}
 use Rattle.wb_model.specs.SetUps.{is_tenant_item, is_form_item}
 use Rattle.wb_rows.specs.declared.items.Kept.{Kept}
-use Rattle.wb_row_rules.specs.Places.{entry_key, pair_cmp, sealed_place}
+use Rattle.wb_row_rules.specs.Places.{entry_key}
 use Rattle.wb_rows.specs.ReadItems.{items_in}
 use Rattle.wb_kinds.specs.declared.item.Item.{Item}
 use Rattle.wb_kinds.specs.Items.{is_in_range}

@@ -1,8 +1,7 @@
 use Rattle.std.proofs.Common.{sym, ap, ◌∙◌, subst}
 use Rattle.std.specs.Option.{option_or}
-use Rattle.wb_custody.specs.SealedAnswers.{answers_of}
+use Rattle.wb_custody.specs.SealedAnswers.{answers_of, pair_cmp, sealed_place}
 use Rattle.wb_list.specs.Keyed.{IsAscending}
-use Rattle.wb_row_rules.specs.Places.{pair_cmp, sealed_place}
 use Rattle.wb_rows.proofs.SealedOnes.{one-put, rest-order}
 use Rattle.wb_rows.proofs.reading.sealed_table.Goals as goal
 
