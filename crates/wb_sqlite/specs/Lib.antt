@@ -3,3 +3,4 @@ pub mod StoredRows
 pub mod Statements
 pub mod Readings
 pub mod Standing
+pub mod PathFiles

@@ -3,6 +3,7 @@
 
 mod database;
 mod one_byte;
+mod path_file;
 mod path_keeper;
 mod refusal;
 mod sql_keeper;
