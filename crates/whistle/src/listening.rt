@@ -1,5 +1,5 @@
 //! The host that links over TCP reach: its stations, and its end.
-ghost use Rattle.std.specs.Prelude.{◌≡◌, ℕ, List, Option, IfOk, vec_len};
+ghost use Rattle.std.specs.Prelude.{◌≡◌, ℕ, List, Option, All, IfOk, is_some, vec_len};
 ghost use Rattle.wb_base.specs.declared.rows.Row.{Row as KeptRow};
 ghost use Rattle.wb_words.specs.declared.plans.Plan.TheVariants.{Serve};
 ghost use Rattle.wb_words.specs.CommandLine.{Asks};
@@ -26,7 +26,8 @@ fn stations_at<'a>(
     listener: Option<&'a TcpListener>,
     workers: u32,
 ) -> Result<Vec<RealStation<'a>>, AllocError>
-    ensures { IfOk result (λ stations. vec_len stations ≡ workers) }
+    ensures count { IfOk result (λ stations. vec_len stations ≡ workers) }
+    ensures bound { IfOk result (λ stations. All (λ s. s.listener ≡ record { is_bound = is_some listener.entry; faults = 0 }) stations.items) }
 {
     let mut stations = Vec::new(alloc);
     for _ in 0..workers {
