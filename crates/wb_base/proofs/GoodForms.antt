@@ -17,6 +17,7 @@ pub record GoodParts (f : Form) : Type 0 where
   pub unsealed : first_by is_sealed (fields_of f.steps) ≡ None
   pub has : first_by lacks_option (fields_of f.steps) ≡ None
   pub few : length (fields_of f.steps) ≤ 256
+  pub light : list_any is_full_field (fields_of f.steps) ≡ false
 
 none_parts : (code : ℕ) (o : Option (List ℕ)) (rest : Option FormFault) → is_none (or_else code o rest) ≡ true → (o ≡ None) × (is_none rest ≡ true)
 none_parts code None rest e = (refl, e)
@@ -47,4 +48,4 @@ good_parts f e =
     let h1 = or_parts (low || nat_lt 256 (length fs) || list_any is_full_field fs) (nat_lt 32768 (length (form_text f))) many in
     let h2 = or_parts (low || nat_lt 256 (length fs)) (list_any is_full_field fs) h1.0 in
     let h3 = or_parts low (nat_lt 256 (length fs)) h2.0 in
-    record { in_range = (and_parts (is_in_range f) (is_none (fault_of f)) e).0; distinct = a.0; in_time = b.0; unsealed = c.0; has = d.0; few = ltb-false _ _ h3.1 }
+    record { in_range = (and_parts (is_in_range f) (is_none (fault_of f)) e).0; distinct = a.0; in_time = b.0; unsealed = c.0; has = d.0; few = ltb-false _ _ h3.1; light = h2.1 }

@@ -1,19 +1,18 @@
 -- Where no public field hangs on an identity field, what is shown of public fields hangs on public answers alone.
-use Rattle.std.proofs.Common.{◌≡◌, ℕ, zero, suc, Bool, true, false, not, cond, ◌&&◌, ◌||◌, if◌then◌else◌, List, [], ◌∷◌, ◌++◌, get_or, filter, find, slice_get, Option, Some, None, refl, sym, ap, ◌∙◌, append_assoc}
-use Rattle.std.specs.List.{list_any, list_all}
+use Rattle.std.proofs.Common.{◌≡◌, ℕ, zero, suc, Bool, true, false, not, cond, ◌&&◌, ◌||◌, if◌then◌else◌, List, [], ◌∷◌, ◌++◌, get_or, filter, find, slice_get, nat_le, Option, Some, None, refl, sym, ap, ◌∙◌, append_assoc}
+use Rattle.std.specs.List.{list_any}
 use Rattle.std.specs.Option.{option_map, option_map_or}
 use Rattle.std.specs.Cmp.Lexicographic.{bytes_decides}
 use Rattle.std.proofs.lemmas.Bool.{or_parts}
 use Rattle.wb_base.specs.declared.answers.Given.{Given}
 use Rattle.wb_base.specs.declared.form.Form.{Form}
 use Rattle.wb_base.specs.declared.form.Field.{Field}
-use Rattle.wb_base.specs.declared.form.Cond.{Cond}
+use Rattle.wb_base.specs.declared.form.Part.{Part}
 use Rattle.wb_base.specs.declared.form.Trigger.{Trigger}
-use Rattle.wb_base.specs.declared.form.Trigger.TheVariants.{Always, Any, All}
 use Rattle.wb_base.specs.AnswerList.{Answered, answer_to, id_of, is_text}
-use Rattle.wb_base.specs.FormFields.{is_field, conds_of}
+use Rattle.wb_base.specs.FormFields.{is_field, parts_of, least_of}
 use Rattle.wb_base.specs.FormFaults.{is_late, is_sealed, first_from}
-use Rattle.wb_base.specs.ShownFields.{Look, is_met, is_triggered, shows, is_shown, shown_from}
+use Rattle.wb_base.specs.ShownFields.{Look, is_met, points_met, is_triggered, shows, is_shown, shown_from}
 use Rattle.wb_base.specs.AnswerFaults.{is_identity, public_of}
 
 -- the field that an id finds is an identity field
@@ -69,34 +68,24 @@ module _ (p q : Look) where
 
   module _ (all : List Field) (agree : (id : List ℕ) → identifies all id ≡ false → p id ≡ q id) where
     met-same : (before earlier fs : List Field) → all ≡ before ++ fs → ((t : Field → Bool) → list_any t before ≡ list_any t earlier) → Same earlier
-        → (c : Cond) → not (list_any (is_field c.field) before) ≡ false → list_any (sealed c.field) before ≡ false → is_met (shows p earlier) p c ≡ is_met (shows q earlier) q c
+        → (c : Part) → not (list_any (is_field c.field) before) ≡ false → list_any (sealed c.field) before ≡ false → is_met (shows p earlier) p c ≡ is_met (shows q earlier) q c
     met-same before earlier fs whole rel same c late seal =
         let known = not_false (list_any (is_field c.field) before) late in
         let public : identifies all c.field ≡ false = ap (λ gs. identifies gs c.field) whole ∙ found_public c.field before fs known seal in
         rw (same c.field (sym (rel (sealed c.field)) ∙ seal), agree c.field public) refl
 
     module _ (before earlier fs : List Field) (whole : all ≡ before ++ fs) (rel : (t : Field → Bool) → list_any t before ≡ list_any t earlier) (same : Same earlier) where
-      any-same : (cs : List Cond) → list_any (λ c. not (list_any (is_field c.field) before)) cs ≡ false → list_any (λ c. list_any (sealed c.field) before) cs ≡ false
-          → list_any (is_met (shows p earlier) p) cs ≡ list_any (is_met (shows q earlier) q) cs
-      any-same [] l s = refl
-      any-same (c ∷ cs) l s =
+      points-same : (ps : List Part) → list_any (λ c. not (list_any (is_field c.field) before)) ps ≡ false → list_any (λ c. list_any (sealed c.field) before) ps ≡ false
+          → points_met (shows p earlier) p ps ≡ points_met (shows q earlier) q ps
+      points-same [] l s = refl
+      points-same (c ∷ cs) l s =
           let ls = or_parts (not (list_any (is_field c.field) before)) (list_any (λ d. not (list_any (is_field d.field) before)) cs) l in
           let ss = or_parts (list_any (sealed c.field) before) (list_any (λ d. list_any (sealed d.field) before) cs) s in
-          rw (met-same before earlier fs whole rel same c ls.0 ss.0, any-same cs ls.1 ss.1) refl
+          rw (met-same before earlier fs whole rel same c ls.0 ss.0, points-same cs ls.1 ss.1) refl
 
-      all-same : (cs : List Cond) → list_any (λ c. not (list_any (is_field c.field) before)) cs ≡ false → list_any (λ c. list_any (sealed c.field) before) cs ≡ false
-          → list_all (is_met (shows p earlier) p) cs ≡ list_all (is_met (shows q earlier) q) cs
-      all-same [] l s = refl
-      all-same (c ∷ cs) l s =
-          let ls = or_parts (not (list_any (is_field c.field) before)) (list_any (λ d. not (list_any (is_field d.field) before)) cs) l in
-          let ss = or_parts (list_any (sealed c.field) before) (list_any (λ d. list_any (sealed d.field) before) cs) s in
-          rw (met-same before earlier fs whole rel same c ls.0 ss.0, all-same cs ls.1 ss.1) refl
-
-      trigger-same : (t : Trigger) → list_any (λ c. not (list_any (is_field c.field) before)) (conds_of t) ≡ false → list_any (λ c. list_any (sealed c.field) before) (conds_of t) ≡ false
+      trigger-same : (t : Trigger) → list_any (λ c. not (list_any (is_field c.field) before)) (parts_of t) ≡ false → list_any (λ c. list_any (sealed c.field) before) (parts_of t) ≡ false
           → is_triggered (shows p earlier) p t ≡ is_triggered (shows q earlier) q t
-      trigger-same Always l s = refl
-      trigger-same (Any cs) l s = any-same cs l s
-      trigger-same (All cs) l s = all-same cs l s
+      trigger-same t l s = ap (nat_le (least_of t)) (points-same (parts_of t) l s)
 
       field-same : (f : Field) → is_late before f ≡ false → is_sealed before f ≡ false → f.identity ≡ false → is_shown p earlier f ≡ is_shown q earlier f
       field-same f l s i = trigger-same f.show l (rw i at s)

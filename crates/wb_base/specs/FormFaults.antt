@@ -5,13 +5,15 @@ use Rattle.serde_json.specs.Data.{Data}
 use Rattle.wb_base.specs.declared.faults.FormFault.{FormFault}
 use Rattle.wb_base.specs.declared.faults.TheConstants.FormFault.{SHAPE, DOUBLE_ID, LATE_TRIGGER, SEALED_TRIGGER, NO_OPTION, TOO_MANY}
 use Rattle.wb_base.specs.declared.form.Form.{Form}
+use Rattle.wb_base.specs.declared.form.Format.{Format}
+use Rattle.wb_base.specs.declared.form.Format.TheVariants.{Plain}
 use Rattle.wb_base.specs.declared.form.Field.{Field}
 use Rattle.wb_base.specs.declared.form.Choice.{Choice as FieldOption}
 use Rattle.wb_base.specs.declared.form.Trigger.{Trigger}
-use Rattle.wb_base.specs.declared.form.Trigger.TheVariants.{Always, Any, All}
-use Rattle.wb_base.specs.FormFields.{fields_of, is_field, is_option, has_options, options_of, conds_of}
+use Rattle.wb_base.specs.declared.form.Trigger.TheVariants.{Always, Any, All, Score}
+use Rattle.wb_base.specs.FormFields.{fields_of, is_field, is_option, has_options, options_of, parts_of}
 use Rattle.wb_base.specs.FormRanges.{is_in_range}
-use Rattle.wb_base.specs.FormShape.{form_of}
+use Rattle.wb_base.specs.FormShape.{form_by}
 use Rattle.wb_base.specs.FormJson.{form_text}
 
 -- ---- rules that judge a field after the fields before it
@@ -28,18 +30,18 @@ has_twice (o ∷ os) = list_any (is_option o.id) os || has_twice os
 abbrev pub is_double : Rule
 is_double before f = list_any (is_field f.id) before || has_twice (options_of f.kind)
 
--- a condition names no earlier field
+-- a condition or part names no earlier field
 abbrev pub is_late : Rule
-is_late before f = list_any (λ c. not (list_any (is_field c.field) before)) (conds_of f.show)
+is_late before f = list_any (λ c. not (list_any (is_field c.field) before)) (parts_of f.show)
 
--- a public field's condition names an identity field
+-- a public field's condition or part names an identity field
 abbrev pub is_sealed : Rule
-is_sealed before f = not f.identity && list_any (λ c. list_any (λ g. is_field c.field g && g.identity) before) (conds_of f.show)
+is_sealed before f = not f.identity && list_any (λ c. list_any (λ g. is_field c.field g && g.identity) before) (parts_of f.show)
 
--- a field that takes options has none, or a condition names an option that its field has not
+-- a field that takes options has none, or a condition or part names an option that its field has not
 abbrev pub lacks_option : Rule
 lacks_option before f = (has_options f.kind && (length (options_of f.kind) == 0))
-    || list_any (λ c. list_any (λ g. is_field c.field g && not (list_any (is_option c.option) (options_of g.kind))) before) (conds_of f.show)
+    || list_any (λ c. list_any (λ g. is_field c.field g && not (list_any (is_option c.option) (options_of g.kind))) before) (parts_of f.show)
 
 -- the id of the first field that a rule refuses, after the fields before
 abbrev pub first_from : Rule → List Field → List Field → Option (List ℕ)
@@ -52,13 +54,14 @@ first_by rule fs = first_from rule [] fs
 
 -- ---- counts
 
--- a list of conditions is empty or has more than 16
+-- a list of conditions or parts is empty or has more than 16
 abbrev pub is_full_trigger : Trigger → Bool
 is_full_trigger Always = false
 is_full_trigger (Any conds) = (length conds == 0) || nat_lt 16 (length conds)
 is_full_trigger (All conds) = (length conds == 0) || nat_lt 16 (length conds)
+is_full_trigger (Score least parts) = (length parts == 0) || nat_lt 16 (length parts)
 
--- more than 64 options, or too many conditions
+-- more than 64 options, or too many conditions or parts
 abbrev pub is_full_field : Field → Bool
 is_full_field f = nat_lt 64 (length (options_of f.kind)) || is_full_trigger f.show
 
@@ -88,9 +91,13 @@ abbrev pub fault_or_shape : Option Form → Option FormFault
 fault_or_shape None = Some (record { code = SHAPE; field = [] })
 fault_or_shape (Some f) = fault_of f
 
--- what is wrong with a JSON value as a form
+-- what is wrong with a JSON value as a form in a format
+abbrev pub fault_by : Format → Data → Option FormFault
+fault_by format d = fault_or_shape (form_by format d)
+
+-- what is wrong with a JSON value as a form that is sent
 abbrev pub fault_in : Data → Option FormFault
-fault_in d = fault_or_shape (form_of d)
+fault_in = fault_by Plain
 
 -- a form that can be read: in range and without a fault
 abbrev pub is_good : Form → Bool

@@ -1,14 +1,17 @@
--- The fields of a form in form order, their ids, options and conditions.
-use Rattle.std.specs.Prelude.{ℕ, List, [], ◌∷◌, ◌++◌, Bool, true, false}
+-- The fields of a form in form order, their ids and options, and what their triggers ask.
+use Rattle.std.specs.Prelude.{ℕ, List, [], ◌∷◌, ◌++◌, length, map, Bool, true, false}
+use Rattle.std.specs.List.{list_any}
 use Rattle.wb_base.specs.AnswerList.{is_text}
+use Rattle.wb_base.specs.declared.form.Form.{Form}
 use Rattle.wb_base.specs.declared.form.Step.{Step}
 use Rattle.wb_base.specs.declared.form.Field.{Field}
 use Rattle.wb_base.specs.declared.form.FieldKind.{FieldKind}
 use Rattle.wb_base.specs.declared.form.FieldKind.TheVariants.{Text, Choice, Multi, Date, Check, Whole, File}
 use Rattle.wb_base.specs.declared.form.Choice.{Choice as FieldOption}
 use Rattle.wb_base.specs.declared.form.Trigger.{Trigger}
-use Rattle.wb_base.specs.declared.form.Trigger.TheVariants.{Always, Any, All}
+use Rattle.wb_base.specs.declared.form.Trigger.TheVariants.{Always, Any, All, Score}
 use Rattle.wb_base.specs.declared.form.Cond.{Cond}
+use Rattle.wb_base.specs.declared.form.Part.{Part}
 
 -- the fields, step by step
 abbrev pub fields_of : List Step → List Field
@@ -43,8 +46,31 @@ options_of Check = []
 options_of Whole = []
 options_of File = []
 
--- the conditions of a trigger
-abbrev pub conds_of : Trigger → List Cond
-conds_of Always = []
-conds_of (Any conds) = conds
-conds_of (All conds) = conds
+-- a condition as a part of one point
+abbrev pub one_point : Cond → Part
+one_point c = record { field = c.field; option = c.option; points = 1 }
+
+-- what a trigger asks of earlier fields, with the points that each part gives
+abbrev pub parts_of : Trigger → List Part
+parts_of Always = []
+parts_of (Any conds) = map one_point conds
+parts_of (All conds) = map one_point conds
+parts_of (Score least parts) = parts
+
+-- the points that a trigger wants: one for any of its conditions, one each for all of them
+abbrev pub least_of : Trigger → ℕ
+least_of Always = 0
+least_of (Any conds) = 1
+least_of (All conds) = length conds
+least_of (Score least parts) = least
+
+-- a trigger counts points of its own
+abbrev pub is_scored : Trigger → Bool
+is_scored Always = false
+is_scored (Any conds) = false
+is_scored (All conds) = false
+is_scored (Score least parts) = true
+
+-- some field is scored
+abbrev pub has_score : Form → Bool
+has_score form = list_any (λ f. is_scored f.show) (fields_of form.steps)

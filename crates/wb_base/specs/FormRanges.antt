@@ -8,6 +8,9 @@ use Rattle.wb_base.specs.declared.form.Field.{Field}
 use Rattle.wb_base.specs.declared.form.FieldKind.{FieldKind}
 use Rattle.wb_base.specs.declared.form.FieldKind.TheVariants.{Text, Choice, Multi, Date, Check, Whole, File}
 use Rattle.wb_base.specs.declared.form.Choice.{Choice as FieldOption}
+use Rattle.wb_base.specs.declared.form.Trigger.{Trigger}
+use Rattle.wb_base.specs.declared.form.Trigger.TheVariants.{Always, Any, All, Score}
+use Rattle.wb_base.specs.declared.form.Part.{Part}
 
 -- a lower-case letter, a digit or `_`
 abbrev pub is_id_byte : ℕ → Bool
@@ -37,8 +40,25 @@ is_kind_in_range Check = true
 is_kind_in_range Whole = true
 is_kind_in_range File = true
 
+-- the points of a part
+abbrev pub are_points : ℕ → Bool
+are_points n = nat_le 1 n && nat_le n 1_000
+
+-- the points that a score wants
+abbrev pub is_least : ℕ → Bool
+is_least n = nat_le 1 n && nat_le n 16_000
+
+abbrev pub is_part_in_range : Part → Bool
+is_part_in_range p = are_points p.points
+
+abbrev pub is_trigger_in_range : Trigger → Bool
+is_trigger_in_range Always = true
+is_trigger_in_range (Any conds) = true
+is_trigger_in_range (All conds) = true
+is_trigger_in_range (Score least parts) = is_least least && list_all is_part_in_range parts
+
 abbrev pub is_field_in_range : Field → Bool
-is_field_in_range f = is_id f.id && is_label f.label && is_kind_in_range f.kind
+is_field_in_range f = is_id f.id && is_label f.label && is_kind_in_range f.kind && is_trigger_in_range f.show
 
 abbrev pub is_step_in_range : Step → Bool
 is_step_in_range s = is_label s.title && list_all is_field_in_range s.fields

@@ -10,10 +10,13 @@ use Rattle.wb_base.specs.declared.form.FieldKind.{FieldKind}
 use Rattle.wb_base.specs.declared.form.FieldKind.TheVariants.{Text as TextKind, Choice as ChoiceKind, Multi as MultiKind, Date, Check, Whole, File}
 use Rattle.wb_base.specs.declared.form.Choice.{Choice as FieldOption}
 use Rattle.wb_base.specs.declared.form.Trigger.{Trigger}
-use Rattle.wb_base.specs.declared.form.Trigger.TheVariants.{Always, Any, All}
+use Rattle.wb_base.specs.declared.form.Trigger.TheVariants.{Always, Any, All, Score}
 use Rattle.wb_base.specs.declared.form.Cond.{Cond}
+use Rattle.wb_base.specs.declared.form.Part.{Part}
+use Rattle.wb_base.specs.declared.form.Format.{Format}
+use Rattle.wb_base.specs.declared.form.Format.TheVariants.{Plain, Weighed}
 use Rattle.wb_base.specs.AnswerList.{is_text}
-use Rattle.wb_base.specs.FormRanges.{is_id, is_label, is_max}
+use Rattle.wb_base.specs.FormRanges.{is_id, is_label, is_max, are_points, is_least}
 
 -- ---- objects of given keys
 
@@ -79,15 +82,62 @@ cond_of d = if size d == 2 then
     option_and_then (λ field. option_map (λ o. record { field = field; option = o })
     (text_at is_any (codes "option") d)) (text_at is_any (codes "field") d) else None
 
--- `{"any": [..]}` or `{"all": [..]}`
-abbrev pub trigger_of : Data → Option Trigger
-trigger_of d = if size d == 1 then
-    (if is_some (get (codes "any") d) then option_map Any (option_and_then (list_of cond_of) (get (codes "any") d))
-    else option_map All (option_and_then (list_of cond_of) (get (codes "all") d))) else None
+-- the number under a key, where it passes
+abbrev pub number_at : (ℕ → Bool) → List ℕ → Data → Option ℕ
+number_at test k d = option_and_then (keep test) (option_and_then as_u64 (option_and_then as_number (get k d)))
+
+-- `{"field", "option", "points"}`
+abbrev pub part_of : Data → Option Part
+part_of d = if size d == 3 then
+    option_and_then (λ field. option_and_then (λ o. option_map (λ points. record { field = field; option = o; points = points })
+    (number_at are_points (codes "points") d)) (text_at is_any (codes "option") d)) (text_at is_any (codes "field") d) else None
+
+-- the list under `parts`
+abbrev pub parts_at : {X : Type 0} → (Data → Option X) → Data → Option (List X)
+parts_at read d = option_and_then (list_of read) (get (codes "parts") d)
+
+-- a score by `least` and `parts`
+abbrev pub score_of : Data → Option Trigger
+score_of d = option_and_then (λ least. option_map (λ parts. Score least parts) (parts_at part_of d)) (number_at is_least (codes "least") d)
+
+-- `{"least", "parts"}`
+abbrev pub plain_score_of : Data → Option Trigger
+plain_score_of d = if size d == 2 then score_of d else None
+
+-- a condition that is told as a part: its point is not looked at
+abbrev pub one_of : Data → Option Cond
+one_of d = option_map (λ p. record { field = p.field; option = p.option }) (part_of d)
+
+abbrev pub cond_by : Format → Data → Option Cond
+cond_by Plain = cond_of
+cond_by Weighed = one_of
+
+-- `{"any": [..]}`, `{"all": [..]}` or `{"score": {..}}`
+abbrev pub plain_trigger_of : Data → Option Trigger
+plain_trigger_of d = if size d == 1 then
+    (if is_some (get (codes "any") d) then option_map Any (option_and_then (list_of (cond_by Plain)) (get (codes "any") d))
+    else if is_some (get (codes "all") d) then option_map All (option_and_then (list_of (cond_by Plain)) (get (codes "all") d))
+    else option_and_then plain_score_of (get (codes "score") d)) else None
+
+-- a trigger by its mode; what any and all of its conditions want is not looked at
+abbrev pub moded : Data → List ℕ → Option Trigger
+moded d mode =
+    if is_text mode (codes "any") then option_map Any (parts_at (cond_by Weighed) d)
+    else if is_text mode (codes "all") then option_map All (parts_at (cond_by Weighed) d)
+    else if is_text mode (codes "score") then score_of d
+    else None
+
+-- `{"least", "mode", "parts"}`
+abbrev pub weighed_trigger_of : Data → Option Trigger
+weighed_trigger_of d = if size d == 3 then option_and_then (moded d) (option_and_then as_str (get (codes "mode") d)) else None
+
+abbrev pub trigger_by : Format → Data → Option Trigger
+trigger_by Plain = plain_trigger_of
+trigger_by Weighed = weighed_trigger_of
 
 -- a field without `show` is always shown
-abbrev pub show_at : Data → Option Trigger
-show_at d = optional Always trigger_of (get (codes "show") d)
+abbrev pub show_at : Format → Data → Option Trigger
+show_at format d = optional Always (trigger_by format) (get (codes "show") d)
 
 abbrev pub max_of : Data → Option ℕ
 max_of d = option_and_then (keep is_max) (option_and_then as_u64 (as_number d))
@@ -124,19 +174,27 @@ kind_of d = option_and_then (kind_named d) (option_and_then as_str (get (codes "
 abbrev pub field_keys : List (List ℕ)
 field_keys = codes "id" ∷ codes "label" ∷ codes "kind" ∷ codes "required" ∷ codes "identity" ∷ codes "max" ∷ codes "options" ∷ codes "show" ∷ []
 
-abbrev pub field_of : Data → Option Field
-field_of d = if has_only field_keys d then
+abbrev pub field_by : Format → Data → Option Field
+field_by format d = if has_only field_keys d then
     option_and_then (λ id. option_and_then (λ label. option_and_then (λ kind. option_and_then (λ required. option_and_then (λ identity. option_map (λ show.
     record { id = id; label = label; kind = kind; required = required; identity = identity; show = show })
-    (show_at d)) (flag_at (codes "identity") d)) (flag_at (codes "required") d)) (kind_of d)) (text_at is_label (codes "label") d)) (text_at is_id (codes "id") d) else None
+    (show_at format d)) (flag_at (codes "identity") d)) (flag_at (codes "required") d)) (kind_of d)) (text_at is_label (codes "label") d)) (text_at is_id (codes "id") d) else None
 
 -- `{"title", "fields"}`
-abbrev pub step_of : Data → Option Step
-step_of d = if size d == 2 then
+abbrev pub step_by : Format → Data → Option Step
+step_by format d = if size d == 2 then
     option_and_then (λ title. option_map (λ fields. record { title = title; fields = fields })
-    (option_and_then (list_of field_of) (get (codes "fields") d))) (text_at is_label (codes "title") d) else None
+    (option_and_then (list_of (field_by format)) (get (codes "fields") d))) (text_at is_label (codes "title") d) else None
 
 -- `{"steps": [..]}`
+abbrev pub form_by : Format → Data → Option Form
+form_by format d = if size d == 1 then
+    option_map (λ steps. record { steps = steps }) (option_and_then (list_of (step_by format)) (get (codes "steps") d)) else None
+
+-- a form as it is sent and shown
 abbrev pub form_of : Data → Option Form
-form_of d = if size d == 1 then
-    option_map (λ steps. record { steps = steps }) (option_and_then (list_of step_of) (get (codes "steps") d)) else None
+form_of = form_by Plain
+
+-- a form as it is kept
+abbrev pub kept_form_of : Data → Option Form
+kept_form_of = form_by Weighed

@@ -1,9 +1,11 @@
 pub mod AnswerList
 pub mod Days
 pub mod DateTexts
+pub mod Calendars
 pub mod Terms
 pub mod Secrets
 pub mod FormFields
+pub mod FormParts
 pub mod FormRanges
 pub mod FormShape
 pub mod FormJson

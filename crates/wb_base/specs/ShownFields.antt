@@ -1,15 +1,14 @@
 -- Which fields of a form are shown for some answers.
-use Rattle.std.specs.Prelude.{ℕ, List, [], ◌∷◌, ◌&&◌, ◌||◌, Bool, true, false, Option, Some, None, slice_index_or}
-use Rattle.std.specs.List.{list_all, list_any}
+use Rattle.std.specs.Prelude.{ℕ, ◌+◌, List, [], ◌∷◌, ◌&&◌, ◌||◌, nat_le, Bool, false, if◌then◌else◌, Option, Some, None, slice_index_or}
+use Rattle.std.specs.List.{list_any}
 use Rattle.wb_base.specs.declared.form.Form.{Form}
 use Rattle.wb_base.specs.declared.form.Field.{Field}
 use Rattle.wb_base.specs.declared.form.Trigger.{Trigger}
-use Rattle.wb_base.specs.declared.form.Trigger.TheVariants.{Always, Any, All}
-use Rattle.wb_base.specs.declared.form.Cond.{Cond}
+use Rattle.wb_base.specs.declared.form.Part.{Part}
 use Rattle.wb_base.specs.declared.answers.Given.{Given}
 use Rattle.wb_base.specs.declared.answers.Given.TheVariants.{Text, List as Texts, Flag, Whole, File}
 use Rattle.wb_base.specs.AnswerList.{Answered, answer_to, is_text}
-use Rattle.wb_base.specs.FormFields.{fields_of, is_field}
+use Rattle.wb_base.specs.FormFields.{fields_of, is_field, parts_of, least_of}
 
 -- what was given for each field id
 abbrev pub Look : Type 0
@@ -24,15 +23,18 @@ holds o (Some (Flag b)) = false
 holds o (Some (Whole z)) = false
 holds o (Some (File name content)) = false
 
--- a condition is met: the field that it names is shown and answered with the option
-abbrev pub is_met : (List ℕ → Bool) → Look → Cond → Bool
-is_met shows look c = shows c.field && holds c.option (look c.field)
+-- a part is met: the field that it names is shown and answered with the option
+abbrev pub is_met : (List ℕ → Bool) → Look → Part → Bool
+is_met shows look p = shows p.field && holds p.option (look p.field)
 
--- a trigger shows its field
+-- the points of the parts that are met
+abbrev pub points_met : (List ℕ → Bool) → Look → List Part → ℕ
+points_met shows look [] = 0
+points_met shows look (p ∷ ps) = (if is_met shows look p then p.points else 0) + points_met shows look ps
+
+-- a trigger shows its field: the points of the parts that are met add up to at least those that it wants
 abbrev pub is_triggered : (List ℕ → Bool) → Look → Trigger → Bool
-is_triggered shows look Always = true
-is_triggered shows look (Any conds) = list_any (is_met shows look) conds
-is_triggered shows look (All conds) = list_all (is_met shows look) conds
+is_triggered shows look t = nat_le (least_of t) (points_met shows look (parts_of t))
 
 -- the field of an id is shown, among fields from the last to the first
 abbrev pub shows : Look → List Field → List ℕ → Bool

@@ -3,6 +3,7 @@
 #![tactic(auto)]
 
 mod answers;
+mod calendar;
 mod callers;
 mod calls;
 mod faults;
@@ -20,12 +21,13 @@ mod text;
 mod words;
 
 pub use answers::{Answers, Given};
+pub use calendar::{Calendar, are_holidays};
 pub use callers::{Presented, Principal, Role};
 pub use calls::Calls;
 pub use faults::{AnswerFault, Failed, FormFault, KeepErr, TextFault};
-pub use form::{Choice, Cond, Field, FieldKind, Form, Step, Trigger};
+pub use form::{Choice, Cond, Field, FieldKind, Form, Format, Part, PartOf, Step, Trigger};
 pub use kind::Kind;
-pub use laws::good_forms;
+pub use laws::{good_forms, points_tell_any_and_all, terms_end_on_the_next_open_day};
 pub use memory_keeper::MemKeeper;
 pub use memory_sink::MemSink;
 pub use memory_source::MemSource;

@@ -112,6 +112,12 @@ impl UserId {
     }
 }
 
+impl TryClone for Day {
+    fn try_clone(&self) -> Result<Day, Memory> {
+        Ok(*self)
+    }
+}
+
 impl TryClone for UserId {
     fn try_clone(&self) -> Result<UserId, Memory> {
         Ok(*self)

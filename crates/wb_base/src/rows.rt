@@ -8,7 +8,7 @@ use wb_list::{Keyed, Memory, TryClone};
 /// The key of a kept row, ordered by its fields.
 #[derive(Clone, Copy, Debug, PartialEq, Eq, PartialOrd, Ord)]
 pub struct Key {
-    /// What the row is about: 1 settings, 2 numbering, 3 user, 4 form, 5 context, 6 trail, 7 sealed answers.
+    /// What the row is about: 0 the format of the rows, 1 settings, 2 numbering, 3 user, 4 form, 5 context, 6 trail, 7 sealed answers.
     pub kind: u8,
     pub tenant: u32,
     /// The id or number within the tenant.

@@ -10,6 +10,6 @@ mod shapes;
 pub use json_values::{BodyNo, read_json};
 pub use sets::{context_set, new_form, settings_set, user_set};
 pub use shapes::{
-    ask, comment, decide, feedback, identity, label, login, new_status, own_comment, share,
+    ask, comment, decide, extend, feedback, identity, label, login, new_status, own_comment, share,
     submission, transfer,
 };

@@ -183,6 +183,7 @@ fn rights_named(names: &[Value]) -> Result<Rights, BodyNo>
     ensures { Gives (with_rights no_rights (items_view names.now)) result }
 {
     let mut may = Rights {
+        delete: false,
         postpone: false,
         share: false,
         transfer: false,

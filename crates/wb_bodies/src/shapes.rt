@@ -158,7 +158,18 @@ pub fn transfer(t: u32, n: u32, value: &Value) -> Result<Command, BodyNo>
     Ok(Command::Transfer { t, n, context })
 }
 
-/// `{"reason"}`.
+/// `{"reason"}`, of an extension.
+pub fn extend(alloc: Global, t: u32, n: u32, value: &Value) -> Result<Command, BodyNo>
+    ensures { Gives (bodies.extend t n (view value.now)) result }
+{
+    if size(value) != 1 {
+        return Err(BodyNo::Other);
+    }
+    let reason = text_under(alloc, value, "reason", 1, 1_024)?;
+    Ok(Command::Extend { t, n, reason })
+}
+
+/// `{"reason"}`, of a request for the identity.
 pub fn ask(alloc: Global, t: u32, n: u32, value: &Value) -> Result<Command, BodyNo>
     ensures { Gives (bodies.ask t n (view value.now)) result }
 {

@@ -1,3 +1,4 @@
 pub mod SummaryLemmas
 pub mod LegalRoom
 pub mod Taken
+pub mod EarlyDays

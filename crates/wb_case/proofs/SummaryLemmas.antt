@@ -9,7 +9,7 @@ use Rattle.wb_model.specs.declared.entry.Deed.TheVariants as deeds
 use Rattle.std.specs.Prelude.{pos, option_map}
 use Rattle.wb_model.specs.declared.entry.Status.TheVariants.{New}
 use Rattle.wb_model.specs.Trails as trails
-use Rattle.wb_model.specs.Trails.{Submission, submission_in, status_in, context_in, acknowledged_in, feedback_due_in, expires_in, label_in, last_said, feedback_given, is_feedback, has_identity, is_marked, readers_by, is_postponement, postponements, remark_places, dialogue_places}
+use Rattle.wb_model.specs.Trails.{Submission, submission_in, status_in, context_in, acknowledged_in, extension_in, feedback_due_in, expires_in, label_in, last_said, feedback_given, is_feedback, has_identity, is_marked, readers_by, is_postponement, postponements, remark_places, dialogue_places}
 use Rattle.wb_case.specs.declared.summary.Summary.{Summary}
 use Rattle.wb_case.specs.Summaries.{IsSummary, IsAfter, label_at, labelled_after, postponing}
 
@@ -66,6 +66,7 @@ summary-after old new trail e n h more = record {
   received = said (λ deed. option_map (λ (x : Submission). x.received) (submission_in deed)) (pos 0) trail e old.received new.received h.received n.received;
   ack_due = said (λ deed. option_map (λ (x : Submission). x.ack_due) (submission_in deed)) (pos 0) trail e old.ack_due new.ack_due h.ack_due n.ack_due;
   acknowledged = said acknowledged_in None trail e old.acknowledged new.acknowledged h.acknowledged n.acknowledged;
+  extension = said extension_in None trail e old.extension new.extension h.extension n.extension;
   feedback_due = said feedback_due_in (pos 0) trail e old.feedback_due new.feedback_due h.feedback_due n.feedback_due;
   feedback_given = n.feedback_given ∙ ap (λ b. b || is_feedback e.deed) h.feedback_given ∙ any-more is_feedback trail e;
   expires = said expires_in (pos 0) trail e old.expires new.expires h.expires n.expires;

@@ -5,7 +5,7 @@ use Rattle.wb_model.specs.declared.entry.Entry.{Entry}
 use Rattle.wb_model.specs.declared.entry.Deed.{Deed}
 use Rattle.wb_model.specs.declared.entry.Deed.TheVariants as deeds
 use Rattle.wb_model.specs.Trails as trails
-use Rattle.wb_model.specs.Trails.{Submission, submission_in, status_in, context_in, acknowledged_in, feedback_due_in, expires_in, is_feedback, is_marked, label_in, readers_by, remark_places}
+use Rattle.wb_model.specs.Trails.{Submission, submission_in, status_in, context_in, acknowledged_in, extension_in, feedback_due_in, expires_in, is_feedback, is_marked, label_in, readers_by, remark_places}
 use Rattle.wb_case.specs.declared.summary.Summary.{Summary}
 
 -- the label that the entry at a place has, or none
@@ -21,6 +21,7 @@ pub record IsSummary (s : Summary) (trail : List Entry) : Type 0 where
   pub received : s.received ≡ trails.received trail
   pub ack_due : s.ack_due ≡ trails.ack_due trail
   pub acknowledged : s.acknowledged ≡ trails.acknowledged trail
+  pub extension : s.extension ≡ trails.extension trail
   pub feedback_due : s.feedback_due ≡ trails.feedback_due trail
   pub feedback_given : s.feedback_given ≡ trails.feedback_given trail
   pub expires : s.expires ≡ trails.expires trail
@@ -56,6 +57,7 @@ pub record IsAfter (old new : Summary) (at : ℕ) (e : Entry) : Type 0 where
   pub received : new.received ≡ unwrap_or (option_map (λ (x : Submission). x.received) (submission_in e.deed)) old.received
   pub ack_due : new.ack_due ≡ unwrap_or (option_map (λ (x : Submission). x.ack_due) (submission_in e.deed)) old.ack_due
   pub acknowledged : new.acknowledged ≡ unwrap_or (acknowledged_in e.deed) old.acknowledged
+  pub extension : new.extension ≡ unwrap_or (extension_in e.deed) old.extension
   pub feedback_due : new.feedback_due ≡ unwrap_or (feedback_due_in e.deed) old.feedback_due
   pub feedback_given : new.feedback_given ≡ (old.feedback_given || is_feedback e.deed)
   pub expires : new.expires ≡ unwrap_or (expires_in e.deed) old.expires

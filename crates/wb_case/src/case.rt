@@ -1,7 +1,7 @@
 //! A report.
-ghost use Rattle.std.specs.Prelude.{◌≡◌, ◌+◌, ◌<◌, ◌≤◌, ◌++◌, ◌∷◌, [], OnOk, IfOk, IfErr, ℕ, ℤ, true};
+ghost use Rattle.std.specs.Prelude.{◌≡◌, ◌+◌, ◌<◌, ◌≤◌, ◌++◌, ◌∷◌, [], OnOk, IfOk, IfErr, ℕ, true};
 ghost use Rattle.wb_model.specs.Trails.{label as label_by};
-ghost use Rattle.wb_model.specs.Legal.{is_legal, is_next, last_at};
+ghost use Rattle.wb_model.specs.Legal.{Reckoning, is_legal, is_next, last_at};
 ghost use Rattle.wb_model.specs.declared.act.CaseFault.TheVariants as faults;
 ghost use Rattle.wb_case.specs.Summaries.{IsSummary, needed_by};
 
@@ -132,7 +132,7 @@ impl Case {
         requires few { needed_by entry.deed ≤ 32 }
         requires room { 0 < self.old.spare }
         ensures items { self.new.items ≡ self.old.items ++ entry ∷ [] }
-        ensures legal { (offset : ℤ) → is_legal offset self.old.items ≡ true → is_next offset (last_at 0 self.old.items) self.old.items entry ≡ true → is_legal offset self.new.items ≡ true }
+        ensures legal { (days : Reckoning) → is_legal days self.old.items ≡ true → is_next days (last_at 0 self.old.items) self.old.items entry ≡ true → is_legal days self.new.items ≡ true }
         ensures room { self.old.spare ≤ self.new.spare + 1 }
     {
         a_dialogue_stands_at_its_places();

@@ -1,7 +1,7 @@
 //! What one deed says of its report.
 ghost use Rattle.std.specs.Prelude.{◌≡◌, is_some};
 ghost use Rattle.std.specs.Option.{option_map};
-ghost use Rattle.wb_model.specs.Trails.{status_in, context_in, acknowledged_in, feedback_due_in, expires_in, submission_in, is_feedback, is_marked, remark_of, Submission};
+ghost use Rattle.wb_model.specs.Trails.{status_in, context_in, acknowledged_in, extension_in, feedback_due_in, expires_in, submission_in, is_feedback, is_marked, remark_of, Submission};
 ghost use Rattle.wb_case.specs.Summaries.{needed_by, postponing, labelled_after as labelled_after_by};
 
 use wb_base::Day;
@@ -57,14 +57,24 @@ pub(crate) fn acknowledged_of(deed: &Deed) -> Option<Option<Day>>
     }
 }
 
+/// The feedback day of an extension.
+pub(crate) fn extension_of(deed: &Deed) -> Option<Option<Day>>
+    ensures { result ≡ extension_in deed.now }
+{
+    match deed {
+        Deed::Extended { feedback_due, .. } => Some(Some(*feedback_due)),
+        _ => None,
+    }
+}
+
 /// The last day for feedback.
 pub(crate) fn feedback_due_of(deed: &Deed) -> Option<Day>
     ensures { result ≡ feedback_due_in deed.now }
 {
     match deed {
-        Deed::Submitted { feedback_due, .. } | Deed::Acknowledged { feedback_due, .. } => {
-            Some(*feedback_due)
-        }
+        Deed::Submitted { feedback_due, .. }
+        | Deed::Acknowledged { feedback_due, .. }
+        | Deed::Extended { feedback_due, .. } => Some(*feedback_due),
         _ => None,
     }
 }
@@ -136,7 +146,10 @@ pub(crate) fn is_remark(entry: &Entry) -> bool
     ensures { result ≡ is_some (remark_of entry.now) }
 {
     match &entry.deed {
-        Deed::Comment { .. } | Deed::Acknowledged { .. } | Deed::Feedback { .. } => true,
+        Deed::Comment { .. }
+        | Deed::Acknowledged { .. }
+        | Deed::Feedback { .. }
+        | Deed::Extended { .. } => true,
         Deed::Granted { withheld, .. } => withheld.is_none(),
         _ => false,
     }

@@ -11,7 +11,7 @@ mod summary;
 mod terms;
 
 pub use case::Case;
-pub use laws::a_legal_entry_names_few_readers;
+pub use laws::{a_legal_entry_names_few_readers, a_legal_trail_has_early_days};
 pub use readers::Readers;
 pub use summary::Summary;
 pub use terms::Terms;

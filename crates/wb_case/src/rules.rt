@@ -34,6 +34,17 @@ fn context_closed(is_open: bool) -> Option<CaseFault>
     }
 }
 
+// The tenant is no external channel.
+fn not_external(external: bool) -> Option<CaseFault>
+    ensures { result ≡ acts.not_external external }
+{
+    if external {
+        None
+    } else {
+        Some(CaseFault::NotExternal)
+    }
+}
+
 impl Case {
     // The report is closed.
     fn closed(&self) -> Option<CaseFault>
@@ -62,6 +73,16 @@ impl Case {
         ensures { result ≡ acts.acknowledged self.now.items }
     {
         match self.summary().acknowledged {
+            Some(day) => Some(CaseFault::Already(Was::Day(day))),
+            None => None,
+        }
+    }
+
+    // The time for feedback was extended.
+    fn extended(&self) -> Option<CaseFault>
+        ensures { result ≡ acts.extended self.now.items }
+    {
+        match self.summary().extension {
             Some(day) => Some(CaseFault::Already(Was::Day(day))),
             None => None,
         }
@@ -154,7 +175,15 @@ impl Case {
                 ..
             } => first(self.closed(), self.transfer(*context, *is_open)),
             Act::Postpone { .. } => first(self.postpone_spent(), self.full()),
+            Act::Extend { external, .. } => first(self.closed(), self.extension(*external)),
         }
+    }
+
+    // What refuses an extension of a report that is not closed.
+    fn extension(&self, external: bool) -> Option<CaseFault>
+        ensures { result ≡ option_or (acts.not_external external) (option_or (acts.extended self.now.items) (acts.full self.now.items)) }
+    {
+        first(not_external(external), first(self.extended(), self.full()))
     }
 
     // What refuses a transfer of a report that is not closed.

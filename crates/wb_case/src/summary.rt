@@ -5,8 +5,9 @@ ghost use Rattle.wb_case.specs.Summaries.{IsSummary, IsAfter, needed_by};
 
 use crate::Readers;
 use crate::deeds::{
-    ack_due_of, acknowledged_of, context_of, expires_of, feedback_due_of, gives_feedback,
-    gives_identity, is_remark, labelled_after, needs, postpones, received_of, status_of,
+    ack_due_of, acknowledged_of, context_of, expires_of, extension_of, feedback_due_of,
+    gives_feedback, gives_identity, is_remark, labelled_after, needs, postpones, received_of,
+    status_of,
 };
 use std::alloc::Global;
 use wb_base::{Day, Memory};
@@ -25,6 +26,8 @@ pub struct Summary {
     /// The last day for the acknowledgement (Directive (EU) 2019/1937, Article 9(1)(b)).
     pub ack_due: Day,
     pub acknowledged: Option<Day>,
+    /// The feedback day of the extension, where there was one (Directive (EU) 2019/1937, Article 11(2)(d)).
+    pub extension: Option<Day>,
     /// The last day for feedback (Directive (EU) 2019/1937, Article 9(1)(f)).
     pub feedback_due: Day,
     pub feedback_given: bool,
@@ -51,6 +54,7 @@ impl Summary {
             received: first,
             ack_due: first,
             acknowledged: None,
+            extension: None,
             feedback_due: first,
             feedback_given: false,
             expires: first,
@@ -120,6 +124,7 @@ impl Summary {
         self.received = received_of(deed).unwrap_or(self.received);
         self.ack_due = ack_due_of(deed).unwrap_or(self.ack_due);
         self.acknowledged = acknowledged_of(deed).unwrap_or(self.acknowledged);
+        self.extension = extension_of(deed).unwrap_or(self.extension);
         self.feedback_due = feedback_due_of(deed).unwrap_or(self.feedback_due);
         self.feedback_given = self.feedback_given || gives_feedback(deed);
         self.expires = expires_of(deed).unwrap_or(self.expires);

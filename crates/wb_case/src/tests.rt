@@ -5,7 +5,7 @@ use super::*;
 use std::alloc::Global;
 use std::process::Abort;
 use std::test::Fail;
-use wb_base::{Answers, Day, Digest, Moment, Number, Tenant, Text, UserId};
+use wb_base::{Answers, Calendar, Day, Digest, Moment, Number, Tenant, Text, UserId};
 use wb_list::Items;
 use wb_model::{Act, Actor, CaseFault, Deed, Entry, Status, Trail, Was};
 use wb_terms::{ack_due, expiry, feedback_due, read_date};
@@ -35,15 +35,16 @@ fn users(rt: &impl Abort, alloc: Global, ids: &[u16]) -> Result<Items<UserId>, F
 // The submission of a report of context 1 on a day, kept for 90 days.
 fn submission(rt: &impl Abort, alloc: Global, text: &str, ids: &[u16]) -> Result<Entry, Fail> {
     let received = early(rt, text);
+    let plain = Calendar::plain(alloc);
     Ok(Entry {
         at: Moment::try_new(0).expect(rt, "a moment"),
         by: Actor::Reporter,
         deed: Deed::Submitted {
-            ack_due: ack_due(received),
+            ack_due: ack_due(received, &plain),
             answers: Answers::new(alloc),
             context: 1,
             expires: expiry(received, 90),
-            feedback_due: feedback_due(received, None),
+            feedback_due: feedback_due(received, None, false, &plain),
             form: 1,
             mark: false,
             readers: users(rt, alloc, ids)?,
@@ -62,11 +63,11 @@ fn report(rt: &impl Abort, alloc: Global, text: &str, ids: &[u16]) -> Result<Cas
 }
 
 // User 1 does this on the report, and it is refused with this or done.
-fn does(rt: &impl Abort, case: &mut Case, act: Act, told: Option<CaseFault>)
-    requires { IsInRange act }
+fn does(rt: &impl Abort, alloc: Global, case: &mut Case, act: Act, told: Option<CaseFault>)
+    requires { IsInRange case.old.items act }
 {
     let at = Moment::try_new(0).expect(rt, "a moment");
-    match case.plan(at, Actor::User(user(rt, 1)), act) {
+    match case.plan(at, Actor::User(user(rt, 1)), act, &Calendar::plain(alloc)) {
         Ok(entry) => {
             case.take(entry);
             assert!(rt; told.is_none());
@@ -87,11 +88,12 @@ fn feedback_is_due_three_months_after_the_acknowledgement(rt: HostRuntime) -> Re
     for (received, day, due) in rows {
         let mut case = report(&rt, rt.alloc(), received, &[1])?;
         let today = early(&rt, day);
-        does(&rt, &mut case, Act::Acknowledge { today }, None);
+        does(&rt, rt.alloc(), &mut case, Act::Acknowledge { today }, None);
         assert_eq!(rt; case.summary().acknowledged, Some(today));
         assert_eq!(rt; case.summary().feedback_due, early(&rt, due));
         does(
             &rt,
+            rt.alloc(),
             &mut case,
             Act::Acknowledge { today },
             Some(CaseFault::Already(Was::Day(today))),
@@ -109,17 +111,25 @@ fn a_closed_report_refuses_what_goes_on_with_it(rt: HostRuntime) -> Result<(), F
     let tenant = Tenant::try_new(1).expect(&rt, "a tenant");
     let number = Number::try_new(1).expect(&rt, "a number");
     assert!(rt; case.terms(tenant, number).ack.is_some());
-    does(&rt, &mut case, Act::SetStatus(Status::Closed), None);
+    does(
+        &rt,
+        rt.alloc(),
+        &mut case,
+        Act::SetStatus(Status::Closed),
+        None,
+    );
     assert!(rt; case.terms(tenant, number).ack.is_none());
     assert!(rt; case.terms(tenant, number).feedback.is_none());
     does(
         &rt,
+        rt.alloc(),
         &mut case,
         Act::SetStatus(Status::Closed),
         Some(CaseFault::Already(Was::Status(Status::Closed))),
     );
     does(
         &rt,
+        rt.alloc(),
         &mut case,
         Act::Comment {
             internal: true,
@@ -129,33 +139,43 @@ fn a_closed_report_refuses_what_goes_on_with_it(rt: HostRuntime) -> Result<(), F
     );
     does(
         &rt,
+        rt.alloc(),
         &mut case,
         Act::Acknowledge { today },
         Some(CaseFault::Closed),
     );
     does(
         &rt,
+        rt.alloc(),
         &mut case,
         Act::Feedback(Text::empty(alloc)),
         Some(CaseFault::Closed),
     );
-    does(&rt, &mut case, Act::Identity, Some(CaseFault::Closed));
+    does(
+        &rt,
+        rt.alloc(),
+        &mut case,
+        Act::Identity,
+        Some(CaseFault::Closed),
+    );
     let away = Act::Transfer {
         context: 1,
         is_open: false,
         readers: Items::new(alloc),
     };
-    does(&rt, &mut case, away, Some(CaseFault::Closed));
+    does(&rt, rt.alloc(), &mut case, away, Some(CaseFault::Closed));
     does(
         &rt,
+        rt.alloc(),
         &mut case,
         Act::Label(Text::from_str(alloc, "done")?),
         None,
     );
-    does(&rt, &mut case, Act::Share(user(&rt, 2)), None);
-    does(&rt, &mut case, Act::Unshare(user(&rt, 1)), None);
+    does(&rt, rt.alloc(), &mut case, Act::Share(user(&rt, 2)), None);
+    does(&rt, rt.alloc(), &mut case, Act::Unshare(user(&rt, 1)), None);
     does(
         &rt,
+        rt.alloc(),
         &mut case,
         Act::Postpone {
             today,
@@ -163,7 +183,13 @@ fn a_closed_report_refuses_what_goes_on_with_it(rt: HostRuntime) -> Result<(), F
         },
         None,
     );
-    does(&rt, &mut case, Act::SetStatus(Status::Opened), None);
+    does(
+        &rt,
+        rt.alloc(),
+        &mut case,
+        Act::SetStatus(Status::Opened),
+        None,
+    );
     assert_eq!(rt; case.label(), "done");
     assert_eq!(rt; case.trail().len(), 7);
     Ok(())
@@ -174,36 +200,47 @@ fn a_full_trail_takes_the_removal_of_a_reader_alone(rt: HostRuntime) -> Result<(
     let alloc = rt.alloc();
     let mut case = report(&rt, alloc, "2025-01-01", &[1, 2])?;
     for _ in 1..4_096 {
-        does(&rt, &mut case, Act::Label(Text::empty(alloc)), None);
+        does(
+            &rt,
+            rt.alloc(),
+            &mut case,
+            Act::Label(Text::empty(alloc)),
+            None,
+        );
     }
     does(
         &rt,
+        rt.alloc(),
         &mut case,
         Act::Label(Text::empty(alloc)),
         Some(CaseFault::TrailFull),
     );
     does(
         &rt,
+        rt.alloc(),
         &mut case,
         Act::Share(user(&rt, 3)),
         Some(CaseFault::TrailFull),
     );
     does(
         &rt,
+        rt.alloc(),
         &mut case,
         Act::Share(user(&rt, 2)),
         Some(CaseFault::Already(Was::User(user(&rt, 2)))),
     );
-    does(&rt, &mut case, Act::Unshare(user(&rt, 2)), None);
+    does(&rt, rt.alloc(), &mut case, Act::Unshare(user(&rt, 2)), None);
     assert_eq!(rt; case.trail().len(), 4_097);
     does(
         &rt,
+        rt.alloc(),
         &mut case,
         Act::Unshare(user(&rt, 2)),
         Some(CaseFault::NotReader),
     );
     does(
         &rt,
+        rt.alloc(),
         &mut case,
         Act::Unshare(user(&rt, 1)),
         Some(CaseFault::LastReader),
@@ -217,6 +254,7 @@ fn a_report_is_postponed_ten_times_and_never_shortened(rt: HostRuntime) -> Resul
     let today = early(&rt, "2025-01-02");
     does(
         &rt,
+        rt.alloc(),
         &mut case,
         Act::Postpone {
             today,
@@ -228,6 +266,7 @@ fn a_report_is_postponed_ten_times_and_never_shortened(rt: HostRuntime) -> Resul
     for _ in 0..9 {
         does(
             &rt,
+            rt.alloc(),
             &mut case,
             Act::Postpone {
                 today,
@@ -239,6 +278,7 @@ fn a_report_is_postponed_ten_times_and_never_shortened(rt: HostRuntime) -> Resul
     assert_eq!(rt; case.summary().expires, early(&rt, "2025-04-02"));
     does(
         &rt,
+        rt.alloc(),
         &mut case,
         Act::Postpone {
             today,
@@ -272,7 +312,7 @@ fn a_transfer_goes_to_an_open_context_and_changes_the_readers(rt: HostRuntime) -
             is_open,
             readers,
         };
-        does(&rt, &mut case, act, told);
+        does(&rt, rt.alloc(), &mut case, act, told);
         assert!(rt;
             case.summary()
                 .readers

@@ -17,7 +17,7 @@ use Rattle.wb_model.specs.Refusing.{refuses_where}
 use Rattle.wb_model.specs.declared.act.CustodyFault.TheVariants as faults
 use Rattle.wb_model.specs.Faults.{custody_told}
 use Rattle.wb_model.specs.Trails.{has_identity}
-use Rattle.wb_model.specs.Legal.{is_legal, is_next, is_first, legal_from, right_actor, right_values, is_free, done}
+use Rattle.wb_model.specs.Legal.{Reckoning, is_legal, is_next, is_first, legal_from, right_actor, right_values, is_free, done}
 use Rattle.wb_custody.specs.Desks.{have_right_actors}
 use Rattle.wb_custody.proofs.RequestLists.{same_count}
 
@@ -67,54 +67,54 @@ not-full None None n d e = by (nat_le 100 n) refl e
     by true is f = absurd (grind (arith, f))
     by false is f = grind (arith, nat_tests, is)
 
-few-after : (offset : ℤ) (time : ℕ) (before : List Entry) (at : ℕ) (by : Actor) (d : Deed) → is_next offset time before (record { at = at; by = by; deed = d }) ≡ true → length (requests before) ≤ 100 → length (requests_by (requests before) (record { at = at; by = by; deed = d })) ≤ 100
-few-after offset time before at by (deeds.Asked reason stamp) h few =
-    let free = fourth (nat_le time at) (right_actor (deeds.Asked reason stamp) by) (right_values offset before at (deeds.Asked reason stamp)) (is_free before (user_by by) (done before (deeds.Asked reason stamp))) h in
+few-after : (days : Reckoning) (time : ℕ) (before : List Entry) (at : ℕ) (by : Actor) (d : Deed) → is_next days time before (record { at = at; by = by; deed = d }) ≡ true → length (requests before) ≤ 100 → length (requests_by (requests before) (record { at = at; by = by; deed = d })) ≤ 100
+few-after days time before at by (deeds.Asked reason stamp) h few =
+    let free = fourth (nat_le time at) (right_actor (deeds.Asked reason stamp) by) (right_values days before at (deeds.Asked reason stamp)) (is_free before (user_by by) (done before (deeds.Asked reason stamp))) h in
     let less = not-full (refuses_where (not (has_identity before)) faults.NoIdentity) (pending (user_by by) stamp (requests before)) (length (requests before)) (full (length before)) free in
     let more = one-more (requests before) (record { by = user_by by; reason = reason; stamp = stamp; state = Waiting; effective = None }) in
     omega (arith, less, more)
-few-after offset time before at by (deeds.Granted effective reason request withheld) h few = settled (λ r. record r { state = Granted; effective = Some effective }) request (requests before) few
-few-after offset time before at by (deeds.Denied reason request) h few = settled (λ r. record r { state = Denied }) request (requests before) few
-few-after offset time before at by (deeds.Revoked reason request) h few = settled (λ r. record r { state = Revoked }) request (requests before) few
-few-after offset time before at by (deeds.Transferred context readers) h few = at-most (mapped ended (requests before)) few
-few-after offset time before at by (deeds.Unshared user) h few = at-most (mapped (ended_of user) (requests before)) few
-few-after offset time before at by deeds.Identity h few = few
-few-after offset time before at by d h few = few
+few-after days time before at by (deeds.Granted effective reason request withheld) h few = settled (λ r. record r { state = Granted; effective = Some effective }) request (requests before) few
+few-after days time before at by (deeds.Denied reason request) h few = settled (λ r. record r { state = Denied }) request (requests before) few
+few-after days time before at by (deeds.Revoked reason request) h few = settled (λ r. record r { state = Revoked }) request (requests before) few
+few-after days time before at by (deeds.Transferred context readers) h few = at-most (mapped ended (requests before)) few
+few-after days time before at by (deeds.Unshared user) h few = at-most (mapped (ended_of user) (requests before)) few
+few-after days time before at by deeds.Identity h few = few
+few-after days time before at by d h few = few
 
-few-from : (offset : ℤ) (time : ℕ) (before es : List Entry) → legal_from offset time before es ≡ true → length (requests before) ≤ 100 → length (requests (before ++ es)) ≤ 100
-few-from offset time before [] h few = at-most (ap (λ es. length (requests es)) (append-nil before)) few
-few-from offset time before (e ∷ es) h few =
-    let next = left (is_next offset time before e) (legal_from offset e.at (before ++ e ∷ []) es) h in
-    let rest = right (is_next offset time before e) (legal_from offset e.at (before ++ e ∷ []) es) h in
-    let step = at-most (ap length (requests-more before e)) (few-after offset time before e.at e.by e.deed next few) in
-    at-most (ap (λ xs. length (requests xs)) (sym (append_assoc before (e ∷ []) es))) (few-from offset e.at (before ++ e ∷ []) es rest step)
+few-from : (days : Reckoning) (time : ℕ) (before es : List Entry) → legal_from days time before es ≡ true → length (requests before) ≤ 100 → length (requests (before ++ es)) ≤ 100
+few-from days time before [] h few = at-most (ap (λ es. length (requests es)) (append-nil before)) few
+few-from days time before (e ∷ es) h few =
+    let next = left (is_next days time before e) (legal_from days e.at (before ++ e ∷ []) es) h in
+    let rest = right (is_next days time before e) (legal_from days e.at (before ++ e ∷ []) es) h in
+    let step = at-most (ap length (requests-more before e)) (few-after days time before e.at e.by e.deed next few) in
+    at-most (ap (λ xs. length (requests xs)) (sym (append_assoc before (e ∷ []) es))) (few-from days e.at (before ++ e ∷ []) es rest step)
 
-none-first : (offset : ℤ) (at : ℕ) (by : Actor) (d : Deed) → is_first offset (record { at = at; by = by; deed = d }) ≡ true → length (requests (record { at = at; by = by; deed = d } ∷ [])) ≤ 100
-none-first offset at by (deeds.Asked reason stamp) h = omega arith
-none-first offset at by deeds.Identity h = omega arith
-none-first offset at by d h = omega arith
+none-first : (days : Reckoning) (at : ℕ) (by : Actor) (d : Deed) → is_first days (record { at = at; by = by; deed = d }) ≡ true → length (requests (record { at = at; by = by; deed = d } ∷ [])) ≤ 100
+none-first days at by (deeds.Asked reason stamp) h = omega arith
+none-first days at by deeds.Identity h = omega arith
+none-first days at by d h = omega arith
 
-pub legal-few : (offset : ℤ) (trail : List Entry) → is_legal offset trail ≡ true → length (requests trail) ≤ 100
-legal-few offset [] h = absurd (grind (arith, h))
-legal-few offset (e ∷ es) h =
-    few-from offset e.at (e ∷ []) es (right (is_first offset e) (legal_from offset e.at (e ∷ []) es) h)
-    (none-first offset e.at e.by e.deed (left (is_first offset e) (legal_from offset e.at (e ∷ []) es) h))
+pub legal-few : (days : Reckoning) (trail : List Entry) → is_legal days trail ≡ true → length (requests trail) ≤ 100
+legal-few days [] h = absurd (grind (arith, h))
+legal-few days (e ∷ es) h =
+    few-from days e.at (e ∷ []) es (right (is_first days e) (legal_from days e.at (e ∷ []) es) h)
+    (none-first days e.at e.by e.deed (left (is_first days e) (legal_from days e.at (e ∷ []) es) h))
 
 -- ---- by whom its entries are
 
-pub legal-actor : (offset : ℤ) (time : ℕ) (trail : List Entry) (e : Entry) → is_next offset time trail e ≡ true → right_actor e.deed e.by ≡ true
-legal-actor offset time trail e h = second (nat_le time e.at) (right_actor e.deed e.by) (right_values offset trail e.at e.deed) (is_free trail (user_by e.by) (done trail e.deed)) h
+pub legal-actor : (days : Reckoning) (time : ℕ) (trail : List Entry) (e : Entry) → is_next days time trail e ≡ true → right_actor e.deed e.by ≡ true
+legal-actor days time trail e h = second (nat_le time e.at) (right_actor e.deed e.by) (right_values days trail e.at e.deed) (is_free trail (user_by e.by) (done trail e.deed)) h
 
-actors-from : (offset : ℤ) (time : ℕ) (before es : List Entry) → legal_from offset time before es ≡ true → have_right_actors es ≡ true
-actors-from offset time before [] h = refl
-actors-from offset time before (e ∷ es) h =
+actors-from : (days : Reckoning) (time : ℕ) (before es : List Entry) → legal_from days time before es ≡ true → have_right_actors es ≡ true
+actors-from days time before [] h = refl
+actors-from days time before (e ∷ es) h =
     both (right_actor e.deed e.by) (have_right_actors es)
-    (legal-actor offset time before e (left (is_next offset time before e) (legal_from offset e.at (before ++ e ∷ []) es) h))
-    (actors-from offset e.at (before ++ e ∷ []) es (right (is_next offset time before e) (legal_from offset e.at (before ++ e ∷ []) es) h))
+    (legal-actor days time before e (left (is_next days time before e) (legal_from days e.at (before ++ e ∷ []) es) h))
+    (actors-from days e.at (before ++ e ∷ []) es (right (is_next days time before e) (legal_from days e.at (before ++ e ∷ []) es) h))
 
-pub legal-actors : (offset : ℤ) (trail : List Entry) → is_legal offset trail ≡ true → have_right_actors trail ≡ true
-legal-actors offset [] h = absurd (grind (arith, h))
-legal-actors offset (e ∷ es) h =
+pub legal-actors : (days : Reckoning) (trail : List Entry) → is_legal days trail ≡ true → have_right_actors trail ≡ true
+legal-actors days [] h = absurd (grind (arith, h))
+legal-actors days (e ∷ es) h =
     both (right_actor e.deed e.by) (have_right_actors es)
-    (middle _ (right_actor e.deed e.by) (right_values offset [] e.at e.deed) (left (is_first offset e) (legal_from offset e.at (e ∷ []) es) h))
-    (actors-from offset e.at (e ∷ []) es (right (is_first offset e) (legal_from offset e.at (e ∷ []) es) h))
+    (middle _ (right_actor e.deed e.by) (right_values days [] e.at e.deed) (left (is_first days e) (legal_from days e.at (e ∷ []) es) h))
+    (actors-from days e.at (e ∷ []) es (right (is_first days e) (legal_from days e.at (e ∷ []) es) h))

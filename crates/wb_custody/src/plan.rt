@@ -5,7 +5,7 @@ ghost use Rattle.wb_model.specs.Access.{requests as requests_of};
 ghost use Rattle.wb_model.specs.Trails.{has_identity};
 ghost use Rattle.wb_model.specs.Moves as moves;
 ghost use Rattle.wb_model.specs.Doings.{Moves};
-ghost use Rattle.wb_model.specs.Legal.{is_next, last_at, is_reporter, right_actor, AsksRightly};
+ghost use Rattle.wb_model.specs.Legal.{Reckoning, is_next, last_at, is_reporter, right_actor, AsksRightly};
 ghost use Rattle.wb_custody.specs.Desks.{HasRoom};
 ghost use Rattle.wb_custody.specs.Plans.{IsPlanned, GivesPlan};
 
@@ -107,7 +107,7 @@ impl AccessDesk {
         ensures items { self.new.items ≡ self.old.items }
         ensures room { IfOk result (λ entry. HasRoom self.new entry.deed) }
         ensures actor { IfOk result (λ entry. right_actor entry.deed entry.by ≡ true) }
-        ensures legal { IfOk result (λ entry. (offset : ℤ) (before : List EntryData) → requests_of before ≡ self.old.items → length before ≡ trail → has_identity before ≡ mark → AsksRightly offset at by (Moves move_) → last_at 0 before ≤ at → is_next offset (last_at 0 before) before entry ≡ true) }
+        ensures legal { IfOk result (λ entry. (days : Reckoning) (before : List EntryData) → requests_of before ≡ self.old.items → length before ≡ trail → has_identity before ≡ mark → AsksRightly days at by (Moves move_) → last_at 0 before ≤ at → is_next days (last_at 0 before) before entry ≡ true) }
     {
         what_is_not_refused_is_legal();
         match self.judge(trail, mark, at, by, move_) {

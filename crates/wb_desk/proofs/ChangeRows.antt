@@ -7,7 +7,7 @@ use Rattle.std.proofs.lemmas.Bool.Decides.{nat_tests}
 use Rattle.wb_base.specs.AnswerList.{Answered}
 use Rattle.wb_base.specs.KeptRows.{all_changed, IsGoodChange}
 use Rattle.wb_base.specs.declared.rows.Row.{Row}
-use Rattle.wb_base.specs.declared.rows.Change.TheVariants.{Put}
+use Rattle.wb_base.specs.declared.rows.Change.TheVariants.{Put, DropReport}
 use Rattle.wb_model.specs.declared.entry.Entry.{Entry}
 use Rattle.wb_model.specs.declared.setting.AdminFault.{AdminFault}
 use Rattle.wb_model.specs.declared.setting.AdminFault.TheVariants.{Full}
@@ -15,10 +15,11 @@ use Rattle.wb_model.specs.Host.{changed, drawn}
 use Rattle.wb_model.specs.Json.{answers_data}
 use Rattle.wb_model.specs.Opened.{Ascend, AtMost, AreVersions, Apart}
 use Rattle.wb_model.specs.Refusing.{refuses_where}
-use Rattle.wb_model.specs.Rows.{row, rows_of, of_tenants, of_kinds, kinds, numbering_data, entry_data}
+use Rattle.wb_model.specs.Rows.{row, format_row, rows_of, of_tenants, of_kinds, kinds, numbering_data, entry_data}
 use Rattle.wb_model.specs.Settings.{next_version}
 use Rattle.wb_model.specs.Tables.{Registry, Case, has_number, is_live, is_there, report}
 use Rattle.wb_model.specs.Tenants.{Tenancy}
+use Rattle.wb_model.proofs.DeletedRows.{deleted_rows}
 use Rattle.wb_model.proofs.Found.{Held}
 use Rattle.wb_model.proofs.KindRows.{texts, opened_puts}
 use Rattle.wb_model.proofs.PastLaw.{there_before}
@@ -29,6 +30,7 @@ use Rattle.wb_plan.specs.Plans.{IsFit, IsRoomy, begins, change_of, given_of}
 use Rattle.wb_rows.specs.Puts.{sealed_put, setting_row, IsVersion}
 use Rattle.wb_rows.proofs.ConfiguredRows.{configured_rows}
 use Rattle.wb_rows.proofs.NotedRows.{noted_rows}
+use Rattle.wb_rows.proofs.PutsBehind.{sealed_behind, setting_behind, lifted}
 use Rattle.wb_rows.proofs.RowPuts.{AreSame}
 use Rattle.wb_tables.specs.Configured.{fault_of, row_of, setting_of}
 use Rattle.wb_tables.specs.Kept.{PlainTenancy, place_of, live_place}
@@ -45,10 +47,7 @@ use Rattle.wb_desk.proofs.Rooms.{live_report}
 abbrev pub IsPuttable : PlainTenancy → Planned → Type 0
 IsPuttable x (planned.Notes n) = is_there n.number x.plain.cases ≡ true
 IsPuttable x (planned.Configures c) = (c.row ≡ setting_row x.id x.plain.registry (setting_of x.id x.plain.registry c.proposal)) × IsVersion (setting_of x.id x.plain.registry c.proposal)
-IsPuttable x planned.Nothing = Unit {0}
-IsPuttable x (planned.Begins o) = Unit {0}
-IsPuttable x (planned.LogsIn login) = Unit {0}
-IsPuttable x (planned.LogsOut turn who) = Unit {0}
+IsPuttable x _ = Unit {0}
 
 setting_is : (t : ℕ) (g : Registry) (p : Proposal) → row_of t g p ≡ setting_row t g (setting_of t g p)
 setting_is t g (proposals.ToTenant next) = refl
@@ -71,29 +70,23 @@ version_is t g (proposals.ToContext c next) e = tt
 version_is t g (proposals.ToForm f form) e = few_versions _ (next_version f g.forms) e
 
 pub puttable : (time spare : ℕ) (x : KeptTenancy) (c : Planned) → IsRoomy time x spare c → IsPuttable (place_of x) c
-puttable time spare x planned.Nothing h = tt
-puttable time spare x (planned.Begins o) h = tt
 puttable time spare x (planned.Notes n) h = there_before (is_live x.configuration.registry.settings time) n.number (place_of x).plain.cases h.fit
-puttable time spare x (planned.LogsIn login) h = tt
-puttable time spare x (planned.LogsOut turn who) h = tt
 puttable time spare x (planned.Configures c) h = (
   h.fit ∙ setting_is x.configuration.tenant x.configuration.registry c.proposal,
   version_is x.configuration.tenant x.configuration.registry c.proposal h.room.fault,
 )
+puttable time spare x _ h = tt
 
 -- ---- the rows over the tables before and after a purge
 
 pub live_puts : (now time : ℕ) (x : PlainTenancy) (c : Planned) → Apart has_number x.plain.cases → IsPuttable (live_place time x) c → puts_of now (live_place time x) c ≡ puts_of now x c
-live_puts now time x planned.Nothing apart h = refl
 live_puts now time x (planned.Begins o) apart h = by o.case.items
   where
     by : (trail : List Entry) → first_puts now (live_place time x) trail o.secret ≡ first_puts now x trail o.secret
     by [] = refl
     by (e ∷ es) = refl
 live_puts now time x (planned.Notes n) apart h = ap (noted_puts x.id n.number n.entry n.secret) (live_report n.number (is_live x.plain.registry.settings time) x.plain.cases apart h)
-live_puts now time x (planned.LogsIn login) apart h = refl
-live_puts now time x (planned.LogsOut turn who) apart h = refl
-live_puts now time x (planned.Configures c) apart h = refl
+live_puts now time x _ apart h = refl
 
 -- ---- the rows after it
 
@@ -126,7 +119,6 @@ pub record IsRowed (y : Tenancy) : Type 0 where
 
 pub change_rows : (before after : List Tenancy) (y : Tenancy) → ((x : Tenancy) → Held x before → x.id < y.id) → ((x : Tenancy) → Held x after → y.id < x.id) → IsRowed y → (now : ℕ) (c : Planned) → IsPuttable (as_place y) c
     → all_changed (rows_of (before ++ (y ∷ after))) (puts_of now (as_place y) c) ≡ rows_of (before ++ (made_one now c y ∷ after))
-change_rows before after y below above is now planned.Nothing h = refl
 change_rows before after y below above is now (planned.Begins o) h = by o.case.items
   where
     by : (trail : List Entry) → all_changed (rows_of (before ++ (y ∷ after))) (first_puts now (as_place y) trail o.secret) ≡ rows_of (before ++ (record { id = y.id; tables = changed now (begins trail) o.secret y.tables } ∷ after))
@@ -136,12 +128,16 @@ change_rows before after y below above is now (planned.Notes n) h = by (report n
   where
     by : (o : Option Case) → report n.number y.tables.plain.cases ≡ o → all_changed (rows_of (before ++ (y ∷ after))) (noted_puts y.id n.number n.entry n.secret o) ≡ rows_of (before ++ (made_one now (planned.Notes n) y ∷ after))
     by None e = absurd (let none = sym h ∙ (there-found n.number y.tables.plain.cases ∙ ap is_some e) in grind (arith, none))
-    by (Some case) e = noted_rows before after y below above is.ascend n.number case e now n.entry n.secret
-change_rows before after y below above is now (planned.LogsIn login) h = kinds_same kinds before after y (made_one now (planned.LogsIn login) y) (refl, (refl, (refl, (refl, (refl, (refl, (refl, tt)))))))
-change_rows before after y below above is now (planned.LogsOut turn who) h = kinds_same kinds before after y (made_one now (planned.LogsOut turn who) y) (refl, (refl, (refl, (refl, (refl, (refl, (refl, tt)))))))
+    by (Some case) e = lifted (before ++ (y ∷ after)) (before ++ (made_one now (planned.Notes n) y ∷ after)) (Put (row 6 y.id n.number (length case.trail + 1) (entry_data n.entry)) ∷ sealed_put y.id n.number n.secret) (omega arith, sealed_behind y.id n.number n.secret)
+        (noted_rows before after y below above is.ascend n.number case e now n.entry n.secret)
+change_rows before after y below above is now (planned.Deletes n) h = deleted_rows now n before after y below above
 change_rows before after y below above is now (planned.Configures c) h =
+    let setting = setting_of y.id y.tables.plain.registry c.proposal in
     ap (λ r. all_changed (rows_of (before ++ (y ∷ after))) (Put r ∷ [])) h.0
-    ∙ configured_rows before after y below above is.versions (setting_of y.id y.tables.plain.registry c.proposal) h.1 now None
+    ∙ lifted (before ++ (y ∷ after)) (before ++ (made_one now (planned.Configures c) y ∷ after)) (Put (setting_row y.id y.tables.plain.registry setting) ∷ []) (setting_behind y.id y.tables.plain.registry setting)
+    (configured_rows before after y below above is.versions setting h.1 now None)
+change_rows before after y below above is now planned.Nothing h = refl
+change_rows before after y below above is now c h = ap (λ rows. format_row ∷ rows) (kinds_same kinds before after y (made_one now c y) (refl, (refl, (refl, (refl, (refl, (refl, (refl, tt))))))))
 
 -- ---- changes that a keeper takes
 
@@ -156,7 +152,6 @@ good_row t g (proposals.ToContext c next) = (omega arith, λ e. absurd (omega (a
 good_row t g (proposals.ToForm f form) = (omega arith, λ e. absurd (omega (arith, e)))
 
 pub good_puts : (now : ℕ) (x : KeptTenancy) (c : Planned) → IsFit now x c → All IsGoodChange (puts_of now (place_of x) c)
-good_puts now x planned.Nothing fit = All-nil IsGoodChange
 good_puts now x (planned.Begins o) fit = by o.case.items
   where
     next : ℕ
@@ -172,6 +167,6 @@ good_puts now x (planned.Notes n) fit = by (report n.number (place_of x).plain.c
     by : (o : Option Case) → All IsGoodChange (noted_puts x.configuration.tenant n.number n.entry n.secret o)
     by None = All-nil IsGoodChange
     by (Some case) = All-cons IsGoodChange (Put (row 6 x.configuration.tenant n.number (length case.trail + 1) (entry_data n.entry))) (sealed_put x.configuration.tenant n.number n.secret) (omega arith, λ e. absurd (omega (arith, e))) (good_sealed x.configuration.tenant n.number n.secret)
-good_puts now x (planned.LogsIn login) fit = All-nil IsGoodChange
-good_puts now x (planned.LogsOut turn who) fit = All-nil IsGoodChange
+good_puts now x (planned.Deletes n) fit = All-cons IsGoodChange (DropReport x.configuration.tenant n) [] tt (All-nil IsGoodChange)
 good_puts now x (planned.Configures c) fit = All-cons IsGoodChange (Put c.row) [] (subst (λ r. IsGoodChange (Put r)) (sym fit) (good_row x.configuration.tenant x.configuration.registry c.proposal)) (All-nil IsGoodChange)
+good_puts now x _ fit = All-nil IsGoodChange

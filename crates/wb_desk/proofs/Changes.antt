@@ -19,12 +19,9 @@ pub planned_tables : (id : ℕ) (t u : Tables) (at : At) (a : Asked) (plan : Pla
 planned_tables id t u at a plan h e = e ∙ (by plan.change h.given ∙ sym (ap (λ (c : Change). changed at.time c (sealed_part t.plain a) t) h.change))
   where
     by : (c : Planned) → Gives c (sealed_part t.plain a) → changed at.time (change_of id t.plain.registry c) (given_of c) t ≡ changed at.time (change_of id t.plain.registry c) (sealed_part t.plain a) t
-    by planned.Nothing is = refl
     by (planned.Begins o) is = ap (λ s. changed at.time (begins o.case.items) s t) is
     by (planned.Notes n) is = ap (λ s. changed at.time (Notes n.number n.entry) s t) is
-    by (planned.LogsIn login) is = refl
-    by (planned.LogsOut turn who) is = refl
-    by (planned.Configures c) is = refl
+    by _ is = refl
 
 -- what is made of a tenant and of identity answers
 pub tables_made : (items new : List SealedItem) (x y : PlainTenancy) (time : ℕ) (ch : Change) (given : Option Answered) → y.id ≡ x.id → y.plain ≡ plain_after time ch x.plain → ((n : ℕ) → answers_of new x.id n ≡ sealed_after ch x.plain.numbering.last given (sealed_of items x.id) n)

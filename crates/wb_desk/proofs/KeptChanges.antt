@@ -6,7 +6,7 @@ use Rattle.wb_model.specs.declared.command.Command.{Command}
 use Rattle.wb_model.specs.declared.command.Command.TheVariants as commands
 use Rattle.wb_model.specs.declared.entry.Entry.{Entry}
 use Rattle.wb_model.specs.Commands.{is_of_sessions}
-use Rattle.wb_model.specs.Changes.{At, Change, Nothing, Draws, Begins, Notes, LogsIn, LogsOut, Configures, Answer, judged}
+use Rattle.wb_model.specs.Changes.{At, Change, Begins, Notes, Deletes, Configures, Answer, judged}
 use Rattle.wb_model.specs.Effects.{effect_of}
 use Rattle.wb_model.specs.Host.{change_of}
 use Rattle.wb_model.specs.OnReports.{change_on}
@@ -20,11 +20,9 @@ use Rattle.wb_model.proofs.Effects.{comes_is, goes_is}
 abbrev pub IsKept : Change → Type 0
 IsKept (Begins entry) = Unit {0}
 IsKept (Notes n entry) = Unit {0}
+IsKept (Deletes n) = Unit {0}
 IsKept (Configures setting) = Unit {0}
-IsKept Nothing = ⊥
-IsKept Draws = ⊥
-IsKept (LogsIn s) = ⊥
-IsKept (LogsOut turn who) = ⊥
+IsKept _ = ⊥
 
 -- a login or a logout makes none
 sessions_alone : (at : At) (g : Registry) (who : Option Who) (s : Presented) (o : Outcome) (trail : List Entry) (d : Command) → is_of_sessions d ≡ true → IsKept (change_alone at g who o (effect_of at g who s trail d)) → ⊥

@@ -1,15 +1,18 @@
 -- The host that is opened over what is held and a setup stands for an opening of both.
-use Rattle.std.proofs.Common.{◌≡◌, ℕ, Bool, true, false, List, [], ◌∷◌, map, Ok, refl, sym, ap, subst, arith}
+use Rattle.std.proofs.Common.{◌≡◌, ℕ, ◌≤◌, Bool, true, false, ◌==◌, ◌||◌, List, [], ◌∷◌, map, Ok, refl, sym, ap, subst, arith}
+use Rattle.std.specs.List.{list_any}
 use Rattle.wb_custody.specs.declared.sealed.SealedItem.{SealedItem}
 use Rattle.wb_custody.specs.SealedAnswers.{answers_of}
 use Rattle.wb_base.specs.declared.rows.Row.{Row}
 use Rattle.wb_model.specs.declared.registry.Lists.{Lists}
+use Rattle.wb_model.specs.declared.registry.TenantItem.{TenantItem}
 use Rattle.wb_model.specs.Host.{Tables}
 use Rattle.wb_model.specs.KeptRules.{AreKept}
 use Rattle.wb_model.specs.Opened.{AreOpened}
 use Rattle.wb_model.specs.Openings.{registry_of, empty_tables}
 use Rattle.wb_model.specs.Past.{Opening}
-use Rattle.wb_model.specs.Pasts.{AllOpened, held_tenancy}
+use Rattle.wb_model.specs.Pasts.{AllOpened, held_tenancy, has_tenant as opened_tenant}
+use Rattle.wb_model.specs.Readable.{AreReadable}
 use Rattle.wb_model.specs.SetUps.{AreSetUp, has_tenant, tenant_ids}
 use Rattle.wb_model.specs.Tables.{Registry}
 use Rattle.wb_model.specs.Tenants.{Tenancy}
@@ -89,6 +92,18 @@ module _ (setup : Lists) (h : Held) (read : AreRead h)
     pub stands : StandsFor (hosts_of (standing 0 (time_of h) (held_places whole) items)) (Opening opening)
     stands = ap (λ (xs : List Tenancy). record { turns = 0; now = time_of h; list = xs }) (same_list (tenant_ids whole.lists))
 
+    -- a tenant of the opening is listed
+    listed : (t : ℕ) → opened_tenant (Opening opening) t ≡ true → has_tenant whole.lists t ≡ true
+    listed t there = by whole.lists.tenants there
+      where
+        by : (xs : List TenantItem) → list_any (λ u. u == t) (map (λ (x : TenantItem). x.tenant) xs) ≡ true → list_any (λ (x : TenantItem). x.tenant == t) xs ≡ true
+        by [] e = e
+        by (x ∷ xs) e = first (x.tenant == t) e (by xs)
+          where
+            first : (b : Bool) → (b || list_any (λ u. u == t) (map (λ (y : TenantItem). y.tenant) xs)) ≡ true → (list_any (λ u. u == t) (map (λ (y : TenantItem). y.tenant) xs) ≡ true → list_any (λ (y : TenantItem). y.tenant == t) xs ≡ true) → (b || list_any (λ (y : TenantItem). y.tenant == t) xs) ≡ true
+            first true e rest = refl
+            first false e rest = rest e
+
     pub same_tenancies : map (tenancy_of items) (held_places whole) ≡ tenancies_of whole
     same_tenancies = by (tenant_ids whole.lists)
       where
@@ -96,9 +111,10 @@ module _ (setup : Lists) (h : Held) (read : AreRead h)
         by [] = refl
         by (t ∷ ts) = λ i. record { id = t; tables = record { plain = (tables_of whole t).plain; sealed = λ n. sym sealed i t n } } ∷ by ts i
 
-    pub is_desk : IsDesk (standing 0 (time_of h) (held_places whole) items)
-    is_desk = record {
-      past = record { past = Opening opening; verdicts = λ t. tt; stands = stands };
+    pub is_desk : time_of h ≤ 99_999_999_999 → ((t : ℕ) → has_tenant whole.lists t ≡ true → AreReadable t (tables_of whole t)) → IsDesk (standing 0 (time_of h) (held_places whole) items)
+    is_desk most readable = record {
+      past = record { past = Opening opening; read_back = record { verdicts = λ t. tt; ranged = λ t. tt; opens = λ t there. readable t (listed t there); moment = most }; stands = stands };
+      time = most;
       set_up = held_right whole set_up;
       most = omega arith;
       sessions = (let none = no_sessions whole (tenant_ids whole.lists) in omega (arith, none));

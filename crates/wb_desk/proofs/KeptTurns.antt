@@ -72,16 +72,15 @@ ruled turns now f at asked t p =
 
 -- a change whose rows are put is kept
 kept_puts : (now t : ℕ) (g : Registry) (x : PlainTenancy) (c : Planned) → puts_of now x c ≢ [] → IsKept (change_of t g c)
-kept_puts now t g x planned.Nothing put = absurd (put refl)
 kept_puts now t g x (planned.Begins o) put = by o.case.items put
   where
     by : (trail : List Entry) → first_puts now x trail o.secret ≢ [] → IsKept (begins trail)
     by [] put = absurd (put refl)
     by (e ∷ es) put = tt
 kept_puts now t g x (planned.Notes n) put = tt
-kept_puts now t g x (planned.LogsIn login) put = absurd (put refl)
-kept_puts now t g x (planned.LogsOut turn who) put = absurd (put refl)
+kept_puts now t g x (planned.Deletes n) put = tt
 kept_puts now t g x (planned.Configures c) put = tt
+kept_puts now t g x _ put = absurd (put refl)
 
 outlined : (d : Command) → is_of_sessions (outline d) ≡ is_of_sessions d
 outlined (commands.Submit t c answers) = refl

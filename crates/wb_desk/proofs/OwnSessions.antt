@@ -15,7 +15,7 @@ use Rattle.wb_model.specs.declared.entry.Entry.{Entry}
 use Rattle.wb_model.specs.declared.registry.UserItem.{UserItem}
 use Rattle.wb_model.specs.Commands.{Any_session}
 use Rattle.wb_model.specs.Changes.{At, Change, LogsOut, Answer, judged}
-use Rattle.wb_model.specs.Effects.{Effect, Misses, Looks, Reads, Writes, Submits, Comes, Goes, Sets, caller, effect_of}
+use Rattle.wb_model.specs.Effects.{Effect, Misses, Looks, Reads, Writes, Submits, Comes, Goes, Sets, caller, effect_of, Erases}
 use Rattle.wb_model.specs.Host.{live_cases, purged, change_of}
 use Rattle.wb_model.specs.Opened.{Apart, has_turn}
 use Rattle.wb_model.specs.OnReports.{change_on}
@@ -137,6 +137,7 @@ alone_own at g v o s d turn who ss (Reads part) own is e = absurd (grind (arith,
 alone_own at g v o s d turn who ss (Writes doing) own is e = absurd (grind (arith, e))
 alone_own at g v o s d turn who ss (Submits c form) own is e = absurd (grind (arith, e))
 alone_own at g v o s d turn who ss (Comes role) own is e = absurd (grind (arith, e))
+alone_own at g v o s d turn who ss Erases own is e = absurd (grind (arith, e))
 
 on_own : (at : At) (g : Registry) (v : Who) (n : ℕ) (trail : List Entry) (s : Presented) (d : Command) (turn : ℕ) (who : Who) (ss : List Session) (e : Effect) → ((k t : ℕ) (secret : List ℕ) → d ≡ commands.Logout t → s ≡ presented.Token k secret → AreBy k (TheReporter n) ss)
     → Leaves s d e → change_on at g v n trail e ≡ LogsOut turn who → AreBy turn who ss
@@ -147,6 +148,7 @@ on_own at g v n trail s d turn who ss (Reads part) own is e = absurd (grind (ari
 on_own at g v n trail s d turn who ss (Writes doing) own is e = absurd (grind (arith, e))
 on_own at g v n trail s d turn who ss (Submits c form) own is e = absurd (grind (arith, e))
 on_own at g v n trail s d turn who ss (Comes role) own is e = absurd (grind (arith, e))
+on_own at g v n trail s d turn who ss Erases own is e = absurd (grind (arith, e))
 on_own at g v n trail s d turn who ss (Sets t proposal) own is e = absurd (grind (arith, e))
 
 verdict_own : (p : Plain) (at : At) (q : Request) (t : Target) (turn : ℕ) (who : Who) → ((k t' : ℕ) (secret : List ℕ) → q.command ≡ commands.Logout t' → q.session ≡ presented.Token k secret → OwnTarget k p.sessions t)

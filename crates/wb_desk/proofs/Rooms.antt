@@ -65,7 +65,6 @@ purged_at time zero (x ∷ ks) (y ∷ ls) d h lt = h.0
 purged_at time (suc i) (x ∷ ks) (y ∷ ls) d h lt = purged_at time i ks ls d h.1 (omega arith)
 
 room_in : (time spare more : ℕ) (x y : KeptTenancy) (c : Planned) → Apart has_number (plain_of x).cases → IsPurged time x y → plain_of y ≡ live_plain time (plain_of x) → spare ≤ more → IsRoomy time x spare c → IsRoomy time y more c
-room_in time spare more x y planned.Nothing apart purged is le h = record { fit = tt; room = tt }
 room_in time spare more x y (planned.Begins o) apart purged is le h =
     let last : y.numbering.last ≡ x.numbering.last = ap (λ (p : Plain). p.numbering.last) is in
     let wide = purged.room in
@@ -91,11 +90,11 @@ room_in time spare more x y (planned.Notes n) apart purged is le h =
 room_in time spare more x y (planned.LogsIn login) apart purged is le h =
     let wide = purged.logins in
     record { fit = subst (AreEarlier login.turn) (sym (ap (λ (p : Plain). p.sessions) is)) (earlier_left login.turn (lasts time (live_cases (plain_of x) time)) (plain_of x).sessions h.fit); room = omega (arith, wide, h.room) }
-room_in time spare more x y (planned.LogsOut turn who) apart purged is le h = record { fit = tt; room = tt }
 room_in time spare more x y (planned.Configures c) apart purged is le h = record {
   fit = subst (λ (z : Configured). c.row ≡ row_of z.tenant z.registry c.proposal) (sym purged.configuration) h.fit;
   room = subst (λ (z : Configured). IsReadyToSet z c.proposal) (sym purged.configuration) h.room;
 }
+room_in time spare more x y _ apart purged is le h = record { fit = tt; room = tt }
 
 room_left : (turns time i spare more : ℕ) (items : List SealedItem) (ks ls : List KeptTenancy) (c : Planned) → ArePlaces turns 0 items (map place_of ks) → ArePurged time ks ls → map place_of ls ≡ map (live_place time) (map place_of ks) → i < length ks → spare ≤ more
     → ((d : KeptTenancy) → IsRoomy time (get_or ks i d) spare c) → (d : KeptTenancy) → IsRoomy time (get_or ls i d) more c

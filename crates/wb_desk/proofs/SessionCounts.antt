@@ -3,7 +3,7 @@ use Rattle.std.proofs.Common.{ℕ, ◌≤◌, ◌+◌, suc, Bool, true, false, c
 use Rattle.std.specs.Prelude.{filter}
 use Rattle.std.proofs.lemmas.List.Sums.{sum_by-cons}
 use Rattle.wb_model.specs.Tables.{Session, lasts}
-use Rattle.wb_model.specs.Changes.{Change, LogsIn, LogsOut, Configures}
+use Rattle.wb_model.specs.Changes.{Change, Deletes, LogsIn, LogsOut, Configures}
 use Rattle.wb_model.specs.Host.{live_cases, ends, sessions_after}
 use Rattle.wb_tables.specs.Kept.{PlainTenancy, live_place, sessions_at}
 
@@ -35,4 +35,5 @@ one_more (LogsIn new) ss =
     omega (arith, left, all)
 one_more (LogsOut turn who) ss = left_more (LogsOut turn who) ss
 one_more (Configures setting) ss = left_more (Configures setting) ss
+one_more (Deletes n) ss = left_more (Deletes n) ss
 one_more _ ss = omega arith

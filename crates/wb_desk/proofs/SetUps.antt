@@ -52,16 +52,13 @@ right_set t x y next sound id registry right = right_same (record { id = x.id; p
 
 -- a planned change
 pub right_planned : (time spare : ℕ) (x : KeptTenancy) (y : PlainTenancy) (c : Planned) → IsRoomy time x spare c → y.id ≡ x.configuration.tenant → y.plain.registry ≡ registry_after (planned_change x c) x.configuration.registry → IsSetUpRight (place_of x) → IsSetUpRight y
-right_planned time spare x y planned.Nothing h id registry right = right_same (place_of x) y id registry right
 right_planned time spare x y (planned.Begins o) h id registry right = right_same (place_of x) y id (registry ∙ by o.case.items) right
   where
     by : (es : List Entry) → registry_after (begins es) x.configuration.registry ≡ x.configuration.registry
     by [] = refl
     by (e ∷ es) = refl
-right_planned time spare x y (planned.Notes n) h id registry right = right_same (place_of x) y id registry right
-right_planned time spare x y (planned.LogsIn login) h id registry right = right_same (place_of x) y id registry right
-right_planned time spare x y (planned.LogsOut turn who) h id registry right = right_same (place_of x) y id registry right
 right_planned time spare x y (planned.Configures c) h id registry right = right_set x.configuration.tenant (place_of x) y c.proposal h.room.sound id registry right
+right_planned time spare x y _ h id registry right = right_same (place_of x) y id registry right
 
 -- a purge
 pub right_purged : (k time : ℕ) (xs : List PlainTenancy) → AreSetUpRight k xs → AreSetUpRight k (map (live_place time) xs)

@@ -1,9 +1,9 @@
--- What is put of a report that begins, and the batch of a turn.
+-- What a change has to keep, and the batch of a turn.
 use Rattle.std.specs.Prelude.{◌≡◌, ℕ, ◌+◌, false, List, [], ◌∷◌, ◌++◌, length, map, All, Option, Some, None}
 use Rattle.wb_base.specs.AnswerList.{Answered}
 use Rattle.wb_base.specs.KeptRows.{all_changed, IsGoodChange}
 use Rattle.wb_base.specs.declared.rows.Change.{Change as RowChange}
-use Rattle.wb_base.specs.declared.rows.Change.TheVariants.{Put}
+use Rattle.wb_base.specs.declared.rows.Change.TheVariants.{Put, DropReport}
 use Rattle.wb_custody.specs.declared.sealed.SealedItem.{SealedItem}
 use Rattle.wb_model.specs.declared.entry.Entry.{Entry}
 use Rattle.wb_model.specs.Host.{drawn}
@@ -26,16 +26,15 @@ abbrev pub noted_puts : ℕ → ℕ → Entry → Option Answered → Option Cas
 noted_puts t n entry secret None = []
 noted_puts t n entry secret (Some case) = Put (row 6 t n (length case.trail + 1) (entry_data entry)) ∷ sealed_put t n secret
 
--- the rows of a change: sessions have none
+-- what a change has to keep: rows that are put, or a report whose rows are dropped; of sessions nothing is kept
 abbrev pub puts_of : ℕ → PlainTenancy → Planned → List RowChange
-puts_of now x planned.Nothing = []
 puts_of now x (planned.Begins o) = first_puts now x o.case.items o.secret
 puts_of now x (planned.Notes n) = noted_puts x.id n.number n.entry n.secret (report n.number x.plain.cases)
-puts_of now x (planned.LogsIn login) = []
-puts_of now x (planned.LogsOut turn who) = []
+puts_of now x (planned.Deletes n) = DropReport x.id n ∷ []
 puts_of now x (planned.Configures c) = Put c.row ∷ []
+puts_of now x _ = []
 
--- the batch of a turn: what its purge drops, and then what its change puts
+-- the batch of a turn: what its purge drops, and then what its change has to keep
 pub record IsBatch (now : ℕ) (xs : List PlainTenancy) (puts batch : List RowChange) : Type 0 where
   pub drops : List RowChange
   pub is : batch ≡ drops ++ puts

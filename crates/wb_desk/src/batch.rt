@@ -4,7 +4,7 @@ ghost use Rattle.wb_base.specs.Days.{IsOffset};
 ghost use Rattle.wb_base.specs.KeptRows.{all_changed, IsGoodChange};
 ghost use Rattle.wb_base.specs.Outside.{Rose};
 ghost use Rattle.wb_base.specs.declared.rows.Row.{Row as KeptRow};
-ghost use Rattle.wb_base.specs.declared.rows.Change.TheVariants.{Put};
+ghost use Rattle.wb_base.specs.declared.rows.Change.TheVariants.{Put, DropReport};
 ghost use Rattle.wb_model.specs.declared.entry.Entry.{Entry as EntryValue};
 ghost use Rattle.wb_model.specs.Rows.{row, numbering_data, entry_data};
 ghost use Rattle.wb_model.specs.Tables.{is_there, report as report_by};
@@ -136,6 +136,14 @@ pub fn put_noted(
     let place = next_place(report)?;
     put_entry(alloc, batch, tenant, noted.number, place, &noted.entry)?;
     put_sealed(alloc, batch, tenant, noted.number, &noted.secret)
+}
+
+/// The rows of a report are to be dropped: its entries and its identity answers.
+pub fn put_deletion(batch: &mut Vec<Change>, tenant: Tenant, number: Number) -> Result<(), Memory>
+    ensures { OnOk result (batch.new.items ≡ batch.old.items ++ DropReport tenant number ∷ []) }
+{
+    batch.push(Change::DropReport(tenant, number))?;
+    Ok(())
 }
 
 /// The row of a setting is to be put.

@@ -13,7 +13,7 @@ ghost use Rattle.wb_tables.specs.Places.{IsPlace, ArePlaces, IsAt};
 ghost use Rattle.wb_tables.specs.declared.tenancy.Tenancy.{Tenancy as KeptTenancy};
 ghost use Rattle.wb_desk.specs.Puts.{puts_of, IsBatch};
 
-use crate::batch::{put_noted, put_opening, put_setting};
+use crate::batch::{put_deletion, put_noted, put_opening, put_setting};
 use std::alloc::Global;
 use wb_base::{Change, Memory, Moment};
 use wb_custody::SealedTable;
@@ -69,10 +69,10 @@ fn put_change(
     ensures { OnOk result (batch.new.items ≡ batch.old.items ++ puts_of time (place_of tenancy.now) change.now) }
 {
     match change {
-        Planned::Nothing => Ok(()),
         Planned::Begins(opening) => put_opening(alloc, batch, tenancy, time, opening),
         Planned::Notes(noted) => put_noted(alloc, batch, tenancy, noted),
-        Planned::LogsIn(_) | Planned::LogsOut(..) => Ok(()),
+        Planned::Deletes(number) => put_deletion(batch, tenancy.configuration.tenant(), *number),
+        Planned::Nothing | Planned::LogsIn(_) | Planned::LogsOut(..) => Ok(()),
         Planned::Configures(next) => put_setting(batch, &next.row),
     }
 }

@@ -23,7 +23,7 @@ use wb_base::{Keeper, Moment};
 use wb_custody::SealedTable;
 use wb_model::{Asked, Told};
 use wb_plan::{At, Plan, Planned, tenant_of};
-use wb_tables::{Tenancy, place_at, purge_all};
+use wb_tables::{Tenancy, delete_report, place_at, purge_all};
 
 // Makes the change of a turn that is ready, over purged tables. It takes no memory and cannot fail.
 fn make(tenancy: &mut Tenancy, sealed: &mut SealedTable, time: Moment, change: Planned)
@@ -38,6 +38,7 @@ fn make(tenancy: &mut Tenancy, sealed: &mut SealedTable, time: Moment, change: P
         Planned::Nothing => {}
         Planned::Begins(opening) => open_case(tenancy, sealed, time, opening),
         Planned::Notes(noted) => note_entry(tenancy, sealed, noted),
+        Planned::Deletes(number) => delete_report(tenancy, sealed, number),
         Planned::LogsIn(login) => log_in(tenancy, login),
         Planned::LogsOut(turn, _) => log_out(tenancy, turn),
         Planned::Configures(next) => configure(tenancy, next.proposal),

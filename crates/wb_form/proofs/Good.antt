@@ -4,11 +4,13 @@ use Rattle.std.proofs.lemmas.Bool.{and_parts}
 use Rattle.serde_json.specs.Data.{Data}
 use Rattle.wb_base.specs.declared.faults.FormFault.{FormFault}
 use Rattle.wb_base.specs.declared.form.Form.{Form}
+use Rattle.wb_base.specs.declared.form.Format.{Format}
+use Rattle.wb_base.specs.declared.form.Format.TheVariants.{Plain}
 use Rattle.wb_base.specs.AnswerList.{answer_to}
 use Rattle.wb_base.specs.FormFields.{fields_of}
 use Rattle.wb_base.specs.FormRanges.{is_in_range}
-use Rattle.wb_base.specs.FormShape.{form_of}
-use Rattle.wb_base.specs.FormJson.{form_data}
+use Rattle.wb_base.specs.FormShape.{form_by}
+use Rattle.wb_base.specs.FormJson.{form_data, form_in}
 use Rattle.wb_base.specs.FormFaults.{fault_of, fault_or_shape, fault_in, is_good}
 use Rattle.wb_base.specs.AnswerFaults.{public_of}
 use Rattle.wb_base.specs.Sealing.{HangsOnPublicAnswers}
@@ -21,18 +23,18 @@ none-is : (o : Option FormFault) → is_none o ≡ true → o ≡ None
 none-is None e = refl
 none-is (Some fault) e = absurd cc
 
-pub good-read : (d : Data) (form : Form) → form_of d ≡ Some form → fault_of form ≡ None → is_good form ≡ true
-good-read d form shape none =
-    ap (λ o. is_in_range form && is_none o) none ∙ ap (λ b. b && true) (form_in_range d form shape)
+pub good-read : (format : Format) (d : Data) (form : Form) → form_by format d ≡ Some form → fault_of form ≡ None → is_good form ≡ true
+good-read format d form shape none =
+    ap (λ o. is_in_range form && is_none o) none ∙ ap (λ b. b && true) (form_in_range format d form shape)
 
 pub faultless-good : (form : Form) → is_good form ≡ true → fault_of form ≡ None
 faultless-good form good = none-is (fault_of form) (and_parts (is_in_range form) (is_none (fault_of form)) good).1
 
-pub back-good : (form : Form) → is_good form ≡ true → form_of (form_data form) ≡ Some form
-back-good form good = back-form form (and_parts (is_in_range form) (is_none (fault_of form)) good).0
+pub back-good : (format : Format) (form : Form) → is_good form ≡ true → form_by format (form_in format form) ≡ Some form
+back-good format form good = back-form format form (and_parts (is_in_range form) (is_none (fault_of form)) good).0
 
 pub faultless-back : (form : Form) → is_good form ≡ true → fault_in (form_data form) ≡ None
-faultless-back form good = ap fault_or_shape (back-good form good) ∙ faultless-good form good
+faultless-back form good = ap fault_or_shape (back-good Plain form good) ∙ faultless-good form good
 
 pub sealed-good : (form : Form) → is_good form ≡ true → HangsOnPublicAnswers form
 sealed-good form good = λ answers k field here public.

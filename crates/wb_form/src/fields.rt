@@ -1,11 +1,11 @@
-//! The fields of a form, and their options and conditions.
+//! The fields of a form, and their options.
 ghost use Rattle.std.specs.Prelude.{◌≡◌, IfOk, map};
 ghost use Rattle.std.specs.List.{list_any};
-ghost use Rattle.wb_base.specs.FormFields.{fields_of, is_option, options_of as options_in, conds_of as conds_in, has_options as takes_options};
+ghost use Rattle.wb_base.specs.FormFields.{fields_of, is_option, options_of as options_in, has_options as takes_options, is_scored as scored_trigger, has_score as has_score_in};
 ghost use Rattle.wb_base.specs.FormFaults.{has_twice as twice_in};
 
 use std::alloc::Global;
-use wb_base::{Choice, Cond, Field, FieldKind, Form, Memory, Text, Trigger};
+use wb_base::{Choice, Field, FieldKind, Form, Memory, Text, Trigger};
 
 /// All fields, in form order.
 pub fn fields<'a>(alloc: Global, form: &'a Form) -> Result<Vec<&'a Field>, Memory>
@@ -20,15 +20,33 @@ pub fn fields<'a>(alloc: Global, form: &'a Form) -> Result<Vec<&'a Field>, Memor
     Ok(found)
 }
 
-/// The conditions of a trigger.
-pub fn conds_of(trigger: &Trigger) -> &[Cond]
-    ensures { result.now ≡ conds_in trigger.now }
+fn is_scored(show: &Trigger) -> bool
+    ensures { result ≡ scored_trigger show.now }
 {
-    match trigger {
-        Trigger::Always => &[],
-        Trigger::Any(conds) => conds.as_slice(),
-        Trigger::All(conds) => conds.as_slice(),
+    match show {
+        Trigger::Score { .. } => true,
+        _ => false,
     }
+}
+
+fn any_scored(fields: &[Field]) -> bool
+    ensures { result ≡ list_any (λ f. scored_trigger f.show) fields.now }
+{
+    fields.iter().any(|field| is_scored(&field.show))
+}
+
+/// Whether a field of the form counts points.
+pub fn has_score(form: &Form) -> bool
+    ensures { result ≡ has_score_in form.now }
+{
+    let steps = form.steps.as_slice();
+    for step in steps {
+        let fields = step.fields.as_slice();
+        if any_scored(fields) {
+            return true;
+        }
+    }
+    false
 }
 
 /// The options of a field, none where its kind has none.

@@ -2,13 +2,14 @@
 ghost use Rattle.std.specs.Prelude.{◌≡◌, true, Some, None};
 ghost use Rattle.serde_json.specs.Data.{Data};
 ghost use Rattle.wb_base.specs.declared.form.Form.{Form};
-ghost use Rattle.wb_base.specs.FormShape.{form_of};
-ghost use Rattle.wb_base.specs.FormJson.{form_data};
+ghost use Rattle.wb_base.specs.declared.form.Format.{Format};
+ghost use Rattle.wb_base.specs.FormShape.{form_of, form_by};
+ghost use Rattle.wb_base.specs.FormJson.{form_data, form_in};
 ghost use Rattle.wb_base.specs.FormFaults.{fault_of, fault_in, is_good};
 
-/// Reading what was shown of a good form gives the form back.
+/// Reading what was shown of a good form gives the form back, in each format.
 pub fn reading_back()
-    ensures back { (form : Form) → is_good form ≡ true → form_of (form_data form) ≡ Some form }
+    ensures back { (format : Format) (form : Form) → is_good form ≡ true → form_by format (form_in format form) ≡ Some form }
     ensures faultless { (form : Form) → is_good form ≡ true → fault_in (form_data form) ≡ None }
 {}
 

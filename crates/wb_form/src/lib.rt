@@ -13,6 +13,7 @@ mod shape;
 mod shaped;
 mod show;
 
+pub use fields::has_score;
 pub use form_text::FormText;
 pub use laws::{good_forms_are_those_that_are_read, reading_back};
 pub use look::{flag_at, has_only, size};

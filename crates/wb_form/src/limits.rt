@@ -8,15 +8,14 @@ ghost use Rattle.wb_base.specs.FormFaults.{is_too_many as is_too_many_in, is_ful
 use crate::fields::options_of;
 use crate::show::Showing;
 use std::alloc::Global;
-use wb_base::{Field, Form, Memory, Trigger};
+use wb_base::{Field, Form, Format, Memory, Trigger};
 
 fn is_full_trigger(show: &Trigger) -> bool
     ensures { result ≡ full_trigger show.now }
 {
     match show {
         Trigger::Always => false,
-        Trigger::Any(conds) => conds.len() == 0 || 16 < conds.len(),
-        Trigger::All(conds) => conds.len() == 0 || 16 < conds.len(),
+        _ => show.len() == 0 || 16 < show.len(),
     }
 }
 
@@ -34,7 +33,7 @@ fn any_full(fields: &[&Field]) -> bool
 fn text_len(alloc: Global, form: &Form) -> Result<usize, Memory>
     ensures { IfOk result (λ n. n ≡ length (form_text form.now)) }
 {
-    let value = form.to_value(alloc)?;
+    let value = form.to_value(alloc, Format::Plain)?;
     let text = value.to_vec(alloc)?;
     Ok(text.len())
 }

@@ -1,10 +1,10 @@
 //! Looking into a JSON object.
-ghost use Rattle.std.specs.Prelude.{◌≡◌, ◌<◌, length, option_map, option_and_then, map};
+ghost use Rattle.std.specs.Prelude.{◌≡◌, ◌<◌, ◌≤◌, ◌&&◌, nat_le, length, option_map, option_and_then, map, codes, IfSome};
 ghost use Rattle.std.specs.List.{list_all};
 ghost use Rattle.serde_json.specs.View.{view};
 ghost use Rattle.serde_json.specs.Find.{get, as_str};
-ghost use Rattle.wb_base.specs.FormShape.{size as size_of, has_only as only_these, count_of, flag_at as flag_under, max_at as max_under};
-ghost use Rattle.wb_base.specs.FormRanges.{is_id as id_test, is_id_byte as id_byte_test, is_label as label_test};
+ghost use Rattle.wb_base.specs.FormShape.{size as size_of, has_only as only_these, count_of, flag_at as flag_under, max_at as max_under, number_at};
+ghost use Rattle.wb_base.specs.FormRanges.{are_points, is_least, is_id as id_test, is_id_byte as id_byte_test, is_label as label_test};
 
 use serde_json::Value;
 
@@ -66,6 +66,44 @@ pub fn max_at(value: &Value) -> Option<u32>
             None => None,
         },
         None => Some(4096),
+    }
+}
+
+// The whole number from 1 to a limit under a key.
+fn whole_at(value: &Value, key: &str, most: u64) -> Option<u64>
+    ensures number { result ≡ number_at (λ n. nat_le 1 n && nat_le n most) key.now (view value.now) }
+    ensures most { IfSome result (λ n. n ≤ most) }
+{
+    match value.get(key) {
+        Some(found) => match found.as_u64() {
+            Some(number) => if 1 <= number && number <= most {
+                Some(number)
+            } else {
+                None
+            },
+            None => None,
+        },
+        None => None,
+    }
+}
+
+/// The points of a part.
+pub fn points_at(value: &Value) -> Option<u16>
+    ensures { result ≡ number_at are_points (codes "points") (view value.now) }
+{
+    match whole_at(value, "points", 1_000) {
+        Some(points) => Some(points as u16),
+        None => None,
+    }
+}
+
+/// The points that a score wants.
+pub fn least_at(value: &Value) -> Option<u32>
+    ensures { result ≡ number_at is_least (codes "least") (view value.now) }
+{
+    match whole_at(value, "least", 16_000) {
+        Some(least) => Some(least as u32),
+        None => None,
     }
 }
 

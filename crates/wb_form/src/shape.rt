@@ -1,14 +1,15 @@
 //! The parts of a form that JSON values are built as.
-ghost use Rattle.std.specs.Prelude.{◌≡◌, IfOk, Some, None, Err};
+ghost use Rattle.std.specs.Prelude.{◌≡◌, IfOk, Some, None, Err, option_and_then};
+ghost use Rattle.serde_json.specs.Find.{get};
 ghost use Rattle.serde_json.specs.View.{view};
-ghost use Rattle.wb_base.specs.FormShape.{option_of, cond_of, trigger_of, show_at, options_at, kind_named, kind_of, plain_kind as plain_kind_of, field_of, step_of, form_of, text_at as text_under, flag_at as flag_under, is_any as any_test};
+ghost use Rattle.wb_base.specs.FormShape.{option_of, cond_of, cond_by, one_of, part_of, score_of, moded, list_of, plain_trigger_of, weighed_trigger_of, trigger_by, show_at, options_at, kind_named, kind_of, plain_kind as plain_kind_of, field_by, step_by, form_by, text_at as text_under, flag_at as flag_under, is_any as any_test};
 ghost use Rattle.wb_base.specs.FormRanges.{is_id as id_test, is_label as label_test};
 
-use crate::look::{flag_at, has_only, is_id, is_label, max_at, size, text_at};
+use crate::look::{flag_at, has_only, is_id, is_label, least_at, max_at, points_at, size, text_at};
 use crate::shaped::{ShapeFault, Shaped, read_list};
 use serde_json::Value;
 use std::alloc::Global;
-use wb_base::{Choice, Cond, Field, FieldKind, Form, Step, Text, Trigger};
+use wb_base::{Choice, Cond, Field, FieldKind, Form, Format, Part, Step, Text, Trigger};
 use wb_list::Items;
 
 fn id_at(alloc: Global, value: &Value, key: &str) -> Result<Text, ShapeFault>
@@ -50,9 +51,9 @@ fn any_at(alloc: Global, value: &Value, key: &str) -> Result<Text, ShapeFault>
 }
 
 impl Shaped for Choice {
-    ghost shape = { option_of };
+    ghost shape = { λ format. option_of };
 
-    fn from_value(alloc: Global, value: &Value) -> Result<Choice, ShapeFault> {
+    fn from_value(alloc: Global, _: Format, value: &Value) -> Result<Choice, ShapeFault> {
         if size(value) != 2 {
             return Err(ShapeFault::Shape);
         }
@@ -62,42 +63,159 @@ impl Shaped for Choice {
     }
 }
 
-impl Shaped for Cond {
-    ghost shape = { cond_of };
+fn read_cond(alloc: Global, value: &Value) -> Result<Cond, ShapeFault>
+    ensures ok { IfOk result (λ x. cond_of (view value.now) ≡ Some x) }
+    ensures bad { result ≡ Err ShapeFault.Shape → cond_of (view value.now) ≡ None }
+{
+    if size(value) != 2 {
+        return Err(ShapeFault::Shape);
+    }
+    let field = any_at(alloc, value, "field")?;
+    let option = any_at(alloc, value, "option")?;
+    Ok(Cond { field, option })
+}
 
-    fn from_value(alloc: Global, value: &Value) -> Result<Cond, ShapeFault> {
-        if size(value) != 2 {
+// A condition that is told as a part.
+fn read_one(alloc: Global, value: &Value) -> Result<Cond, ShapeFault>
+    ensures ok { IfOk result (λ x. one_of (view value.now) ≡ Some x) }
+    ensures bad { result ≡ Err ShapeFault.Shape → one_of (view value.now) ≡ None }
+{
+    let Part { field, option, .. } = Part::from_value(alloc, Format::Weighed, value)?;
+    Ok(Cond { field, option })
+}
+
+impl Shaped for Cond {
+    ghost shape = { cond_by };
+
+    fn from_value(alloc: Global, format: Format, value: &Value) -> Result<Cond, ShapeFault> {
+        match format {
+            Format::Plain => read_cond(alloc, value),
+            Format::Weighed => read_one(alloc, value),
+        }
+    }
+}
+
+impl Shaped for Part {
+    ghost shape = { λ format. part_of };
+
+    fn from_value(alloc: Global, _: Format, value: &Value) -> Result<Part, ShapeFault> {
+        if size(value) != 3 {
             return Err(ShapeFault::Shape);
         }
         let field = any_at(alloc, value, "field")?;
         let option = any_at(alloc, value, "option")?;
-        Ok(Cond { field, option })
+        match points_at(value) {
+            Some(points) => Ok(Part {
+                field,
+                option,
+                points,
+            }),
+            None => Err(ShapeFault::Shape),
+        }
+    }
+}
+
+// The conditions under a key.
+fn conds_at(
+    alloc: Global,
+    format: Format,
+    value: &Value,
+    key: &str,
+) -> Result<Items<Cond>, ShapeFault>
+    ensures ok { IfOk result (λ xs. option_and_then (list_of (cond_by format)) (get key.now (view value.now)) ≡ Some xs) }
+    ensures bad { result ≡ Err ShapeFault.Shape → option_and_then (list_of (cond_by format)) (get key.now (view value.now)) ≡ None }
+{
+    match value.get(key) {
+        Some(conds) => read_list(alloc, format, conds),
+        None => Err(ShapeFault::Shape),
+    }
+}
+
+fn read_score(alloc: Global, value: &Value) -> Result<Trigger, ShapeFault>
+    ensures ok { IfOk result (λ t. score_of (view value.now) ≡ Some t) }
+    ensures bad { result ≡ Err ShapeFault.Shape → score_of (view value.now) ≡ None }
+{
+    let Some(least) = least_at(value) else {
+        return Err(ShapeFault::Shape);
+    };
+    match value.get("parts") {
+        Some(parts) => Ok(Trigger::Score {
+            least,
+            parts: read_list(alloc, Format::Weighed, parts)?,
+        }),
+        None => Err(ShapeFault::Shape),
+    }
+}
+
+fn read_plain(alloc: Global, value: &Value) -> Result<Trigger, ShapeFault>
+    ensures ok { IfOk result (λ t. plain_trigger_of (view value.now) ≡ Some t) }
+    ensures bad { result ≡ Err ShapeFault.Shape → plain_trigger_of (view value.now) ≡ None }
+{
+    if size(value) != 1 {
+        return Err(ShapeFault::Shape);
+    }
+    if value.get("any").is_some() {
+        return Ok(Trigger::Any(conds_at(alloc, Format::Plain, value, "any")?));
+    }
+    if value.get("all").is_some() {
+        return Ok(Trigger::All(conds_at(alloc, Format::Plain, value, "all")?));
+    }
+    match value.get("score") {
+        Some(score) => if size(score) == 2 {
+            read_score(alloc, score)
+        } else {
+            Err(ShapeFault::Shape)
+        },
+        None => Err(ShapeFault::Shape),
+    }
+}
+
+fn read_moded(alloc: Global, value: &Value, mode: &str) -> Result<Trigger, ShapeFault>
+    ensures ok { IfOk result (λ t. moded (view value.now) mode.now ≡ Some t) }
+    ensures bad { result ≡ Err ShapeFault.Shape → moded (view value.now) mode.now ≡ None }
+{
+    if mode == "any" {
+        return Ok(Trigger::Any(conds_at(alloc, Format::Weighed, value, "parts")?));
+    }
+    if mode == "all" {
+        return Ok(Trigger::All(conds_at(alloc, Format::Weighed, value, "parts")?));
+    }
+    if mode == "score" {
+        return read_score(alloc, value);
+    }
+    Err(ShapeFault::Shape)
+}
+
+fn read_weighed(alloc: Global, value: &Value) -> Result<Trigger, ShapeFault>
+    ensures ok { IfOk result (λ t. weighed_trigger_of (view value.now) ≡ Some t) }
+    ensures bad { result ≡ Err ShapeFault.Shape → weighed_trigger_of (view value.now) ≡ None }
+{
+    if size(value) != 3 {
+        return Err(ShapeFault::Shape);
+    }
+    match text_at(value, "mode") {
+        Some(mode) => read_moded(alloc, value, mode),
+        None => Err(ShapeFault::Shape),
     }
 }
 
 impl Shaped for Trigger {
-    ghost shape = { trigger_of };
+    ghost shape = { trigger_by };
 
-    fn from_value(alloc: Global, value: &Value) -> Result<Trigger, ShapeFault> {
-        if size(value) != 1 {
-            return Err(ShapeFault::Shape);
-        }
-        match value.get("any") {
-            Some(conds) => Ok(Trigger::Any(read_list(alloc, conds)?)),
-            None => match value.get("all") {
-                Some(conds) => Ok(Trigger::All(read_list(alloc, conds)?)),
-                None => Err(ShapeFault::Shape),
-            },
+    fn from_value(alloc: Global, format: Format, value: &Value) -> Result<Trigger, ShapeFault> {
+        match format {
+            Format::Plain => read_plain(alloc, value),
+            Format::Weighed => read_weighed(alloc, value),
         }
     }
 }
 
-fn read_show(alloc: Global, value: &Value) -> Result<Trigger, ShapeFault>
-    ensures ok { IfOk result (λ t. show_at (view value.now) ≡ Some t) }
-    ensures bad { result ≡ Err ShapeFault.Shape → show_at (view value.now) ≡ None }
+fn read_show(alloc: Global, format: Format, value: &Value) -> Result<Trigger, ShapeFault>
+    ensures ok { IfOk result (λ t. show_at format (view value.now) ≡ Some t) }
+    ensures bad { result ≡ Err ShapeFault.Shape → show_at format (view value.now) ≡ None }
 {
     match value.get("show") {
-        Some(show) => Trigger::from_value(alloc, show),
+        Some(show) => Trigger::from_value(alloc, format, show),
         None => Ok(Trigger::Always),
     }
 }
@@ -107,7 +225,7 @@ fn read_options(alloc: Global, value: &Value) -> Result<Items<Choice>, ShapeFaul
     ensures bad { result ≡ Err ShapeFault.Shape → options_at (view value.now) ≡ None }
 {
     match value.get("options") {
-        Some(options) => read_list(alloc, options),
+        Some(options) => read_list(alloc, Format::Plain, options),
         None => Ok(Items::new(alloc)),
     }
 }
@@ -183,9 +301,9 @@ fn read_flag(value: &Value, key: &str) -> Result<bool, ShapeFault>
 }
 
 impl Shaped for Field {
-    ghost shape = { field_of };
+    ghost shape = { field_by };
 
-    fn from_value(alloc: Global, value: &Value) -> Result<Field, ShapeFault> {
+    fn from_value(alloc: Global, format: Format, value: &Value) -> Result<Field, ShapeFault> {
         if !has_only(
             value,
             &[
@@ -199,7 +317,7 @@ impl Shaped for Field {
         let kind = read_kind(alloc, value)?;
         let required = read_flag(value, "required")?;
         let identity = read_flag(value, "identity")?;
-        let show = read_show(alloc, value)?;
+        let show = read_show(alloc, format, value)?;
         Ok(Field {
             id,
             label,
@@ -212,9 +330,9 @@ impl Shaped for Field {
 }
 
 impl Shaped for Step {
-    ghost shape = { step_of };
+    ghost shape = { step_by };
 
-    fn from_value(alloc: Global, value: &Value) -> Result<Step, ShapeFault> {
+    fn from_value(alloc: Global, format: Format, value: &Value) -> Result<Step, ShapeFault> {
         if size(value) != 2 {
             return Err(ShapeFault::Shape);
         }
@@ -222,7 +340,7 @@ impl Shaped for Step {
         match value.get("fields") {
             Some(fields) => Ok(Step {
                 title,
-                fields: read_list(alloc, fields)?,
+                fields: read_list(alloc, format, fields)?,
             }),
             None => Err(ShapeFault::Shape),
         }
@@ -230,15 +348,15 @@ impl Shaped for Step {
 }
 
 impl Shaped for Form {
-    ghost shape = { form_of };
+    ghost shape = { form_by };
 
-    fn from_value(alloc: Global, value: &Value) -> Result<Form, ShapeFault> {
+    fn from_value(alloc: Global, format: Format, value: &Value) -> Result<Form, ShapeFault> {
         if size(value) != 1 {
             return Err(ShapeFault::Shape);
         }
         match value.get("steps") {
             Some(steps) => Ok(Form {
-                steps: read_list(alloc, steps)?,
+                steps: read_list(alloc, format, steps)?,
             }),
             None => Err(ShapeFault::Shape),
         }

@@ -2,12 +2,13 @@
 ghost use Rattle.std.specs.Prelude.{◌≡◌, IfOk, Some, None, Err, Option};
 ghost use Rattle.serde_json.specs.Data.{Data};
 ghost use Rattle.serde_json.specs.View.{view, items_view};
+ghost use Rattle.wb_base.specs.declared.form.Format.{Format as FormatOf};
 ghost use Rattle.wb_base.specs.FormShape.{all_of, list_of};
 ghost use Rattle.wb_form.specs.declared.shaped.ShapeFault.TheVariants.{Memory as NoMemory};
 
 use serde_json::Value;
 use std::alloc::Global;
-use wb_base::Memory;
+use wb_base::{Format, Memory};
 use wb_list::Items;
 
 /// Why nothing was read.
@@ -29,35 +30,43 @@ impl From<Memory> for ShapeFault {
 
 /// What a JSON value may be built as.
 pub trait Shaped: Drop {
-    /// What a value is built as, if it is so built.
-    ghost shape: { Data → Option Self };
+    /// What a value is built as in a format, if it is so built.
+    ghost shape: { FormatOf → Data → Option Self };
 
     /// What the value is built as.
-    fn from_value(alloc: Global, value: &Value) -> Result<Self, ShapeFault>
+    fn from_value(alloc: Global, format: Format, value: &Value) -> Result<Self, ShapeFault>
     where
         Self: Sized,
-        ensures ok { IfOk result (λ x. shape (view value.now) ≡ Some x) }
-        ensures bad { result ≡ Err ShapeFault.Shape → shape (view value.now) ≡ None };
+        ensures ok { IfOk result (λ x. shape format (view value.now) ≡ Some x) }
+        ensures bad { result ≡ Err ShapeFault.Shape → shape format (view value.now) ≡ None };
 }
 
-fn read_all<T: Shaped>(alloc: Global, values: &Vec<Value>) -> Result<Items<T>, ShapeFault>
-    ensures ok { IfOk result (λ xs. all_of T.shape (items_view values.now.items) ≡ Some xs) }
-    ensures bad { result ≡ Err ShapeFault.Shape → all_of T.shape (items_view values.now.items) ≡ None }
+fn read_all<T: Shaped>(
+    alloc: Global,
+    format: Format,
+    values: &Vec<Value>,
+) -> Result<Items<T>, ShapeFault>
+    ensures ok { IfOk result (λ xs. all_of (T.shape format) (items_view values.now.items) ≡ Some xs) }
+    ensures bad { result ≡ Err ShapeFault.Shape → all_of (T.shape format) (items_view values.now.items) ≡ None }
 {
     let mut found = Items::new(alloc);
     for value in values {
-        found.push(T::from_value(alloc, value)?)?;
+        found.push(T::from_value(alloc, format, value)?)?;
     }
     Ok(found)
 }
 
 /// A list of values that are each so built.
-pub fn read_list<T: Shaped>(alloc: Global, value: &Value) -> Result<Items<T>, ShapeFault>
-    ensures ok { IfOk result (λ xs. list_of T.shape (view value.now) ≡ Some xs) }
-    ensures bad { result ≡ Err ShapeFault.Shape → list_of T.shape (view value.now) ≡ None }
+pub fn read_list<T: Shaped>(
+    alloc: Global,
+    format: Format,
+    value: &Value,
+) -> Result<Items<T>, ShapeFault>
+    ensures ok { IfOk result (λ xs. list_of (T.shape format) (view value.now) ≡ Some xs) }
+    ensures bad { result ≡ Err ShapeFault.Shape → list_of (T.shape format) (view value.now) ≡ None }
 {
     match value.as_array() {
-        Some(values) => read_all(alloc, values),
+        Some(values) => read_all(alloc, format, values),
         None => Err(ShapeFault::Shape),
     }
 }

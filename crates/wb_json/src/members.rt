@@ -63,6 +63,18 @@ pub fn put_null(map: &mut Map<String, Value>, alloc: Global, key: &str) -> Resul
     Ok(())
 }
 
+// A date as it is written.
+pub(crate) fn date_value(alloc: Global, day: Day) -> Result<Value, Memory>
+    ensures { IfOk result (λ value. view value ≡ date_data day) }
+{
+    let _days = day.days();
+    let bytes = date_text(day);
+    match str::from_utf8(bytes.as_slice()) {
+        Ok(text) => Ok(Value::try_from_str(alloc, text)?),
+        Err(_) => unreachable!(),
+    }
+}
+
 /// Puts a date.
 pub fn put_date(
     map: &mut Map<String, Value>,
@@ -73,12 +85,8 @@ pub fn put_date(
     ensures { OnOk result (members_view map.new.entries
         ≡ put key.now (date_data day) (members_view map.old.entries)) }
 {
-    let _days = day.days();
-    let bytes = date_text(day);
-    match str::from_utf8(bytes.as_slice()) {
-        Ok(text) => put_text(map, alloc, key, text),
-        Err(_) => unreachable!(),
-    }
+    let date = date_value(alloc, day)?;
+    put_value(map, alloc, key, date)
 }
 
 /// Puts a date, or null where there is none.

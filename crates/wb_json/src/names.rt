@@ -75,6 +75,7 @@ pub fn rights_value(alloc: Global, may: Rights) -> Result<Value, Memory>
     ensures { IfOk result (λ value. view value ≡ list_of string (right_names may)) }
 {
     let mut names = Items::new(alloc);
+    push_right(&mut names, alloc, may.delete, "delete")?;
     push_right(&mut names, alloc, may.postpone, "postpone")?;
     push_right(&mut names, alloc, may.share, "share")?;
     push_right(&mut names, alloc, may.transfer, "transfer")?;
@@ -113,7 +114,15 @@ pub fn role_named(name: &str) -> Option<Role>
 pub fn with_right(may: Rights, name: &str) -> Option<Rights>
     ensures { result ≡ right_added may name.now }
 {
-    if name == "postpone" {
+    if name == "delete" {
+        if may.delete {
+            return None;
+        }
+        Some(Rights {
+            delete: true,
+            ..may
+        })
+    } else if name == "postpone" {
         if may.postpone {
             return None;
         }

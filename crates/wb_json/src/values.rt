@@ -3,12 +3,12 @@ ghost use Rattle.std.specs.Prelude.{◌≡◌, IfOk};
 ghost use Rattle.serde_json.specs.Data.{Data, string};
 ghost use Rattle.serde_json.specs.View.{view};
 ghost use Rattle.wb_base.specs.declared.answers.Given.TheVariants as given;
-ghost use Rattle.wb_model.specs.Json.{list_of, whole, given_data, answers_data};
+ghost use Rattle.wb_model.specs.Json.{date, list_of, whole, given_data, answers_data};
 
-use crate::members::{put_text, put_value};
+use crate::members::{date_value, put_text, put_value};
 use serde_json::{Map, Value};
 use std::alloc::Global;
-use wb_base::{Given, Memory, Text, UserId};
+use wb_base::{Day, Given, Memory, Text, UserId};
 
 /// What has a JSON value.
 pub trait Showing {
@@ -32,6 +32,14 @@ impl Showing for UserId {
 
     fn value(&self, _alloc: Global) -> Result<Value, Memory> {
         Ok(Value::from(self.id()))
+    }
+}
+
+impl Showing for Day {
+    ghost json = { date };
+
+    fn value(&self, alloc: Global) -> Result<Value, Memory> {
+        date_value(alloc, *self)
     }
 }
 

@@ -6,7 +6,7 @@ use Rattle.std.proofs.lemmas.Bool.Decides.{nat_tests}
 use Rattle.wb_model.specs.declared.event.What.{What}
 use Rattle.wb_model.specs.declared.event.What.TheVariants.{Did, Gap, Idle, Lost}
 use Rattle.wb_model.specs.ByVerdicts.{AreByVerdicts}
-use Rattle.wb_model.specs.Legal.{AreLegal}
+use Rattle.wb_model.specs.Legal.{AreLegal, reckoning}
 use Rattle.wb_model.specs.Opened.{AreOpened, Opened, entries_of}
 use Rattle.wb_model.specs.Openings.{empty_tables, no_settings}
 use Rattle.wb_model.specs.Past.{Past, Opening, Turn, now, registry, held}
@@ -24,7 +24,7 @@ abbrev pub OpensLaw : Past AllOpened → Type 0
 OpensLaw past = (t : ℕ) → AreOpened (left_time past) (left_tables past t)
 
 abbrev pub HeldLaw : Type 0
-HeldLaw = (t : ℕ) (past : Past Opened) → AreByVerdicts t past → AreLegal (registry past).settings.offset (now past) (held past).plain.cases
+HeldLaw = (t : ℕ) (past : Past Opened) → AreByVerdicts t past → AreLegal (reckoning (registry past).settings) (now past) (held past).plain.cases
 
 held_registry : (past : Past Opened) → (held past).plain.registry ≡ registry past
 held_registry (Opening o) = refl
@@ -48,8 +48,8 @@ module _ (past : Past AllOpened) (verdicts : (t : ℕ) → AreByVerdicts t (part
   whole_at : (t : ℕ) → has_tenant past t ≡ true → IsWholeAt (time past) (held_tenancy past t)
   whole_at t there = record {
     legal =
-        subst (λ n. AreLegal (held (part t past)).plain.registry.settings.offset n (held (part t past)).plain.cases) (part_time t past)
-        (subst (λ g. AreLegal g.settings.offset (now (part t past)) (held (part t past)).plain.cases) (sym (held_registry (part t past))) (legal t (part t past) (verdicts t)));
+        subst (λ n. AreLegal (reckoning (held (part t past)).plain.registry.settings) n (held (part t past)).plain.cases) (part_time t past)
+        (subst (λ g. AreLegal (reckoning g.settings) (now (part t past)) (held (part t past)).plain.cases) (sym (held_registry (part t past))) (legal t (part t past) (verdicts t)));
     sealed = marks_of t there;
   }
 

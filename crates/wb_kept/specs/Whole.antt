@@ -1,7 +1,7 @@
 -- What holds of a host between any two turns.
 use Rattle.std.specs.Prelude.{◌≡◌, ℕ, ◌+◌, List, [], ◌∷◌, is_some}
 use Rattle.wb_model.specs.Drawn.{numbers_of}
-use Rattle.wb_model.specs.Legal.{AreLegal}
+use Rattle.wb_model.specs.Legal.{AreLegal, reckoning}
 use Rattle.wb_model.specs.Opened.{entries_of}
 use Rattle.wb_model.specs.Tables.{report}
 use Rattle.wb_model.specs.Tenants.{Tenancy}
@@ -12,7 +12,7 @@ use Rattle.wb_kept.specs.Hosted.{Hosted}
 
 -- a tenant's trails are legal at a moment, and identity answers stand exactly where its reports' trails say that some were given
 pub record IsWholeAt (now : ℕ) (x : Tenancy) : Type 0 where
-  pub legal : AreLegal x.tables.plain.registry.settings.offset now x.tables.plain.cases
+  pub legal : AreLegal (reckoning x.tables.plain.registry.settings) now x.tables.plain.cases
   pub sealed : (r : ℕ) → is_some (x.tables.sealed r) ≡ has_identity (entries_of (report r x.tables.plain.cases))
 
 abbrev pub AreWhole : ℕ → List Tenancy → Type 0

@@ -13,8 +13,8 @@ use Rattle.wb_base.specs.declared.answers.Given.{Given}
 use Rattle.wb_base.specs.declared.answers.Given.TheVariants as given
 use Rattle.wb_model.specs.Bodies.{answer, answers, entries}
 use Rattle.wb_model.specs.Json.{members_of, given_data, answers_data}
-use Rattle.wb_model.specs.SetUps.{are_ordered}
-use Rattle.wb_kinds.specs.Good.{is_answer, is_id_before, are_answers}
+use Rattle.wb_model.specs.Ordered.{are_ordered}
+use Rattle.wb_model.specs.AnswerRanges.{is_answer, is_id_before, are_answers}
 use Rattle.wb_kinds.proofs.BackValues.{texts-back}
 use Rattle.wb_kinds.proofs.Canonical.{IsBefore, IsWithin, MembersAreWithin, within-any, within-flag, within-members, within-none, within-number, within-object, within-put, within-string}
 

@@ -1,5 +1,5 @@
 -- An entry whose values are in their ranges is read of the object that shows it.
-use Rattle.std.proofs.Common.{◌≡◌, ℕ, ◌<◌, ◌^◌, suc, true, List, [], ◌∷◌, ◌++◌, Option, Some, None, ℤ, codes, refl, ap, ◌∙◌, arith}
+use Rattle.std.proofs.Common.{◌≡◌, ℕ, ◌<◌, ◌^◌, suc, true, List, ◌∷◌, ◌++◌, Option, Some, None, ℤ, codes, refl, ap, ◌∙◌, arith}
 use Rattle.std.proofs.lemmas.Bool.{and_parts, leb-true, ne_eqb}
 use Rattle.std.specs.Prelude.{◌&&◌, nat_le, option_map, option_and_then}
 use Rattle.hex.specs.Hex.{encode_lower}
@@ -16,11 +16,13 @@ use Rattle.wb_model.specs.Fits.{is_between, has_bytes}
 use Rattle.wb_model.specs.Json.{Member, date, list_of, or_null, whole as whole_data}
 use Rattle.wb_model.specs.Names.{status_name}
 use Rattle.wb_model.specs.Rows.{deed_keys, entry_data}
-use Rattle.wb_kinds.specs.Good.{is_actor, is_count, is_dated, is_deed, is_entry, is_moment, is_withheld, are_answers, are_bytes, are_users}
+use Rattle.wb_model.specs.AnswerRanges.{are_answers}
+use Rattle.wb_model.specs.Readable.{are_bytes, is_count, is_withheld}
+use Rattle.wb_kinds.specs.Good.{is_actor, is_dated, is_deed, is_entry, is_moment, are_users}
 use Rattle.wb_kinds.specs.SaidDeeds.{actor, deed, entry, withheld}
 use Rattle.wb_kinds.proofs.BackAnswers.{answers-back, within-answers}
 use Rattle.wb_kinds.proofs.BackValues.{bytes-back, day-back, most-back, status-back, text-back, users-back, whole-back}
-use Rattle.wb_kinds.proofs.Canonical.{AreWithin, IsWithin, within-flag, within-list, within-null, within-number, within-object, within-string}
+use Rattle.wb_kinds.proofs.Canonical.{AreWithin, IsWithin, within-append, within-flag, within-list, within-null, within-number, within-object, within-string}
 
 -- ---- what is read
 
@@ -69,6 +71,9 @@ module _ (time : ℕ) (who : Actor) where
       let a = and_parts (is_between 1 64 context) (are_users readers) is in
       record { at = refl; by = refl; deed = rw (whole-back 1 64 context a.0, users-back readers a.1) refl }
   shown (deeds.Postponed expires) is = record { at = refl; by = refl; deed = rw (day-back expires is) refl }
+  shown (deeds.Extended feedback_due reason) is =
+      let a = and_parts (is_dated feedback_due) (has_bytes 1 1_024 reason) is in
+      record { at = refl; by = refl; deed = rw (day-back feedback_due a.0, text-back 1 1_024 reason a.1) refl }
   shown (deeds.Asked reason stamp) is =
       let a = and_parts (has_bytes 1 1_024 reason) (nat_le stamp 10_000) is in
       record { at = refl; by = refl; deed = rw (text-back 1 1_024 reason a.0, most-back 10_000 stamp a.1) refl }
@@ -120,11 +125,7 @@ within-why : (n : ℕ) (why : Option (List ℕ)) → IsWithin n (or_null string 
 within-why n None = within-null n
 within-why n (Some text) = within-string n text
 
-within-append : (n : ℕ) (xs ys : List Member) → AreWithin n xs → AreWithin n ys → AreWithin n (xs ++ ys)
-within-append n [] ys a b = b
-within-append n (x ∷ xs) ys a b = (a.0, within-append n xs ys a.1 b)
-
-within-date : (n : ℕ) (day : ℤ) → IsWithin n (date day)
+pub within-date : (n : ℕ) (day : ℤ) → IsWithin n (date day)
 within-date n day = (tt, omega arith)
 
 -- the keys of a deed
@@ -161,6 +162,7 @@ within-keys (deeds.Transferred context readers) is =
     let a = and_parts (is_between 1 64 context) (are_users readers) is in
     record { first = tt; between = (within-between 2 1 64 context a.0 (omega arith), tt); last = (within-users 1 readers a.1, tt) }
 within-keys (deeds.Postponed expires) is = record { first = tt; between = tt; last = (within-date 2 expires, tt) }
+within-keys (deeds.Extended feedback_due reason) is = record { first = tt; between = tt; last = (within-date 2 feedback_due, (within-string 2 reason, tt)) }
 within-keys (deeds.Asked reason stamp) is =
     let a = and_parts (has_bytes 1 1_024 reason) (nat_le stamp 10_000) is in
     record { first = tt; between = tt; last = (within-string 2 reason, (within-count 2 10_000 stamp a.1 (omega arith), tt)) }

@@ -13,7 +13,7 @@ use Rattle.serde_json.specs.View.{items_of}
 use Rattle.wb_base.specs.AnswerList.{is_text}
 use Rattle.wb_base.specs.DateTexts.{date_text, read_date}
 use Rattle.wb_base.specs.Days.{date_at}
-use Rattle.wb_base.specs.FormShape.{all_of}
+use Rattle.wb_base.specs.FormShape.{all_of, list_of as list_read}
 use Rattle.wb_base.specs.declared.callers.Role.{Role}
 use Rattle.wb_base.specs.declared.callers.Role.TheVariants as roles
 use Rattle.wb_model.specs.declared.entry.Status.{Status}
@@ -25,8 +25,9 @@ use Rattle.wb_model.specs.Json.{date, list_of, whole as whole_data}
 use Rattle.wb_model.specs.Names.{role_name, right_names, status_name}
 use Rattle.wb_model.proofs.Receipts.{same_text}
 use Rattle.wb_terms.proofs.ReadBack.{read_date-date_text}
-use Rattle.wb_kinds.specs.Good.{is_byte, are_bytes, are_users, is_dated}
-use Rattle.wb_kinds.specs.Shapes.{bytes, day, users}
+use Rattle.wb_model.specs.Readable.{is_byte, are_bytes, are_dates, is_date}
+use Rattle.wb_kinds.specs.Good.{are_users, is_dated}
+use Rattle.wb_kinds.specs.Shapes.{bytes, date as date_read, day, users}
 
 -- ---- texts and numbers
 
@@ -90,6 +91,14 @@ other_text d reads = by (is_text (date_text d) (codes "1969-12-31")) refl
 at_least : (a b : ℤ) → int_le a b ≡ true → a ≤ℤ b
 at_least a b le = grind (arith, ints, le)
 
+pub date-back : (d : ℤ) → is_date d ≡ true → date_read (date d) ≡ Some d
+date-back d is =
+    let parts = and_parts (int_le (pos 0) d) (int_le d (pos 1_179_732)) is in
+    read_date-date_text d (at_least (pos 0) d parts.0) (at_least d (pos 1_179_732) parts.1)
+
+pub dates-back : (ds : List ℤ) → are_dates ds ≡ true → list_read date_read (list_of date ds) ≡ Some ds
+dates-back ds are = items-back date_read date is_date date-back ds are
+
 from_first : (d : ℤ) → int_le (neg_ℤ (pos 1)) d ≡ true → int_le d (pos 1_179_732) ≡ true → day (date d) ≡ Some d
 from_first (pos n) low high =
     let reads = read_date-date_text (pos n) (at_least (pos 0) (pos n) (le-leb 0 n (omega arith))) (at_least (pos n) (pos 1_179_732) high) in
@@ -113,18 +122,26 @@ status-back statuses.New is = absurd (false≢true is)
 status-back statuses.Opened is = refl
 status-back statuses.Closed is = refl
 
-abbrev these : Bool → Bool → Bool → Rights
-these p s t = record { postpone = p; share = s; transfer = t }
+abbrev these : Bool → Bool → Bool → Bool → Rights
+these d p s t = record { delete = d; postpone = p; share = s; transfer = t }
 
-rights_back : (p s t : Bool) → rights (list_of string (right_names (these p s t))) ≡ Some (these p s t)
-rights_back true true true = refl
-rights_back true true false = refl
-rights_back true false true = refl
-rights_back true false false = refl
-rights_back false true true = refl
-rights_back false true false = refl
-rights_back false false true = refl
-rights_back false false false = refl
+rights_back : (d p s t : Bool) → rights (list_of string (right_names (these d p s t))) ≡ Some (these d p s t)
+rights_back true true true true = refl
+rights_back true true true false = refl
+rights_back true true false true = refl
+rights_back true true false false = refl
+rights_back true false true true = refl
+rights_back true false true false = refl
+rights_back true false false true = refl
+rights_back true false false false = refl
+rights_back false true true true = refl
+rights_back false true true false = refl
+rights_back false true false true = refl
+rights_back false true false false = refl
+rights_back false false true true = refl
+rights_back false false true false = refl
+rights_back false false false true = refl
+rights_back false false false false = refl
 
 pub rights-back : (may : Rights) → rights (list_of string (right_names may)) ≡ Some may
-rights-back may = rights_back may.postpone may.share may.transfer
+rights-back may = rights_back may.delete may.postpone may.share may.transfer

@@ -1,5 +1,5 @@
 -- JSON values that their compact text gives back: whole numbers of 64 bits, keys that ascend, and no deeper than a number of levels.
-use Rattle.std.proofs.Common.{◌≡◌, ℕ, ◌^◌, ◌<◌, ◌≤◌, suc, Bool, true, List, [], ◌∷◌, map, pos, negsuc, refl, ap, ◌∙◌, arith}
+use Rattle.std.proofs.Common.{◌≡◌, ℕ, ◌^◌, ◌<◌, ◌≤◌, suc, Bool, true, false, List, [], ◌∷◌, ◌++◌, map, pos, negsuc, refl, ap, ◌∙◌, arith}
 use Rattle.std.specs.Prelude.{⊤}
 use Rattle.std.specs.List.{list_all}
 use Rattle.std.specs.Ordering.{nat_cmp, ordering_reverse}
@@ -12,6 +12,7 @@ use Rattle.std.proofs.lemmas.Cmp.{nat_list_cmp_total}
 use Rattle.serde_json.specs.Data.{Num, unsigned, negative, float, Data, null, boolean, number, string, array, object, Items, no_items, item, Members, no_members, member, put, depth, items_depth, members_depth}
 use Rattle.serde_json.specs.View.{items_of}
 use Rattle.wb_model.specs.Json.{Member, members_of, object_of, list_of}
+use Rattle.wb_model.specs.Rows.{only_where}
 
 abbrev pub IsWhole : Num → Type 0
 IsWhole (unsigned n) = n < 2 ^ 64
@@ -112,6 +113,15 @@ within-members n ms are = (are.0, omega (arith, are.1))
 abbrev pub AreWithin : ℕ → List Member → Type 0
 AreWithin n [] = ⊤
 AreWithin n (m ∷ ms) = IsWithin n m.1 × AreWithin n ms
+
+pub within-append : (n : ℕ) (xs ys : List Member) → AreWithin n xs → AreWithin n ys → AreWithin n (xs ++ ys)
+within-append n [] ys a b = b
+within-append n (x ∷ xs) ys a b = (a.0, within-append n xs ys a.1 b)
+
+-- a member that stands only where it is another than the default
+pub within-where : (n : ℕ) (is_other : Bool) (m : Member) → IsWithin n m.1 → AreWithin n (only_where is_other m)
+within-where n true m own = (own, tt)
+within-where n false m own = tt
 
 pub all-put : (n : ℕ) (ms : List Member) → AreWithin n ms → MembersAreWithin n (members_of ms)
 all-put n [] are = within-none n

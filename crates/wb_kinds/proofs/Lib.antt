@@ -6,4 +6,5 @@ mod RoundTrip
 mod BackValues
 mod BackAnswers
 mod BackEntries
+mod BackSettings
 pub mod GoodRows

@@ -10,7 +10,11 @@ use Rattle.wb_model.specs.declared.entry.Entry.{Entry}
 use Rattle.wb_model.specs.declared.numbering.Numbering.{Numbering}
 use Rattle.wb_model.specs.Access.{user_by}
 use Rattle.wb_model.specs.Json.{Member, whole}
-use Rattle.wb_model.specs.Rows.{numbering_data, deed_keys, entry_data}
+use Rattle.wb_model.specs.Rows.{format_data, numbering_data, deed_keys, entry_data}
+
+pub in-format : has_float format_data ≡ false
+unfolding format_data
+in-format = refl
 
 pub in-numbering : (n : Numbering) → has_float (numbering_data n) ≡ false
 unfolding numbering_data
@@ -18,37 +22,13 @@ in-numbering n = refl
 
 first_plain : (d : Deed) → ArePlain (deed_keys d).first
 first_plain (deeds.Submitted ack_due answers context expires feedback_due form mark readers receipt received version) = (refl, (in-answers answers, tt))
-first_plain deeds.Identity = tt
-first_plain (deeds.Comment internal text) = tt
-first_plain (deeds.Label text) = tt
-first_plain (deeds.SetStatus status) = tt
-first_plain (deeds.Acknowledged day feedback_due) = tt
-first_plain (deeds.Feedback text) = tt
-first_plain (deeds.Shared user) = tt
-first_plain (deeds.Unshared user) = tt
-first_plain (deeds.Transferred context readers) = tt
-first_plain (deeds.Postponed expires) = tt
-first_plain (deeds.Asked reason stamp) = tt
-first_plain (deeds.Granted effective reason request withheld) = tt
-first_plain (deeds.Denied reason request) = tt
-first_plain (deeds.Revoked reason request) = tt
+first_plain _ = tt
 
 between_plain : (d : Deed) → ArePlain (deed_keys d).between
 between_plain (deeds.Submitted ack_due answers context expires feedback_due form mark readers receipt received version) = (refl, tt)
-between_plain deeds.Identity = tt
-between_plain (deeds.Comment internal text) = tt
-between_plain (deeds.Label text) = tt
-between_plain (deeds.SetStatus status) = tt
 between_plain (deeds.Acknowledged day feedback_due) = (refl, tt)
-between_plain (deeds.Feedback text) = tt
-between_plain (deeds.Shared user) = tt
-between_plain (deeds.Unshared user) = tt
 between_plain (deeds.Transferred context readers) = (refl, tt)
-between_plain (deeds.Postponed expires) = tt
-between_plain (deeds.Asked reason stamp) = tt
-between_plain (deeds.Granted effective reason request withheld) = tt
-between_plain (deeds.Denied reason request) = tt
-between_plain (deeds.Revoked reason request) = tt
+between_plain _ = tt
 
 last_plain : (d : Deed) → ArePlain (deed_keys d).last
 last_plain (deeds.Submitted ack_due answers context expires feedback_due form mark readers receipt received version) =
@@ -63,6 +43,7 @@ last_plain (deeds.Shared user) = (refl, tt)
 last_plain (deeds.Unshared user) = (refl, tt)
 last_plain (deeds.Transferred context readers) = (in-list whole (λ n. refl) readers, tt)
 last_plain (deeds.Postponed expires) = (refl, tt)
+last_plain (deeds.Extended feedback_due reason) = (refl, (refl, tt))
 last_plain (deeds.Asked reason stamp) = (refl, (refl, tt))
 last_plain (deeds.Granted effective reason request withheld) = (refl, (refl, (refl, (in-or_null string (λ text. refl) withheld, tt))))
 last_plain (deeds.Denied reason request) = (refl, (refl, tt))

@@ -1,41 +1,27 @@
 -- Which items are good: each value is in its range. Their rows are those that are read.
-use Rattle.std.specs.Prelude.{ℕ, ◌==◌, ◌&&◌, nat_le, nat_lt, Bool, true, List, length, Option, Some, None, ℤ, pos, neg_ℤ}
+use Rattle.std.specs.Prelude.{ℕ, ◌&&◌, nat_le, Bool, true, List, ℤ, pos, neg_ℤ}
 use Rattle.std.specs.List.{list_all}
-use Rattle.std.specs.Ordering.{is_lt, nat_cmp}
-use Rattle.std.specs.Cmp.Lexicographic.{slice_cmp}
-use Rattle.wb_base.specs.AnswerList.{Answered}
-use Rattle.wb_base.specs.declared.answers.Given.{Given}
-use Rattle.wb_base.specs.declared.answers.Given.TheVariants as given
 use Rattle.wb_model.specs.declared.entry.Actor.{Actor}
 use Rattle.wb_model.specs.declared.entry.Actor.TheVariants as actors
 use Rattle.wb_model.specs.declared.entry.Deed.{Deed}
 use Rattle.wb_model.specs.declared.entry.Deed.TheVariants as deeds
 use Rattle.wb_model.specs.declared.entry.Entry.{Entry as EntryData}
 use Rattle.wb_model.specs.declared.numbering.Numbering.{Numbering as NumberingData}
-use Rattle.wb_model.specs.Fits.{is_between, has_bytes, is_given, is_settable}
-use Rattle.wb_model.specs.SetUps.{is_tenant_item, is_user_item, is_form_item, is_context_item, are_ordered}
+use Rattle.wb_model.specs.AnswerRanges.{are_answers}
+use Rattle.wb_model.specs.Fits.{is_between, has_bytes, is_settable}
+use Rattle.wb_model.specs.Readable.{are_bytes, is_count, is_stored_tenant, is_withheld}
+use Rattle.wb_model.specs.SetUps.{is_tenant_item, is_user_item, is_form_item, is_context_item}
 use Rattle.wb_kinds.specs.declared.item.Item.{Item}
 use Rattle.wb_kinds.specs.declared.item.Item.TheVariants.{Settings, Numbering, User, Form, Context, Entry, Sealed}
 use Rattle.wb_kinds.specs.Shapes.{is_within}
 
 -- ---- values
 
-abbrev pub is_byte : ℕ → Bool
-is_byte c = nat_lt c 256
-
--- so many bytes
-abbrev pub are_bytes : ℕ → List ℕ → Bool
-are_bytes n xs = (length xs == n) && list_all is_byte xs
-
 abbrev pub is_tenant : ℕ → Bool
 is_tenant t = is_between 1 64 t
 
 abbrev pub are_users : List ℕ → Bool
 are_users users = list_all (is_between 1 256) users
-
--- a number of 32 bits
-abbrev pub is_count : ℕ → Bool
-is_count n = nat_le n 4_294_967_295
 
 abbrev pub is_moment : ℕ → Bool
 is_moment at = nat_le at 99_999_999_999
@@ -44,31 +30,11 @@ is_moment at = nat_le at 99_999_999_999
 abbrev pub is_dated : ℤ → Bool
 is_dated day = is_within (neg_ℤ (pos 1)) (pos 1_179_732) day
 
--- ---- answers
-
-abbrev pub is_answer : Given → Bool
-is_answer (given.Text text) = is_given (given.Text text)
-is_answer (given.List texts) = true
-is_answer (given.Flag flag) = true
-is_answer (given.Whole z) = is_within (neg_ℤ (pos 9_223_372_036_854_775_808)) (pos 9_223_372_036_854_775_807) z
-is_answer (given.File name content) = true
-
-abbrev pub is_id_before : List ℕ × Given → List ℕ × Given → Bool
-is_id_before x y = is_lt (slice_cmp nat_cmp x.0 y.0)
-
--- each answer is one, and the ids of their fields ascend in byte order
-abbrev pub are_answers : Answered → Bool
-are_answers answers = list_all (λ entry. is_answer entry.1) answers && are_ordered is_id_before answers
-
 -- ---- entries
 
 abbrev pub is_actor : Actor → Bool
 is_actor actors.Reporter = true
 is_actor (actors.User u) = is_between 1 256 u
-
-abbrev pub is_withheld : Option (List ℕ) → Bool
-is_withheld None = true
-is_withheld (Some text) = has_bytes 1 1_024 text
 
 abbrev pub is_deed : Deed → Bool
 is_deed (deeds.Submitted ack_due answers context expires feedback_due form mark readers receipt received version) =
@@ -83,6 +49,7 @@ is_deed (deeds.Shared user) = is_between 1 256 user
 is_deed (deeds.Unshared user) = is_between 1 256 user
 is_deed (deeds.Transferred context readers) = is_between 1 64 context && are_users readers
 is_deed (deeds.Postponed expires) = is_dated expires
+is_deed (deeds.Extended feedback_due reason) = is_dated feedback_due && has_bytes 1 1_024 reason
 is_deed (deeds.Asked reason stamp) = has_bytes 1 1_024 reason && nat_le stamp 10_000
 is_deed (deeds.Granted effective reason request withheld) = nat_le effective 100_002_591_999 && has_bytes 1 1_024 reason && is_count request && is_withheld withheld
 is_deed (deeds.Denied reason request) = has_bytes 1 1_024 reason && is_count request
@@ -97,7 +64,7 @@ abbrev pub is_numbering : NumberingData → Bool
 is_numbering n = is_moment n.at && is_count n.drawn && is_count n.last
 
 abbrev pub is_good : Item → Bool
-is_good (Settings x) = is_tenant_item x && are_bytes 16 x.salt.0
+is_good (Settings x) = is_tenant_item x && is_stored_tenant x
 is_good (Numbering x) = is_tenant x.tenant && is_numbering x.numbering
 is_good (User x) = is_tenant x.tenant && is_user_item x && are_bytes 32 x.secret.0
 is_good (Form x) = is_tenant x.tenant && is_form_item x

@@ -1,5 +1,5 @@
 -- The entry of a trail that a JSON object stands for, deed by deed, each value in its range.
-use Rattle.std.specs.Prelude.{ℕ, ◌==◌, if◌then◌else◌, List, codes, Option, Some, None, option_map, option_and_then}
+use Rattle.std.specs.Prelude.{ℕ, ◌==◌, if◌then◌else◌, List, [], ◌∷◌, codes, Option, Some, None, option_map, option_and_then}
 use Rattle.serde_json.specs.Data.{Data, null, string}
 use Rattle.serde_json.specs.Find.{as_str, as_bool}
 use Rattle.wb_base.specs.AnswerList.{is_text}
@@ -10,6 +10,17 @@ use Rattle.wb_model.specs.declared.entry.Deed.TheVariants as deeds
 use Rattle.wb_model.specs.declared.entry.Entry.{Entry}
 use Rattle.wb_model.specs.Bodies.{under, text, whole, answers, status}
 use Rattle.wb_kinds.specs.Shapes.{digest, day, users}
+
+-- ---- deeds by their names
+
+-- a deed's name, and how its object is read
+abbrev pub Reader : Type 0
+Reader = List ℕ × (Data → Option Deed)
+
+-- the deed of a name, where one of these has it
+abbrev pub by_name : List Reader → List ℕ → Data → Option Deed
+by_name [] name d = None
+by_name (r ∷ rs) name d = if is_text name r.0 then r.1 d else by_name rs name d
 
 -- ---- deeds of requests for the identity
 
@@ -32,13 +43,8 @@ denied d = option_and_then (λ reason. option_map (λ request. deeds.Denied reas
 abbrev pub revoked : Data → Option Deed
 revoked d = option_and_then (λ reason. option_map (λ request. deeds.Revoked reason request) (under (codes "request") (whole 0 4_294_967_295) d)) (under (codes "reason") (text 1 1_024) d)
 
-abbrev pub request_deed : List ℕ → Data → Option Deed
-request_deed name d =
-    if is_text name (codes "asked") then asked d
-    else if is_text name (codes "granted") then granted d
-    else if is_text name (codes "denied") then denied d
-    else if is_text name (codes "revoked") then revoked d
-    else None
+abbrev pub request_deeds : List Reader
+request_deeds = (codes "asked", asked) ∷ (codes "granted", granted) ∷ (codes "denied", denied) ∷ (codes "revoked", revoked) ∷ []
 
 -- ---- deeds of its follow-up
 
@@ -60,15 +66,13 @@ transferred d = option_and_then (λ context. option_map (λ readers. deeds.Trans
 abbrev pub postponed : Data → Option Deed
 postponed d = option_map (λ expires. deeds.Postponed expires) (under (codes "expires") day d)
 
-abbrev pub follow_deed : List ℕ → Data → Option Deed
-follow_deed name d =
-    if is_text name (codes "acknowledged") then acknowledged d
-    else if is_text name (codes "feedback") then feedback d
-    else if is_text name (codes "shared") then shared d
-    else if is_text name (codes "unshared") then unshared d
-    else if is_text name (codes "transferred") then transferred d
-    else if is_text name (codes "postponed") then postponed d
-    else request_deed name d
+abbrev pub extended : Data → Option Deed
+extended d = option_and_then (λ feedback_due. option_map (λ reason. deeds.Extended feedback_due reason) (under (codes "reason") (text 1 1_024) d)) (under (codes "feedback_due") day d)
+
+abbrev pub follow_deeds : List Reader
+follow_deeds =
+    (codes "acknowledged", acknowledged) ∷ (codes "feedback", feedback) ∷ (codes "shared", shared) ∷ (codes "unshared", unshared) ∷
+    (codes "transferred", transferred) ∷ (codes "postponed", postponed) ∷ (codes "extended", extended) ∷ request_deeds
 
 -- ---- deeds of a report's life, and each deed by its name
 
@@ -86,19 +90,16 @@ label d = option_map (λ said. deeds.Label said) (under (codes "text") (text 0 6
 abbrev pub set_status : Data → Option Deed
 set_status d = option_map (λ s. deeds.SetStatus s) (under (codes "status") status d)
 
-abbrev pub deed_named : List ℕ → Data → Option Deed
-deed_named name d =
-    if is_text name (codes "submitted") then submitted d
-    else if is_text name (codes "identity") then Some deeds.Identity
-    else if is_text name (codes "comment") then comment d
-    else if is_text name (codes "label") then label d
-    else if is_text name (codes "status") then set_status d
-    else follow_deed name d
+abbrev pub identity : Data → Option Deed
+identity d = Some deeds.Identity
+
+abbrev pub all_deeds : List Reader
+all_deeds = (codes "submitted", submitted) ∷ (codes "identity", identity) ∷ (codes "comment", comment) ∷ (codes "label", label) ∷ (codes "status", set_status) ∷ follow_deeds
 
 -- ---- the entry
 
 abbrev pub deed : Data → Option Deed
-deed d = option_and_then (λ name. deed_named name d) (under (codes "deed") as_str d)
+deed d = option_and_then (λ name. by_name all_deeds name d) (under (codes "deed") as_str d)
 
 -- who acts: 0 is the reporter, else it is a user's id
 abbrev pub actor : ℕ → Actor

@@ -1,31 +1,27 @@
 //! Answers in a row: an object from field id to answer.
 ghost use Rattle.std.specs.Prelude.{◌≡◌, ◌++◌, [], OnOk};
 ghost use Rattle.serde_json.specs.Find.{as_str};
-ghost use Rattle.serde_json.specs.View.{view, items_view, members_view};
-ghost use Rattle.wb_base.specs.FormShape.{all_of};
+ghost use Rattle.serde_json.specs.View.{view, members_view};
 ghost use Rattle.wb_model.specs.Bodies.{under, answer, file as file_of, entries as entries_of, answers as answers_of, with_entry};
 ghost use Rattle.wb_bodies.specs.Entries.{AreBelow};
 ghost use Rattle.wb_kinds.specs.Gives.{Gives};
 
+use crate::parts::{Part, read_all};
 use crate::row_no::RowNo;
 use serde_json::{Map, Value};
 use std::alloc::Global;
 use wb_base::{Answers, Given, Memory, Text};
 use wb_form::size;
-use wb_list::Items;
 
-// The texts of a list.
-fn read_texts(alloc: Global, values: &Vec<Value>) -> Result<Items<Text>, RowNo>
-    ensures { Gives (all_of as_str (items_view values.now.items)) result }
-{
-    let mut texts = Items::new(alloc);
-    for value in values {
+impl Part for Text {
+    ghost reading = { as_str };
+
+    fn read(alloc: Global, value: &Value) -> Result<Text, RowNo> {
         match value.as_str() {
-            Some(text) => texts.push(Text::from_str(alloc, text)?)?,
-            None => return Err(RowNo::Other),
+            Some(text) => Ok(Text::from_str(alloc, text)?),
+            None => Err(RowNo::Other),
         }
     }
-    Ok(texts)
 }
 
 // The text under a key of a file.
@@ -71,7 +67,7 @@ fn read_answer(alloc: Global, value: &Value) -> Result<Option<Given>, RowNo>
                 Ok(Some(Given::Text(Text::from_str(alloc, text.as_str())?)))
             }
         }
-        Value::Array(values) => Ok(Some(Given::List(read_texts(alloc, values)?))),
+        Value::Array(values) => Ok(Some(Given::List(read_all(alloc, values)?))),
         Value::Object(_) => Ok(Some(read_file(alloc, value)?)),
     }
 }

@@ -1,18 +1,20 @@
 //! Contexts and forms of a tenant, as rows have them.
 ghost use Rattle.std.specs.Prelude.{◌≡◌, ◌≤◌, IfOk, true, length};
 ghost use Rattle.serde_json.specs.View.{view};
+ghost use Rattle.wb_base.specs.FormFaults.{is_good};
 ghost use Rattle.wb_model.specs.Bodies.{under};
 ghost use Rattle.wb_model.specs.Legal.{are_readers as readers_test, ascends, ascends_from};
 ghost use Rattle.wb_model.specs.SetUps.{is_context_item, is_form_item};
-ghost use Rattle.wb_kinds.specs.Shapes.{recipients as recipients_of, context as context_of, form as form_by};
+ghost use Rattle.wb_kinds.specs.Shapes.{recipients as recipients_of, context as context_of, form as form_of, good_form, is_in_format as in_format};
 ghost use Rattle.wb_kinds.specs.Gives.{Gives};
 
-use crate::members::{flag_under, read_users, text_under, whole_under};
+use crate::members::{flag_under, text_under, whole_under};
+use crate::parts::read_list;
 use crate::row_no::RowNo;
 use serde_json::Value;
 use std::alloc::Global;
-use wb_base::{Form, FormFault, Tenant, UserId};
-use wb_form::FormText;
+use wb_base::{Form, FormFault, Format, Tenant, UserId};
+use wb_form::{FormText, has_score};
 use wb_list::Items;
 use wb_model::{ContextItem, FormItem};
 
@@ -55,7 +57,7 @@ fn recipients_under(alloc: Global, value: &Value, key: &str) -> Result<Items<Use
     let Some(found) = value.get(key) else {
         return Err(RowNo::Other);
     };
-    let users = read_users(alloc, found)?;
+    let users: Items<UserId> = read_list(alloc, found)?;
     if are_readers(users.as_slice()) {
         Ok(users)
     } else {
@@ -91,9 +93,37 @@ pub fn read_context(
     })
 }
 
+// The good form that a value is.
+fn read_good(alloc: Global, format: Format, value: &Value) -> Result<Form, RowNo>
+    ensures form { Gives (good_form format (view value.now)) result }
+    ensures good { IfOk result (λ x. is_good x ≡ true) }
+{
+    match Form::read_as(alloc, format, value) {
+        Ok(form) => Ok(form),
+        Err(fault) => {
+            if fault.code == FormFault::MEMORY {
+                Err(RowNo::Memory)
+            } else {
+                Err(RowNo::Other)
+            }
+        }
+    }
+}
+
+// Whether rows of the format have the form.
+fn is_in_format(format: Format, form: &Form) -> bool
+    ensures { result ≡ in_format format form.now }
+{
+    match format {
+        Format::Plain => !has_score(form),
+        Format::Weighed => true,
+    }
+}
+
 /// The version of a form that a value is, where the form is good.
 pub fn read_version(
     alloc: Global,
+    format: Format,
     tenant: Tenant,
     id: u32,
     version: u32,
@@ -103,22 +133,17 @@ pub fn read_version(
     requires high { id ≤ 16 }
     requires first { 1 ≤ version }
     requires last { version ≤ 99 }
-    ensures form { Gives (form_by tenant id version (view value.now)) result }
+    ensures form { Gives (form_of format tenant id version (view value.now)) result }
     ensures fits { IfOk result (λ x. is_form_item x ≡ true) }
 {
-    match Form::read(alloc, value) {
-        Ok(form) => Ok(FormItem {
-            tenant,
-            id,
-            version,
-            form,
-        }),
-        Err(fault) => {
-            if fault.code == FormFault::MEMORY {
-                Err(RowNo::Memory)
-            } else {
-                Err(RowNo::Other)
-            }
-        }
+    let form = read_good(alloc, format, value)?;
+    if !is_in_format(format, &form) {
+        return Err(RowNo::Other);
     }
+    Ok(FormItem {
+        tenant,
+        id,
+        version,
+        form,
+    })
 }

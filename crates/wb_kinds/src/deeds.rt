@@ -32,6 +32,7 @@ pub fn deed_name(deed: &Deed) -> &'static str
         Deed::Unshared { .. } => "unshared",
         Deed::Transferred { .. } => "transferred",
         Deed::Postponed { .. } => "postponed",
+        Deed::Extended { .. } => "extended",
         Deed::Asked { .. } => "asked",
         Deed::Granted { .. } => "granted",
         Deed::Denied { .. } => "denied",
@@ -188,6 +189,14 @@ pub fn put_last(map: &mut Map<String, Value>, alloc: Global, deed: &Deed) -> Res
         }
         Deed::Postponed { expires } => {
             put_date(map, alloc, "expires", *expires)?;
+            Ok(())
+        }
+        Deed::Extended {
+            feedback_due,
+            reason,
+        } => {
+            put_text(map, alloc, "reason", reason.as_str())?;
+            put_date(map, alloc, "feedback_due", *feedback_due)?;
             Ok(())
         }
         Deed::Asked { reason, stamp } => {

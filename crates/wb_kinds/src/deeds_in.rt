@@ -7,10 +7,9 @@ ghost use Rattle.wb_kinds.specs.Gives.{Gives};
 
 use crate::answers::answers_under;
 use crate::later_deeds::follow_deed;
-use crate::members::{
-    day_under, digest_under, flag_under, str_under, text_under, users_under, whole_under,
-};
+use crate::members::{day_under, digest_under, flag_under, str_under, text_under, whole_under};
 use crate::numberings::moment_under;
+use crate::parts::list_under;
 use crate::row_no::RowNo;
 use serde_json::Value;
 use std::alloc::Global;
@@ -28,7 +27,7 @@ fn submitted(alloc: Global, value: &Value) -> Result<Deed, RowNo>
     let feedback_due = day_under(value, "feedback_due")?;
     let form = whole_under(value, "form", 1, 16)?;
     let mark = flag_under(value, "mark")?;
-    let readers = users_under(alloc, value, "readers")?;
+    let readers = list_under(alloc, value, "readers")?;
     let receipt = digest_under(value, "receipt")?;
     let received = day_under(value, "received")?;
     let version = whole_under(value, "version", 1, 99)?;
@@ -84,7 +83,7 @@ fn set_status(value: &Value) -> Result<Deed, RowNo>
 
 // The deed of this name.
 fn deed_named(alloc: Global, name: &str, value: &Value) -> Result<Deed, RowNo>
-    ensures { Gives (said.deed_named name.now (view value.now)) result }
+    ensures { Gives (said.by_name said.all_deeds name.now (view value.now)) result }
 {
     if name == "submitted" {
         submitted(alloc, value)

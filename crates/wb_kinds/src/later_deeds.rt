@@ -5,9 +5,8 @@ ghost use Rattle.wb_model.specs.Bodies.{under};
 ghost use Rattle.wb_kinds.specs.SaidDeeds as said;
 ghost use Rattle.wb_kinds.specs.Gives.{Gives};
 
-use crate::members::{
-    day_under, long_under, read_text, text_under, user_under, users_under, whole_under,
-};
+use crate::members::{day_under, long_under, read_text, text_under, user_under, whole_under};
+use crate::parts::list_under;
 use crate::row_no::RowNo;
 use serde_json::Value;
 use std::alloc::Global;
@@ -29,17 +28,17 @@ fn feedback(alloc: Global, value: &Value) -> Result<Deed, RowNo>
     Ok(Deed::Feedback { text })
 }
 
-fn shared(value: &Value) -> Result<Deed, RowNo>
+fn shared(alloc: Global, value: &Value) -> Result<Deed, RowNo>
     ensures { Gives (said.shared (view value.now)) result }
 {
-    let user = user_under(value, "user")?;
+    let user = user_under(alloc, value, "user")?;
     Ok(Deed::Shared { user })
 }
 
-fn unshared(value: &Value) -> Result<Deed, RowNo>
+fn unshared(alloc: Global, value: &Value) -> Result<Deed, RowNo>
     ensures { Gives (said.unshared (view value.now)) result }
 {
-    let user = user_under(value, "user")?;
+    let user = user_under(alloc, value, "user")?;
     Ok(Deed::Unshared { user })
 }
 
@@ -47,7 +46,7 @@ fn transferred(alloc: Global, value: &Value) -> Result<Deed, RowNo>
     ensures { Gives (said.transferred (view value.now)) result }
 {
     let context = whole_under(value, "context", 1, 64)?;
-    let readers = users_under(alloc, value, "readers")?;
+    let readers = list_under(alloc, value, "readers")?;
     Ok(Deed::Transferred { context, readers })
 }
 
@@ -56,6 +55,17 @@ fn postponed(value: &Value) -> Result<Deed, RowNo>
 {
     let expires = day_under(value, "expires")?;
     Ok(Deed::Postponed { expires })
+}
+
+fn extended(alloc: Global, value: &Value) -> Result<Deed, RowNo>
+    ensures { Gives (said.extended (view value.now)) result }
+{
+    let feedback_due = day_under(value, "feedback_due")?;
+    let reason = text_under(alloc, value, "reason", 1, 1_024)?;
+    Ok(Deed::Extended {
+        feedback_due,
+        reason,
+    })
 }
 
 fn asked(alloc: Global, value: &Value) -> Result<Deed, RowNo>
@@ -119,7 +129,7 @@ fn revoked(alloc: Global, value: &Value) -> Result<Deed, RowNo>
 
 // The deed of this name on a request for the identity.
 fn request_deed(alloc: Global, name: &str, value: &Value) -> Result<Deed, RowNo>
-    ensures { Gives (said.request_deed name.now (view value.now)) result }
+    ensures { Gives (said.by_name said.request_deeds name.now (view value.now)) result }
 {
     if name == "asked" {
         asked(alloc, value)
@@ -136,20 +146,22 @@ fn request_deed(alloc: Global, name: &str, value: &Value) -> Result<Deed, RowNo>
 
 /// The deed of this name in the follow-up of a report, or on a request for its identity.
 pub fn follow_deed(alloc: Global, name: &str, value: &Value) -> Result<Deed, RowNo>
-    ensures { Gives (said.follow_deed name.now (view value.now)) result }
+    ensures { Gives (said.by_name said.follow_deeds name.now (view value.now)) result }
 {
     if name == "acknowledged" {
         acknowledged(value)
     } else if name == "feedback" {
         feedback(alloc, value)
     } else if name == "shared" {
-        shared(value)
+        shared(alloc, value)
     } else if name == "unshared" {
-        unshared(value)
+        unshared(alloc, value)
     } else if name == "transferred" {
         transferred(alloc, value)
     } else if name == "postponed" {
         postponed(value)
+    } else if name == "extended" {
+        extended(alloc, value)
     } else {
         request_deed(alloc, name, value)
     }

@@ -3,18 +3,17 @@ ghost use Rattle.std.specs.Prelude.{◌≡◌, ◌≤◌, IfOk, true, option_map
 ghost use Rattle.std.specs.Result.{result_ok};
 ghost use Rattle.hex.specs.Hex.{decode_sized};
 ghost use Rattle.serde_json.specs.Find.{as_bool, as_str};
-ghost use Rattle.serde_json.specs.View.{view, items_view};
-ghost use Rattle.wb_base.specs.FormShape.{all_of};
+ghost use Rattle.serde_json.specs.View.{view};
 ghost use Rattle.wb_model.specs.Bodies.{under, text, whole};
 ghost use Rattle.wb_model.specs.Fits.{is_between, has_bytes};
-ghost use Rattle.wb_kinds.specs.Shapes.{digest as digest_of, day as day_of, day_named as day_by, users as users_of, signed, is_within};
+ghost use Rattle.wb_kinds.specs.Shapes.{digest as digest_of, day as day_of, day_named as day_by, signed, is_within};
 ghost use Rattle.wb_kinds.specs.Gives.{Gives};
 
+use crate::parts::Part;
 use crate::row_no::RowNo;
 use serde_json::Value;
 use std::alloc::Global;
 use wb_base::{Day, Digest, Text, UserId};
-use wb_list::Items;
 use wb_terms::read_date;
 
 // A text of so many bytes.
@@ -127,54 +126,24 @@ pub fn signed_under(value: &Value, key: &str, low: i32, high: i32) -> Result<i32
     }
 }
 
-// The id of a user that a value is.
-fn read_user(value: &Value) -> Result<UserId, RowNo>
-    ensures { Gives (whole 1 256 (view value.now)) result }
-{
-    let number = read_whole(value, 1, 256)?;
-    match UserId::try_new(number as u16) {
-        Some(user) => Ok(user),
-        None => Err(RowNo::Other),
+impl Part for UserId {
+    ghost reading = { whole 1 256 };
+
+    fn read(alloc: Global, value: &Value) -> Result<UserId, RowNo> {
+        let number = read_whole(value, 1, 256)?;
+        match UserId::try_new(number as u16) {
+            Some(user) => Ok(user),
+            None => Err(RowNo::Other),
+        }
     }
 }
 
 /// The id of a user under a key.
-pub fn user_under(value: &Value, key: &str) -> Result<UserId, RowNo>
+pub fn user_under(alloc: Global, value: &Value, key: &str) -> Result<UserId, RowNo>
     ensures { Gives (under key.now (whole 1 256) (view value.now)) result }
 {
     match value.get(key) {
-        Some(found) => read_user(found),
-        None => Err(RowNo::Other),
-    }
-}
-
-// The users of a list of ids.
-fn read_each_user(alloc: Global, values: &Vec<Value>) -> Result<Items<UserId>, RowNo>
-    ensures { Gives (all_of (whole 1 256) (items_view values.now.items)) result }
-{
-    let mut users = Items::new(alloc);
-    for value in values {
-        users.push(read_user(value)?)?;
-    }
-    Ok(users)
-}
-
-// The users of an array of ids.
-pub(crate) fn read_users(alloc: Global, value: &Value) -> Result<Items<UserId>, RowNo>
-    ensures { Gives (users_of (view value.now)) result }
-{
-    match value.as_array() {
-        Some(values) => read_each_user(alloc, values),
-        None => Err(RowNo::Other),
-    }
-}
-
-/// The ids of users under a key.
-pub fn users_under(alloc: Global, value: &Value, key: &str) -> Result<Items<UserId>, RowNo>
-    ensures { Gives (under key.now users_of (view value.now)) result }
-{
-    match value.get(key) {
-        Some(found) => read_users(alloc, found),
+        Some(found) => UserId::read(alloc, found),
         None => Err(RowNo::Other),
     }
 }

@@ -1,6 +1,7 @@
 //! What a kept row stands for, and the row of that.
 ghost use Rattle.std.specs.Prelude.{◌≡◌, IfOk, IfSome, Some, None, option_and_then, true, if◌then◌else◌};
 ghost use Rattle.serde_json.specs.Read.{read};
+ghost use Rattle.wb_base.specs.declared.form.Format.TheVariants.{Weighed};
 ghost use Rattle.serde_json.specs.View.{view};
 ghost use Rattle.wb_kinds.specs.Items.{item_row as row_of, item_of, is_key, is_row, is_in_range, shaped, of_kind};
 ghost use Rattle.wb_kinds.specs.Gives.{Gives};
@@ -16,19 +17,19 @@ use crate::users::read_user;
 use crate::{EntryItem, Item, NumberingItem};
 use serde_json::Value;
 use std::alloc::Global;
-use wb_base::{Key, Memory, Number, Row, Tenant, UserId};
+use wb_base::{Format, Key, Memory, Number, Row, Tenant, UserId};
 use wb_custody::SealedItem;
 use wb_tenants::{context_row, form_row, settings_row, user_row};
 
-/// The row of an item.
-pub fn item_row(alloc: Global, item: &Item) -> Result<Row, Memory>
-    ensures { IfOk result (λ row. row ≡ row_of item.now) }
+/// The row of an item in a format.
+pub fn item_row(alloc: Global, format: Format, item: &Item) -> Result<Row, Memory>
+    ensures { IfOk result (λ row. row ≡ row_of format item.now) }
 {
     match item {
         Item::Settings(x) => settings_row(alloc, x),
         Item::Numbering(x) => numbering_row(alloc, x.tenant, &x.numbering),
         Item::User(x) => user_row(alloc, x),
-        Item::Form(x) => form_row(alloc, x.tenant, x.id, x.version, &x.form),
+        Item::Form(x) => form_row(alloc, format, x.tenant, x.id, x.version, &x.form),
         Item::Context(x) => context_row(alloc, x),
         Item::Entry(x) => entry_row(alloc, x.tenant, x.number, x.place, &x.entry),
         Item::Sealed(x) => sealed_row(alloc, x.tenant, x.number, &x.answers),
@@ -37,7 +38,7 @@ pub fn item_row(alloc: Global, item: &Item) -> Result<Row, Memory>
 
 // The user of a row.
 fn user_item(alloc: Global, tenant: Tenant, a: u32, value: &Value) -> Result<Item, RowNo>
-    ensures item { Gives (of_kind 3 tenant a 0 (view value.now)) result }
+    ensures item { Gives (of_kind Weighed 3 tenant a 0 (view value.now)) result }
     ensures fits { IfOk result (λ item. is_in_range item ≡ true) }
 {
     if a < 1 || 256 < a {
@@ -50,19 +51,26 @@ fn user_item(alloc: Global, tenant: Tenant, a: u32, value: &Value) -> Result<Ite
 }
 
 // The form of a row.
-fn form_item(alloc: Global, tenant: Tenant, a: u32, b: u32, value: &Value) -> Result<Item, RowNo>
-    ensures item { Gives (of_kind 4 tenant a b (view value.now)) result }
+fn form_item(
+    alloc: Global,
+    format: Format,
+    tenant: Tenant,
+    a: u32,
+    b: u32,
+    value: &Value,
+) -> Result<Item, RowNo>
+    ensures item { Gives (of_kind format 4 tenant a b (view value.now)) result }
     ensures fits { IfOk result (λ item. is_in_range item ≡ true) }
 {
     if a < 1 || 16 < a || b < 1 || 99 < b {
         return Err(RowNo::Other);
     }
-    Ok(Item::Form(read_version(alloc, tenant, a, b, value)?))
+    Ok(Item::Form(read_version(alloc, format, tenant, a, b, value)?))
 }
 
 // The context of a row.
 fn context_item(alloc: Global, tenant: Tenant, a: u32, value: &Value) -> Result<Item, RowNo>
-    ensures item { Gives (of_kind 5 tenant a 0 (view value.now)) result }
+    ensures item { Gives (of_kind Weighed 5 tenant a 0 (view value.now)) result }
     ensures fits { IfOk result (λ item. is_in_range item ≡ true) }
 {
     if a < 1 || 64 < a {
@@ -73,7 +81,7 @@ fn context_item(alloc: Global, tenant: Tenant, a: u32, value: &Value) -> Result<
 
 // The entry of a row.
 fn entry_item(alloc: Global, tenant: Tenant, a: u32, b: u32, value: &Value) -> Result<Item, RowNo>
-    ensures item { Gives (of_kind 6 tenant a b (view value.now)) result }
+    ensures item { Gives (of_kind Weighed 6 tenant a b (view value.now)) result }
     ensures fits { IfOk result (λ item. is_in_range item ≡ true) }
 {
     let Some(number) = Number::try_new(a) else {
@@ -93,7 +101,7 @@ fn entry_item(alloc: Global, tenant: Tenant, a: u32, b: u32, value: &Value) -> R
 
 // The identity answers of a row.
 fn sealed_item(alloc: Global, tenant: Tenant, a: u32, value: &Value) -> Result<Item, RowNo>
-    ensures item { Gives (of_kind 7 tenant a 0 (view value.now)) result }
+    ensures item { Gives (of_kind Weighed 7 tenant a 0 (view value.now)) result }
     ensures fits { IfOk result (λ item. is_in_range item ≡ true) }
 {
     let Some(number) = Number::try_new(a) else {
@@ -108,8 +116,14 @@ fn sealed_item(alloc: Global, tenant: Tenant, a: u32, value: &Value) -> Result<I
 }
 
 // The item of a tenant that a value is, with the kind and ids of its key.
-fn read_kind(alloc: Global, tenant: Tenant, key: Key, value: &Value) -> Result<Item, RowNo>
-    ensures item { Gives (of_kind key.kind tenant key.a key.b (view value.now)) result }
+fn read_kind(
+    alloc: Global,
+    format: Format,
+    tenant: Tenant,
+    key: Key,
+    value: &Value,
+) -> Result<Item, RowNo>
+    ensures item { Gives (of_kind format key.kind tenant key.a key.b (view value.now)) result }
     ensures fits { IfOk result (λ item. is_in_range item ≡ true) }
 {
     match key.kind {
@@ -119,7 +133,7 @@ fn read_kind(alloc: Global, tenant: Tenant, key: Key, value: &Value) -> Result<I
             numbering: read_numbering(value)?,
         })),
         3 => user_item(alloc, tenant, key.a, value),
-        4 => form_item(alloc, tenant, key.a, key.b, value),
+        4 => form_item(alloc, format, tenant, key.a, key.b, value),
         5 => context_item(alloc, tenant, key.a, value),
         6 => entry_item(alloc, tenant, key.a, key.b, value),
         7 => sealed_item(alloc, tenant, key.a, value),
@@ -128,23 +142,23 @@ fn read_kind(alloc: Global, tenant: Tenant, key: Key, value: &Value) -> Result<I
 }
 
 // The item that a value is, with a key.
-fn read_shape(alloc: Global, key: Key, value: &Value) -> Result<Item, RowNo>
-    ensures item { Gives (shaped key (view value.now)) result }
+fn read_shape(alloc: Global, format: Format, key: Key, value: &Value) -> Result<Item, RowNo>
+    ensures item { Gives (shaped format key (view value.now)) result }
     ensures fits { IfOk result (λ item. is_in_range item ≡ true) }
 {
     match Tenant::try_new(key.tenant) {
-        Some(tenant) => read_kind(alloc, tenant, key, value),
+        Some(tenant) => read_kind(alloc, format, tenant, key, value),
         None => Err(RowNo::Other),
     }
 }
 
 // The item that a text is, with a key.
-fn read_text(alloc: Global, key: Key, text: &str) -> Result<Item, RowNo>
-    ensures item { Gives (option_and_then (shaped key) (read text.now)) result }
+fn read_text(alloc: Global, format: Format, key: Key, text: &str) -> Result<Item, RowNo>
+    ensures item { Gives (option_and_then (shaped format key) (read text.now)) result }
     ensures fits { IfOk result (λ item. is_in_range item ≡ true) }
 {
     match Value::from_str(alloc, text) {
-        Ok(value) => read_shape(alloc, key, &value),
+        Ok(value) => read_shape(alloc, format, key, &value),
         Err(error) => {
             if error.is_memory() {
                 Err(RowNo::Memory)
@@ -168,11 +182,11 @@ fn same_row(row: &Row, other: &Row) -> bool
 }
 
 // The item, where its row is this one.
-fn keep_item(alloc: Global, item: Item, row: &Row) -> Result<Option<Item>, Memory>
-    ensures item { IfOk result (λ kept. kept ≡ (if is_row (row_of item) row.now then Some item else None)) }
+fn keep_item(alloc: Global, format: Format, item: Item, row: &Row) -> Result<Option<Item>, Memory>
+    ensures item { IfOk result (λ kept. kept ≡ (if is_row (row_of format item) row.now then Some item else None)) }
     ensures own { IfOk result (λ kept. IfSome kept (λ own. own ≡ item)) }
 {
-    let again = item_row(alloc, &item)?;
+    let again = item_row(alloc, format, &item)?;
     if same_row(&again, row) {
         Ok(Some(item))
     } else {
@@ -180,13 +194,13 @@ fn keep_item(alloc: Global, item: Item, row: &Row) -> Result<Option<Item>, Memor
     }
 }
 
-/// What a row stands for, where it is good: the item in its ranges whose row it is.
-pub fn read_item(alloc: Global, row: &Row) -> Result<Option<Item>, Memory>
-    ensures item { IfOk result (λ found. found ≡ item_of row.now) }
+/// What a row of a format stands for, where it is good: the item in its ranges whose row it is.
+pub fn read_item(alloc: Global, format: Format, row: &Row) -> Result<Option<Item>, Memory>
+    ensures item { IfOk result (λ found. found ≡ item_of format row.now) }
     ensures fits { IfOk result (λ found. IfSome found (λ item. is_in_range item ≡ true)) }
 {
-    match read_text(alloc, row.key, row.text.as_str()) {
-        Ok(item) => keep_item(alloc, item, row),
+    match read_text(alloc, format, row.key, row.text.as_str()) {
+        Ok(item) => keep_item(alloc, format, item, row),
         Err(RowNo::Other) => Ok(None),
         Err(RowNo::Memory) => Err(Memory),
     }

@@ -2,7 +2,7 @@
 ghost use Rattle.std.specs.Prelude.{◌≡◌, IfOk};
 ghost use Rattle.serde_json.specs.View.{view};
 ghost use Rattle.wb_model.specs.Json.{answers_data};
-ghost use Rattle.wb_model.specs.Rows.{row, numbering_data, entry_data};
+ghost use Rattle.wb_model.specs.Rows.{row, format_data, format_row as format_row_of, numbering_data, entry_data};
 
 use crate::entries::entry_value;
 use serde_json::{Map, Value};
@@ -21,6 +21,32 @@ fn numbering_value(alloc: Global, numbering: &Numbering) -> Result<Value, Memory
     put_whole(&mut map, alloc, "drawn", numbering.drawn as u64)?;
     put_whole(&mut map, alloc, "at", numbering.at.seconds())?;
     Ok(Value::Object(map))
+}
+
+// The JSON value of the format.
+#[tactic(auto, unfolding(wb_model::specs::Rows::format_data))]
+fn format_value(alloc: Global) -> Result<Value, Memory>
+    ensures { IfOk result (λ value. view value ≡ format_data) }
+{
+    let mut map = Map::new(alloc);
+    put_whole(&mut map, alloc, "format", 2)?;
+    Ok(Value::Object(map))
+}
+
+/// The row that says that rows are of format 2, of kind 0.
+pub fn format_row(alloc: Global) -> Result<Row, Memory>
+    ensures { IfOk result (λ kept. kept ≡ format_row_of) }
+{
+    let value = format_value(alloc)?;
+    Ok(Row {
+        key: Key {
+            kind: 0,
+            tenant: 0,
+            a: 0,
+            b: 0,
+        },
+        text: text_of(alloc, &value)?,
+    })
 }
 
 /// The row of a tenant's numbering, of kind 2.

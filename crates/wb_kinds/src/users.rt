@@ -32,6 +32,7 @@ fn rights_named(names: &[Value]) -> Result<Rights, RowNo>
     ensures { Gives (with_rights no_rights (items_view names.now)) result }
 {
     let mut may = Rights {
+        delete: false,
         postpone: false,
         share: false,
         transfer: false,

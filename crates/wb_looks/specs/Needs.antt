@@ -1,5 +1,5 @@
 -- What the code's words for who may call a route stand for.
-use Rattle.wb_model.specs.Commands.{Right, Free, To_postpone, To_share, To_transfer, Need, Anyone, Any_session, Own, Staff, Names}
+use Rattle.wb_model.specs.Commands.{Right, Free, To_delete, To_postpone, To_share, To_transfer, Need, Anyone, Any_session, Own, Staff, Names}
 use Rattle.wb_looks.specs.declared.routes.Right.{Right as CodeRight}
 use Rattle.wb_looks.specs.declared.routes.Right.TheVariants as rights
 use Rattle.wb_looks.specs.declared.routes.Need.{Need as CodeNeed}
@@ -7,6 +7,7 @@ use Rattle.wb_looks.specs.declared.routes.Need.TheVariants as needs
 
 abbrev pub right_of : CodeRight → Right
 right_of rights.Free = Free
+right_of rights.ToDelete = To_delete
 right_of rights.ToPostpone = To_postpone
 right_of rights.ToShare = To_share
 right_of rights.ToTransfer = To_transfer

@@ -69,4 +69,5 @@ is_act (commands.Share t n user) = true
 is_act (commands.Unshare t n u) = true
 is_act (commands.Transfer t n context) = true
 is_act (commands.Postpone t n) = true
+is_act (commands.Extend t n reason) = true
 is_act _ = false

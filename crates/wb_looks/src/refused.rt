@@ -107,6 +107,7 @@ fn refuse_act(alloc: Global, fault: CaseFault) -> Result<Told, Memory>
         CaseFault::NotReader => reply(alloc, 409, "not_reader", &Detail::Null),
         CaseFault::LastReader => reply(alloc, 409, "last_reader", &Detail::Null),
         CaseFault::PostponeSpent => reply(alloc, 409, "postpone_spent", &Detail::Whole(10)),
+        CaseFault::NotExternal => reply(alloc, 409, "not_external", &Detail::Null),
         CaseFault::TrailFull => reply(alloc, 409, "trail_full", &Detail::Whole(4_096)),
         CaseFault::Memory => Err(Memory),
     }

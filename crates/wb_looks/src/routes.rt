@@ -10,6 +10,7 @@ use wb_model::Command;
 #[derive(Clone, Copy, Debug, PartialEq, Eq)]
 pub enum Right {
     Free,
+    ToDelete,
     ToPostpone,
     ToShare,
     ToTransfer,
@@ -57,6 +58,8 @@ pub fn tenant_of(command: &Command) -> u32
         | Command::Unshare { t, .. }
         | Command::Transfer { t, .. }
         | Command::Postpone { t, .. }
+        | Command::Extend { t, .. }
+        | Command::Delete { t, .. }
         | Command::Ask { t, .. }
         | Command::ReadIdentity { t, .. }
         | Command::Requests { t }
@@ -90,6 +93,7 @@ pub fn needed(command: &Command) -> Need
         | Command::SetStatus { n, .. }
         | Command::Acknowledge { n, .. }
         | Command::Feedback { n, .. }
+        | Command::Extend { n, .. }
         | Command::Ask { n, .. }
         | Command::ReadIdentity { n, .. } => Need::Names(Role::Recipient, Right::Free, *n),
         Command::Share { n, .. } | Command::Unshare { n, .. } => {
@@ -97,6 +101,7 @@ pub fn needed(command: &Command) -> Need
         }
         Command::Transfer { n, .. } => Need::Names(Role::Recipient, Right::ToTransfer, *n),
         Command::Postpone { n, .. } => Need::Names(Role::Recipient, Right::ToPostpone, *n),
+        Command::Delete { n, .. } => Need::Names(Role::Recipient, Right::ToDelete, *n),
         Command::Requests { .. } => Need::Staff(Role::Custodian),
         Command::Decide { n, .. } => Need::Names(Role::Custodian, Right::Free, *n),
         Command::Admin { .. }

@@ -34,6 +34,7 @@ fn has_right(right: Right, may: Rights) -> bool
 {
     match right {
         Right::Free => true,
+        Right::ToDelete => may.delete,
         Right::ToPostpone => may.postpone,
         Right::ToShare => may.share,
         Right::ToTransfer => may.transfer,

@@ -8,7 +8,7 @@ use Rattle.wb_model.specs.declared.event.What.{What}
 use Rattle.wb_model.specs.declared.event.What.TheVariants.{Did, Gap, Idle, Lost}
 use Rattle.wb_model.specs.Tables.{Registry, is_there}
 use Rattle.wb_model.specs.Requests.{Frame}
-use Rattle.wb_model.specs.Changes.{At, Change, Nothing, Draws, Begins, Notes, LogsIn, LogsOut, Configures}
+use Rattle.wb_model.specs.Changes.{At, Change, Nothing, Draws, Begins, Notes, Deletes, LogsIn, LogsOut, Configures}
 use Rattle.wb_model.specs.Host.{Tables, noted, cases_after, made, change_of, reply_by, ruling}
 use Rattle.wb_model.specs.Tenants.{tenant_at, without_tenant}
 use Rattle.wb_model.specs.Past.{change_at, change_in, trail_of, numbers, trail, case_of, Past, Opening, Turn, turns, now, at_of, report_of, about, alone_in, registry, last, drew, live, live_reports, logins, stands, standing_sessions, plain, tables, is_lost, held}
@@ -18,7 +18,7 @@ use Rattle.wb_model.specs.Pasts.{AllOpened, seen, part, has_tenant, time, standi
 use Rattle.wb_model.specs.Readings.{Reading, Asks, Refuses}
 use Rattle.wb_model.specs.Scripts.{Loss, NotLost, ByKeeper, ByMemory, Unread, Place, Reply, frame_of, replying, play_asked, play_by, play, script_replies, past_after}
 use Rattle.wb_model.specs.ScriptsAlike.{is_made}
-use Rattle.wb_model.specs.Absence.{AreApart, DrawsAnother, AllDrawAnother, DrawOthersAfter, is_beginning, begins_as, Stands, with_gap, replies, past_with, without_place, begins_here, BeginsAt, lives_here, later_replies, replies_without}
+use Rattle.wb_model.specs.Absence.{without, AreApart, DrawsAnother, AllDrawAnother, DrawOthersAfter, is_beginning, begins_as, Stands, with_gap, replies, past_with, without_place, begins_here, BeginsAt, lives_here, later_replies, replies_without}
 use Rattle.wb_model.proofs.Found.{decide, same_number, other_number}
 use Rattle.wb_model.proofs.Gapless.{Gapless, gapless_start, gapless_tables, gapless_same, without_none, with_what}
 use Rattle.wb_model.proofs.GapSteps.{stays, draws}
@@ -35,6 +35,7 @@ pub record Lacks (t r : ℕ) (past other : Past AllOpened) : Type 0 where
   pub drawn : r ≤ last (part t past)
   pub receipts : Receipts (part t past)
   pub held_same : is_there r (held (part t past)).plain.cases ≡ false → held (part t other) ≡ held (part t past)
+  pub held_without : held (part t other) ≡ without r (held (part t past))
 
 pub last_more : (past : Past Opened) (e : Event) (r : ℕ) → r ≤ last past → r ≤ last (Turn e past)
 last_more past e r le = by (drew past e)
@@ -57,6 +58,18 @@ held_turn r past other e f false is same g before none =
     ∙ (gapless_tables r (now (Turn e past)) (Turn e past) (Turn f other) (omega arith) g
     ∙ (without_none r (now (Turn e past)) (Turn e past) (omega arith) (ap (λ (t : Tables). is_there r t.plain.cases) (sym was) ∙ none) ∙ sym was)))
 
+-- what is held after the same step is what the first holds, without r
+held_apart : (r : ℕ) (past other : Past Opened) (e f : Event) (b : Bool) → is_lost e.what ≡ b → is_lost f.what ≡ is_lost e.what → Gapless r (Turn e past) (Turn f other) →
+    (b ≡ true → held other ≡ without r (held past)) → held (Turn f other) ≡ without r (held (Turn e past))
+held_apart r past other e f true is same g before =
+    let was : held (Turn e past) ≡ held past = ap (λ b. cond b (held past) (tables (Turn e past) (now (Turn e past)))) is in
+    let now_is : held (Turn f other) ≡ held other = ap (λ b. cond b (held other) (tables (Turn f other) (now (Turn f other)))) (same ∙ is) in
+    now_is ∙ (before refl ∙ ap (without r) (sym was))
+held_apart r past other e f false is same g before =
+    held_made other f (same ∙ is)
+    ∙ (ap (tables (Turn f other)) g.moments
+    ∙ (gapless_tables r (now (Turn e past)) (Turn e past) (Turn f other) (omega arith) g ∙ ap (without r) (sym (held_made past e is))))
+
 lacks_turn : (t r : ℕ) (past other : Past AllOpened) (e : Event) (v : What) → Lacks t r past other → Receipts (part t (Turn e past)) → SeenStep t r past e v → ((u : ℕ) → u ≢ t → seen u v ≡ seen u e.what) → Lacks t r (Turn e past) (Turn (with_what e v) other)
 lacks_turn t r past other e v l receipts step same =
     let f : Event = with_what e (seen t e.what) in
@@ -66,6 +79,7 @@ lacks_turn t r past other e v l receipts step same =
       drawn = last_more (part t past) f r l.drawn;
       receipts = receipts;
       held_same = held_turn r (part t past) (part t other) f (with_what e (seen t v)) (is_lost f.what) refl (lost_step r (last (part t past)) (at_of (part t past) f) (registry (part t past)) f.what (seen t v) step) g.own (λ is. l.held_same);
+      held_without = held_apart r (part t past) (part t other) f (with_what e (seen t v)) (is_lost f.what) refl (lost_step r (last (part t past)) (at_of (part t past) f) (registry (part t past)) f.what (seen t v) step) g.own (λ is. l.held_without);
     }
 
 lacks_request : (t r : ℕ) (past other : Past AllOpened) (f : Frame) → (t ≡ tenant_at f → DrawsOther r (part t past) f) → Lacks t r past other → Lacks t r (with_turn past f) (with_turn other f)
@@ -125,7 +139,7 @@ hide : (b : Bool) (x y : Reply) → (b ≡ false → y ≡ x) → cond b None (S
 hide true x y e = refl
 hide false x y e = ap Some (sym (e refl))
 
-later_same : (t r : ℕ) (past other : Past AllOpened) (ps : List Place) → AllDrawAnother t r past ps → Lacks t r past other → later_replies t r past ps (map Some (script_replies past ps)) ≡ later_replies t r past ps (replies other (map Stands ps))
+pub later_same : (t r : ℕ) (past other : Past AllOpened) (ps : List Place) → AllDrawAnother t r past ps → Lacks t r past other → later_replies t r past ps (map Some (script_replies past ps)) ≡ later_replies t r past ps (replies other (map Stands ps))
 later_same t r past other [] a l = refl
 later_same t r past other (p ∷ ps) a l =
     ap (λ x. x ∷ later_replies t r (play past p).past ps (map Some (script_replies (play past p).past ps))) (hide (lives_here t r past p) _ _ (reply_place t r past other p l.facts))
@@ -137,7 +151,7 @@ later_hosts t r past other (p ∷ ps) a l = later_hosts t r (play past p).past (
 
 -- ---- the submission
 
-opened_tenant : (t : ℕ) (past : Past AllOpened) (f : Frame) (at : At) (g : Registry) (b : Bool) → (is_beginning (alone_in (seen t (what_in past f)) at g) && b) ≡ true → tenant_at f ≡ t
+pub opened_tenant : (t : ℕ) (past : Past AllOpened) (f : Frame) (at : At) (g : Registry) (b : Bool) → (is_beginning (alone_in (seen t (what_in past f)) at g) && b) ≡ true → tenant_at f ≡ t
 opened_tenant t past f at g b opens = by (decide t (tenant_at f))
   where
     by : (t ≡ tenant_at f) ⊎ (t ≢ tenant_at f) → tenant_at f ≡ t
@@ -152,6 +166,7 @@ opening_drew past e r opens = by (Rattle.wb_model.specs.Past.alone_at past e) op
     by Nothing k = absurd (grind (arith, k))
     by Draws k = absurd (grind (arith, k))
     by (Notes n x) k = absurd (grind (arith, k))
+    by (Deletes n) k = absurd (grind (arith, k))
     by (LogsIn s) k = absurd (grind (arith, k))
     by (LogsOut turn who) k = absurd (grind (arith, k))
     by (Configures setting) k = absurd (grind (arith, k))
@@ -180,6 +195,8 @@ submission_lacks t r past f apart opens =
       receipts = receipts_seen t past f apart;
       drawn = (let last_is : last (Turn w own) ≡ last own + 1 = ap (λ b. cond b (last own + 1) (last own)) drew_r.1 in omega (arith, last_is, drew_r.0));
       held_same = held_turn r own own w (with_what e (seen t (Gap t))) false (opening_made (at_of own w) (registry own) (eqb (last own + 1) r) w.what opens)
+          (lost_step r (last own) (at_of own w) (registry own) w.what (seen t (Gap t)) step) g.own (λ k. absurd (grind (arith, k)));
+      held_without = held_apart r own own w (with_what e (seen t (Gap t))) false (opening_made (at_of own w) (registry own) (eqb (last own + 1) r) w.what opens)
           (lost_step r (last own) (at_of own w) (registry own) w.what (seen t (Gap t)) step) g.own (λ k. absurd (grind (arith, k)));
     }
 

@@ -16,7 +16,7 @@ use Rattle.wb_model.specs.Changes.{At}
 use Rattle.wb_model.specs.Submissions.{drawing}
 use Rattle.wb_model.specs.Host.{Tables}
 use Rattle.wb_model.specs.Tenants.{tenant_at}
-use Rattle.wb_model.specs.Past.{numbers, trail, case_of, Past, at_of, about, alone_in, registry, last, live, live_reports, plain, tables}
+use Rattle.wb_model.specs.Past.{trail, case_of, Past, at_of, about, alone_in, registry, last, live, live_reports, plain, tables}
 use Rattle.wb_model.specs.PastTurns.{at_frame, target_at, did, what_at}
 use Rattle.wb_model.specs.Commands.{is_read}
 use Rattle.wb_model.specs.Opened.{Apart, Opened}
@@ -101,7 +101,7 @@ drawing_same r past f draws_other is = ap (λ taken. record (drawing (at_frame p
     off c h here =
         let there : is_there r (live_reports past (at_frame past f).time) ≡ true = ap (λ n. is_there n (live_reports past (at_frame past f).time)) (sym here) ∙ held_there (live_reports past (at_frame past f).time) c h in
         let same : trail past r ≡ c.trail = ap (trail past) (sym here) ∙ held_trail past (at_frame past f).time c h in
-        ap (λ t. is_text (receipt t) (digest (registry past).settings.salt (receipt_text f.words)).0) (sym same) ∙ draws_other is (there_live past (at_frame past f).time r (numbers past) there)
+        ap (λ t. is_text (receipt t) (digest (registry past).settings.salt (receipt_text f.words)).0) (sym same) ∙ draws_other is (there_live past (at_frame past f).time r there)
 
 -- the event of a request without r stands in the place of that with it
 pub request_step : (r u : ℕ) (past other : Past Opened) (f : Frame) (at : At) (g : Registry) → r ≤ last past → Apart has_receipt (live_reports past (at_frame past f).time) → DrawsOther r past f → Gapless r past other → WhatStep r (last past) at g (what_at u past f) (what_at u other f)

@@ -1,4 +1,5 @@
 -- Acts, each computed from a past: what refuses it, and what it leaves.
+use Rattle.wb_base.specs.Calendars.{plain}
 use Rattle.std.proofs.Common.{◌≡◌, false, [], ◌∷◌, Some, None, refl, pos}
 use Rattle.std.specs.Prelude.{codes}
 use Rattle.wb_base.specs.Terms as terms
@@ -27,7 +28,7 @@ pub acknowledged-row : refusal acknowledged 60 1 (commands.Acknowledge 1 1) ≡ 
 unfolding starter_registry
 acknowledged-row = refl
 
-pub feedback-row : feedback_due (trail acknowledged 1) ≡ terms.feedback_due (pos 20_089) (Some (pos 20_089))
+pub feedback-row : feedback_due (trail acknowledged 1) ≡ terms.feedback_due (pos 20_089) (Some (pos 20_089)) false plain
 unfolding starter_registry
 feedback-row = refl
 
@@ -131,7 +132,7 @@ unfolding starter_registry
 absent-first-row = refl
 
 abbrev disabled : Past Opened
-disabled = did 65 4 (commands.SetUser 1 2 (record { name = codes "ben"; role = roles.Recipient; enabled = false; may = record { postpone = false; share = false; transfer = false }; password = None })) shared
+disabled = did 65 4 (commands.SetUser 1 2 (record { name = codes "ben"; role = roles.Recipient; enabled = false; may = record { delete = false; postpone = false; share = false; transfer = false }; password = None })) shared
 
 disabled-first-row : refusal disabled 70 1 (commands.Share 1 1 2) ≡ Some not_found
 unfolding starter_registry

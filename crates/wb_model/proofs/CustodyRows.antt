@@ -106,10 +106,10 @@ not-granted-row = refl
 -- ---- a disabling ends requests, though the user is enabled again; so does the removal of a reader
 
 abbrev set_ada : ℕ → Past Opened → Past Opened
-set_ada s past = did s 4 (commands.SetUser 1 1 (record { name = codes "ada"; role = roles.Recipient; enabled = true; may = record { postpone = true; share = true; transfer = true }; password = None })) past
+set_ada s past = did s 4 (commands.SetUser 1 1 (record { name = codes "ada"; role = roles.Recipient; enabled = true; may = record { delete = false; postpone = true; share = true; transfer = true }; password = None })) past
 
 abbrev disable_ada : ℕ → Past Opened → Past Opened
-disable_ada s past = did s 4 (commands.SetUser 1 1 (record { name = codes "ada"; role = roles.Recipient; enabled = false; may = record { postpone = true; share = true; transfer = true }; password = None })) past
+disable_ada s past = did s 4 (commands.SetUser 1 1 (record { name = codes "ada"; role = roles.Recipient; enabled = false; may = record { delete = false; postpone = true; share = true; transfer = true }; password = None })) past
 
 disabled-row : refusal (set_ada 300 (disable_ada 200 withheld)) 310 1 read ≡ Some not_found
 unfolding starter_registry
@@ -135,7 +135,7 @@ asks-anew-row = refl
 
 -- a disabled recipient is not made a reader
 abbrev disable_ben : Past Opened → Past Opened
-disable_ben past = did 20 4 (commands.SetUser 1 2 (record { name = codes "ben"; role = roles.Recipient; enabled = false; may = record { postpone = false; share = false; transfer = false }; password = None })) past
+disable_ben past = did 20 4 (commands.SetUser 1 2 (record { name = codes "ben"; role = roles.Recipient; enabled = false; may = record { delete = false; postpone = false; share = false; transfer = false }; password = None })) past
 
 disabled-reader-row : refusal (disable_ben opened) 70 1 (commands.Share 1 1 2) ≡ Some not_found
 unfolding starter_registry

@@ -10,7 +10,7 @@ use Rattle.wb_model.specs.declared.command.Command.TheVariants as commands
 use Rattle.wb_model.specs.Changes.{At, Change, Answer, Verdict, judged}
 use Rattle.wb_model.specs.Commands.{is_submission}
 use Rattle.wb_model.specs.Drawn.{numbers_of, is_accepted}
-use Rattle.wb_model.specs.Effects.{Effect, Misses, Looks, Reads, Writes, Submits, Comes, Goes, Sets, in_open}
+use Rattle.wb_model.specs.Effects.{Effect, Misses, Looks, Reads, Writes, Erases, Submits, Comes, Goes, Sets, in_open}
 use Rattle.wb_model.specs.Host.{Tables, Sealed, purged, purge_at, at_frame, ruling_at, drawn, is_draw, change_of, reply_by, ruling, reply_to, host_after}
 use Rattle.wb_model.specs.Legal.{ascends_from, ascends}
 use Rattle.wb_model.specs.OnReports.{refusal_on, change_on, answer_on}
@@ -45,6 +45,7 @@ alone_draws at g who o d Misses other is = refl
 alone_draws at g who o d (Looks view) other is = refl
 alone_draws at g who o d (Reads part) other is = refl
 alone_draws at g who o d (Writes doing) other is = refl
+alone_draws at g who o d Erases other is = refl
 
 on_draws : (at : At) (g : Registry) (who : Who) (n : ℕ) (trail : List _) (does : Effect) → is_draw (change_on at g who n trail does) ≡ false
 on_draws at g who n trail (Submits c form) = refl
@@ -55,6 +56,7 @@ on_draws at g who n trail Misses = refl
 on_draws at g who n trail (Looks view) = refl
 on_draws at g who n trail (Reads part) = refl
 on_draws at g who n trail (Writes doing) = refl
+on_draws at g who n trail Erases = refl
 
 others_draw : (p : Plain) (at : At) (q : Request) (t : Target) → is_submission q.command ≡ false → is_draw (change_of (verdict_on p at q t)) ≡ false
 others_draw p at q (Nobody refusal) other = refl

@@ -10,17 +10,18 @@ use Rattle.wb_model.specs.declared.command.Asked.{Asked}
 use Rattle.wb_model.specs.declared.entry.Entry.{Entry}
 use Rattle.wb_model.specs.declared.event.What.{What}
 use Rattle.wb_model.specs.declared.event.What.TheVariants.{Did, Gap, Idle, Lost}
-use Rattle.wb_model.specs.Tables.{Registry, Who, Case, lasts, Session}
+use Rattle.wb_model.specs.Tables.{Registry, Who, Case, lasts, Session, is_reporter_of, others, sessions_but}
 use Rattle.wb_model.specs.Requests.{Outcome, outline, outcome}
-use Rattle.wb_model.specs.Changes.{At, Change, Nothing, Draws, Begins, Notes, LogsIn, LogsOut, Configures}
-use Rattle.wb_model.specs.Effects.{Effect, Writes, Submits, Comes, Goes, Sets, effect_of}
+use Rattle.wb_model.specs.Changes.{At, Change, Nothing, Draws, Begins, Notes, Deletes, LogsIn, LogsOut, Configures}
+use Rattle.wb_model.specs.Effects.{Effect, Writes, Erases, Submits, Comes, Goes, Sets, effect_of}
 use Rattle.wb_model.specs.OnReports.{change_on}
 use Rattle.wb_model.specs.Rules.{change_alone}
 use Rattle.wb_model.proofs.Effects.{set_is}
 use Rattle.wb_model.specs.Host.{is_draw, registry_after, made, remaining}
 use Rattle.wb_model.specs.Past.{Past, Opening, Turn, turns, now, at_of, who_of, report_of, about, alone_by, change_by, alone_in, change_in, secret_in, registry, alone_at, drew, last, drawn_at, day, drawn, numbering, numbers_after, numbers, grown, lives_at, trail_of, trail, change_at, live, given, sealed, case_of, live_reports, recent, standing_sessions, plain, tables}
-use Rattle.wb_model.specs.Absence.{is_reporter_of, others, sessions_but, is_beginning, is_on}
-use Rattle.wb_model.proofs.Found.{same_number, other_number}
+use Rattle.wb_model.specs.Absence.{is_beginning, is_on}
+use Rattle.wb_model.proofs.Found.{same_number, other_number, filter_twice}
+use Rattle.wb_model.proofs.Leaving.{filter_swap}
 use Rattle.wb_model.proofs.SessionsBut.{MadeElsewhere, IsGone, kept_recent, gone_recent}
 use Rattle.wb_model.proofs.PastLaw.{Below}
 
@@ -28,6 +29,7 @@ use Rattle.wb_model.proofs.PastLaw.{Below}
 abbrev pub Elsewhere : ℕ → ℕ → Change → Type 0
 Elsewhere r last (Begins entry) = last + 1 ≢ r
 Elsewhere r last (Notes n entry) = n ≢ r
+Elsewhere r last (Deletes n) = n ≢ r
 Elsewhere r last (LogsIn s) = is_reporter_of r s.who ≡ false
 Elsewhere r last _ = Unit {0}
 
@@ -35,17 +37,20 @@ Elsewhere r last _ = Unit {0}
 abbrev pub Here : ℕ → Change → Type 0
 Here r Nothing = Unit {0}
 Here r (Notes n entry) = n ≡ r
+Here r (Deletes n) = n ≡ r
 Here r (LogsIn s) = is_reporter_of r s.who ≡ true
 Here r (LogsOut turn who) = is_reporter_of r who ≡ true
 Here r _ = ⊥
 
 pub on_elsewhere : (r n last : ℕ) (at : At) (g : Registry) (who : Who) (tr : List Entry) (e : Effect) → n ≢ r → Elsewhere r last (change_on at g who n tr e)
 on_elsewhere r n last at g who tr (Writes d) ne = ne
+on_elsewhere r n last at g who tr Erases ne = ne
 on_elsewhere r n last at g who tr (Comes role) ne = other_number n r ne
 on_elsewhere r n last at g who tr _ ne = tt
 
 pub on_here : (r n : ℕ) (at : At) (g : Registry) (who : Who) (tr : List Entry) (e : Effect) → n ≡ r → Here r (change_on at g who n tr e)
 on_here r n at g who tr (Writes d) e = e
+on_here r n at g who tr Erases e = e
 on_here r n at g who tr (Comes role) e = same_number n r e
 on_here r n at g who tr (Goes turn) e = same_number n r e
 on_here r n at g who tr _ e = tt
@@ -96,6 +101,7 @@ opening_entry r last (Begins e) is = (e, (refl, grind (arith, nat_tests, is)))
 opening_entry r last Nothing is = absurd (grind (arith, is))
 opening_entry r last Draws is = absurd (grind (arith, is))
 opening_entry r last (Notes n e) is = absurd (grind (arith, is))
+opening_entry r last (Deletes n) is = absurd (grind (arith, is))
 opening_entry r last (LogsIn s) is = absurd (grind (arith, is))
 opening_entry r last (LogsOut turn who) is = absurd (grind (arith, is))
 opening_entry r last (Configures setting) is = absurd (grind (arith, is))
@@ -164,11 +170,13 @@ step_numbers r last ch new s v ns (kept e f off) = ap (λ x. numbers_after x las
   where
     same : (c : Change) → Elsewhere r last c → numbers_after c last (but r ns) ≡ but r (numbers_after c last ns)
     same (Begins e) ne = sym (but_push r (last + 1) ns ne)
+    same (Deletes n) ne = filter_swap (λ k. not (eqb k n)) (λ k. not (eqb k r)) ns
     same _ ne = refl
 step_numbers r last ch new s v ns (dropped e on) = ap (λ x. numbers_after x last (but r ns)) e ∙ here ch on
   where
     here : (c : Change) → Here r c → but r ns ≡ but r (numbers_after c last ns)
     here (Begins e) h = absurd h
+    here (Deletes n) h = sym (ap (λ k. but r (but k ns)) h ∙ filter_twice (λ k. not (eqb k r)) (λ k. not (eqb k r)) (λ k e. e) ns)
     here _ h = refl
 step_numbers r last ch new s v ns (only_drawn x e f d) = ap (λ x. numbers_after x last (but r ns)) d ∙ (sym (but_same r (last + 1) ns f) ∙ ap (λ x. but r (numbers_after x last ns)) (sym e))
 
@@ -211,6 +219,7 @@ step_recent r last time cs ch new s v zs (dropped e on) = ap (λ x. remaining x 
     here : (c : Change) → Here r c → IsGone r c
     here (LogsIn n) h = h
     here (LogsOut k who) h = h
+    here (Deletes n) h = h
     here (Configures setting) h = absurd h
     here _ h = tt
 step_recent r last time cs ch new s v zs (only_drawn x e f d) =

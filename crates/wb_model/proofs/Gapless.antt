@@ -6,17 +6,18 @@ use Rattle.wb_base.specs.AnswerList.{Answered}
 use Rattle.wb_model.specs.declared.entry.Entry.{Entry}
 use Rattle.wb_model.specs.declared.event.Event.{Event}
 use Rattle.wb_model.specs.declared.event.What.{What}
-use Rattle.wb_model.specs.Tables.{Registry, Case, is_there, is_live, lasts, Session}
+use Rattle.wb_model.specs.Tables.{Registry, Case, is_there, is_live, lasts, Session, others, sessions_but}
 use Rattle.wb_model.specs.Changes.{Change}
 use Rattle.wb_model.specs.Host.{registry_after, made, remaining}
 use Rattle.wb_model.specs.Past.{Past, Turn, turns, now, at_of, about, change_in, secret_in, registry, alone_at, drew, last, drawn_at, day, drawn, numbers_after, numbers, grown, lives_at, trail_of, trail, change_at, live, given, sealed, case_of, live_reports, recent, standing_sessions, tables}
 use Rattle.wb_model.specs.Opened.{Opened}
-use Rattle.wb_model.specs.Absence.{others, sessions_but, without}
+use Rattle.wb_model.specs.Absence.{without}
 use Rattle.wb_model.proofs.Found.{decide, same_number, other_number}
 use Rattle.wb_model.proofs.Leaving.{filter_swap, there_others, others_all, purge_sessions, sessions_none}
 use Rattle.wb_model.proofs.RecentSessions.{recent_stand}
-use Rattle.wb_model.proofs.PastLaw.{same_tables, same_plain, same_case, numbers_below, below_there, there_live}
-use Rattle.wb_model.proofs.TurnLaw.{Agree, alone_agrees, same_numbering}
+use Rattle.wb_model.proofs.PastLaw.{same_tables, same_plain, same_case, numbers_below, below_there, there_live, sealed_off}
+use Rattle.wb_model.proofs.Agreeing.{Agree, alone_agrees}
+use Rattle.wb_model.proofs.TurnLaw.{same_numbering}
 use Rattle.wb_model.proofs.GapSteps.{GapStep, WhatStep, what_steps, but, but_below, step_draw, step_registry, step_numbers, step_trail, step_sealed, step_recent}
 
 -- ---- changes and events
@@ -108,10 +109,9 @@ gapless_turn r past other e v g what =
     let set : registry (Turn f other) ≡ registry (Turn e past) =
     is.setting (registry other) ∙ (ap (registry_after new) g.registries ∙ (step_registry r (last past) ch new _ _ (registry past) step ∙ sym (was.setting (registry past)))) in
     let listed : numbers (Turn f other) ≡ but r (numbers (Turn e past)) =
-    is.listing (last other) (numbers other)
-    ∙ (ap (λ n. numbers_after new n (numbers other)) g.lasts_drawn
+    ap (λ n. numbers_after new n (numbers other)) g.lasts_drawn
     ∙ (ap (numbers_after new (last past)) g.list
-    ∙ (step_numbers r (last past) ch new _ _ (numbers past) step ∙ ap (but r) (sym (was.listing (last past) (numbers past)))))) in
+    ∙ step_numbers r (last past) ch new _ _ (numbers past) step) in
     let grows : (q : ℕ) → q ≢ r → trail (Turn f other) q ≡ trail (Turn e past) q = λ q ne.
     ap (λ n. grown new n q (lives_at (registry other) (max (now other) e.moment) q (trail other q)) (trail other q)) g.lasts_drawn
     ∙ (ap (λ b. grown new (last past) q b (trail other q)) (same_lives r q time past other e ne g)
@@ -130,10 +130,10 @@ gapless_turn r past other e v g what =
       list = listed;
       trails = grows;
       secrets = λ q ne.
-          ap (λ n. given new n q (live other q (max (now other) e.moment)) (secret_in v (registry other)) (sealed other q)) g.lasts_drawn
+          ap (λ n. given new n q (lives_at (registry other) (max (now other) e.moment) q (trail other q)) (secret_in v (registry other)) (sealed other q)) g.lasts_drawn
           ∙ (ap (λ b. given new (last past) q b (secret_in v (registry other)) (sealed other q)) (same_lives r q time past other e ne g)
-          ∙ (ap (given new (last past) q (live past q time) (secret_in v (registry other))) (g.secrets q ne)
-          ∙ step_sealed r (last past) q (live past q time) ch new _ _ (sealed past q) ne step));
+          ∙ (ap (given new (last past) q (lives_at (registry past) time q (trail past q)) (secret_in v (registry other))) (g.secrets q ne)
+          ∙ step_sealed r (last past) q (lives_at (registry past) time q (trail past q)) ch new _ _ (sealed past q) ne step));
       days = g.days;
       recents = λ at le.
           let before : List Session = filter (lasts time (live_reports past time)) (recent past) in
@@ -150,12 +150,6 @@ gapless_turn r past other e v g what =
     }
 
 -- ---- the tables without r
-
-sealed_off : (same there : Bool) (o : Option Answered) → cond (there && not same) o None ≡ cond same None (cond there o None)
-sealed_off true true o = refl
-sealed_off true false o = refl
-sealed_off false true o = refl
-sealed_off false false o = refl
 
 off_sealed : (b : Bool) (o : Option Answered) → cond (b && not true) o None ≡ None
 off_sealed true o = refl
@@ -200,7 +194,7 @@ pub not_live : (r time : ℕ) (past : Past Opened) → live past r time ≡ fals
 not_live r time past dead = by (is_there r (live_reports past time)) refl
   where
     by : (b : Bool) → is_there r (live_reports past time) ≡ b → b ≡ false
-    by true k = absurd (let bad : true ≡ false = sym (there_live past time r (numbers past) k) ∙ dead in grind (arith, bad))
+    by true k = absurd (let bad : true ≡ false = sym (there_live past time r k) ∙ dead in grind (arith, bad))
     by false k = refl
 
 -- absence on one past: where r is not live the tables are those of the past without it

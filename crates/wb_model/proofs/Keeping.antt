@@ -8,7 +8,7 @@ use Rattle.wb_model.specs.declared.entry.Entry.{Entry}
 use Rattle.wb_model.specs.declared.event.What.TheVariants.{Idle}
 use Rattle.wb_model.specs.Changes.{At, Change, Nothing, Begins, Answer, Verdict, Refused, Accepted, judged}
 use Rattle.wb_model.specs.Commands.{is_read, is_submission, is_of_sessions}
-use Rattle.wb_model.specs.Effects.{Effect, Misses, Looks, Reads, Writes, Submits, Comes, Goes, Sets}
+use Rattle.wb_model.specs.Effects.{Effect, Misses, Looks, Reads, Writes, Erases, Submits, Comes, Goes, Sets}
 use Rattle.wb_model.specs.Host.{Tables, Host, change_of, ruling, ruling_at}
 use Rattle.wb_model.specs.OnReports.{change_on}
 use Rattle.wb_model.specs.Opened.{Opened}
@@ -75,11 +75,13 @@ begun_alone at g who o d Misses entry k e = absurd (grind (arith, e))
 begun_alone at g who o d (Looks view) entry k e = absurd (grind (arith, e))
 begun_alone at g who o d (Reads part) entry k e = absurd (grind (arith, e))
 begun_alone at g who o d (Writes doing) entry k e = absurd (grind (arith, e))
+begun_alone at g who o d Erases entry k e = absurd (grind (arith, e))
 begun_alone at g who o d (Comes role) entry k e = absurd (grind (arith, e))
 begun_alone at g who o d (Goes turn) entry k e = absurd (grind (arith, e))
 
 begun_on : (at : At) (g : Registry) (who : Who) (n : ℕ) (trail : List Entry) (x : Effect) (entry : Entry) → change_on at g who n trail x ≡ Begins entry → ⊥
 begun_on at g who n trail (Writes doing) entry e = grind (arith, e)
+begun_on at g who n trail Erases entry e = grind (arith, e)
 begun_on at g who n trail (Comes role) entry e = grind (arith, e)
 begun_on at g who n trail (Goes turn) entry e = grind (arith, e)
 begun_on at g who n trail Misses entry e = grind (arith, e)

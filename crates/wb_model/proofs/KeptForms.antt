@@ -1,6 +1,6 @@
 -- What a turn keeps of the reports: their forms are there, and none began after the last draw.
-use Rattle.std.proofs.Common.{◌≡◌, ◌⊎◌, inl, inr, ℕ, ◌+◌, ◌*◌, ◌≤◌, Bool, true, false, cond, eqb, not, List, [], ◌∷◌, ◌++◌, Option, Some, None, refl, sym, ap, ◌∙◌, arith, option_map, ℤ}
-use Rattle.std.specs.Prelude.{map, find, fold, is_some, unwrap_or, nat_lt, nat_le, ◌&&◌, ◌==◌, Ok, Err}
+use Rattle.std.proofs.Common.{◌≡◌, ◌⊎◌, inl, inr, ℕ, ◌+◌, ◌*◌, ◌≤◌, Bool, true, false, cond, eqb, not, List, [], ◌∷◌, ◌++◌, Option, Some, None, refl, sym, ap, ◌∙◌, arith, option_map}
+use Rattle.std.specs.Prelude.{filter, map, find, fold, is_some, unwrap_or, nat_lt, nat_le, ◌&&◌, ◌==◌, Ok, Err}
 use Rattle.std.specs.Option.{option_or, option_map_or}
 use Rattle.std.specs.Ordering.{nat_cmp, match_ordering}
 use Rattle.std.specs.declared.cmp.Ordering.TheVariants.{Less, Equal, Greater}
@@ -13,6 +13,7 @@ use Rattle.wb_model.specs.declared.act.Move.{Move}
 use Rattle.wb_model.specs.declared.act.Move.TheVariants as moves
 use Rattle.wb_model.specs.declared.body.Told.{Told}
 use Rattle.wb_model.specs.declared.command.Command.{Command}
+use Rattle.wb_base.specs.Calendars.{Calendar}
 use Rattle.wb_model.specs.declared.entry.Entry.{Entry}
 use Rattle.wb_model.specs.declared.registry.ContextItem.{ContextItem}
 use Rattle.wb_model.specs.declared.registry.FormItem.{FormItem}
@@ -24,7 +25,7 @@ use Rattle.wb_model.specs.Faults.{admin_told}
 use Rattle.wb_model.specs.Refusing.{refuses_where}
 use Rattle.wb_model.specs.Requests.{Outcome, Request, open_form, form_of_trail}
 use Rattle.wb_model.specs.Settings.{OfTenant, OfUser, OfContext, OfForm, form_key, in_range, context_item, next_version, form_fault, Proposal, ToTenant, ToUser, ToContext, ToForm, proposal_refusal, setting_of}
-use Rattle.wb_model.specs.Changes.{At, Change, Nothing, Draws, Begins, Notes, Configures, Answer, judged}
+use Rattle.wb_model.specs.Changes.{At, Change, Nothing, Draws, Begins, Notes, Deletes, Configures, Answer, judged}
 use Rattle.wb_model.specs.Effects.{Effect, Writes, Submits, Sets}
 use Rattle.wb_model.specs.Doings.{Doing, Acts, Moves, doing_entry}
 use Rattle.wb_model.specs.Acts.{act_deed}
@@ -34,7 +35,7 @@ use Rattle.wb_model.specs.Rules.{refusal_alone, change_alone, effect_at, verdict
 use Rattle.wb_model.specs.Submissions.{drawing, submission_entry}
 use Rattle.wb_model.specs.Targets.{Target, Nobody, Alone, On}
 use Rattle.wb_model.specs.Host.{noted, plain_after, change_of}
-use Rattle.wb_model.specs.Legal.{is_legal, AreLegal}
+use Rattle.wb_model.specs.Legal.{Reckoning, reckoning, is_legal, AreLegal}
 use Rattle.wb_model.specs.Opened.{AreVersions, HaveForms, begun, AreBegunBy}
 use Rattle.wb_model.proofs.Found.{Held}
 use Rattle.wb_model.proofs.Effects.{IsSubmitted, submitted}
@@ -147,10 +148,10 @@ forms_stay xs x (c ∷ cs) all is have = (version_stays (trails.form c.trail) (t
 -- ---- one more entry
 
 -- an entry that is no submission leaves what the submission says
-silent_part : {X : Type 0} (part : Submission → X) (none : X) (e : Entry) (trail : List Entry) → submission_in e.deed ≡ None → trails.submitted part none (trail ++ e ∷ []) ≡ trails.submitted part none trail
+pub silent_part : {X : Type 0} (part : Submission → X) (none : X) (e : Entry) (trail : List Entry) → submission_in e.deed ≡ None → trails.submitted part none (trail ++ e ∷ []) ≡ trails.submitted part none trail
 silent_part part none e trail silent = fold-append _ _ trail (e ∷ []) ∙ ap (λ (o : Option Submission). unwrap_or (option_map part o) (trails.submitted part none trail)) silent
 
-form_more : (forms : List FormItem) (e : Entry) (trail : List Entry) → submission_in e.deed ≡ None → form_of_trail (trail ++ e ∷ []) forms ≡ form_of_trail trail forms
+pub form_more : (forms : List FormItem) (e : Entry) (trail : List Entry) → submission_in e.deed ≡ None → form_of_trail (trail ++ e ∷ []) forms ≡ form_of_trail trail forms
 form_more forms e trail silent =
     ap (λ i. find (is_version i (trails.version (trail ++ e ∷ []))) forms) (silent_part (λ (s : Submission). s.form) 0 e trail silent)
     ∙ ap (λ v. find (is_version (trails.form trail) v) forms) (silent_part (λ (s : Submission). s.version) 0 e trail silent)
@@ -178,14 +179,32 @@ begun_pushed m [] c all new = (new, tt)
 begun_pushed m (d ∷ cs) c all new = (all.0, begun_pushed m cs c all.1 new)
 
 -- a legal trail is not empty, and one more entry leaves its first
-begun_noted : (m n : ℕ) (e : Entry) (offset : ℤ) (time : ℕ) (cs : List Case) → AreLegal offset time cs → AreBegunBy m cs → AreBegunBy m (map (noted n e) cs)
-begun_noted m n e offset time [] legal all = tt
-begun_noted m n e offset time (c ∷ cs) legal all = (by (eqb c.number n) c.trail legal.0.0 all.0, begun_noted m n e offset time cs legal.1 all.1)
+begun_noted : (m n : ℕ) (e : Entry) (days : Reckoning) (time : ℕ) (cs : List Case) → AreLegal days time cs → AreBegunBy m cs → AreBegunBy m (map (noted n e) cs)
+begun_noted m n e days time [] legal all = tt
+begun_noted m n e days time (c ∷ cs) legal all = (by (eqb c.number n) c.trail legal.0.0 all.0, begun_noted m n e days time cs legal.1 all.1)
   where
-    by : (b : Bool) (trail : List Entry) → is_legal offset trail ≡ true → begun trail ≤ m → begun (cond b (trail ++ e ∷ []) trail) ≤ m
+    by : (b : Bool) (trail : List Entry) → is_legal days trail ≡ true → begun trail ≤ m → begun (cond b (trail ++ e ∷ []) trail) ≤ m
     by b [] bad le = absurd (grind (arith, bad))
     by true (x ∷ trail) is le = le
     by false (x ∷ trail) is le = le
+
+-- ---- some of the reports
+
+pub filtered_forms : (p : Case → Bool) (forms : List FormItem) (cs : List Case) → HaveForms forms cs → HaveForms forms (filter p cs)
+filtered_forms p forms [] have = tt
+filtered_forms p forms (c ∷ cs) have = by (p c) (filtered_forms p forms cs have.1)
+  where
+    by : (b : Bool) → HaveForms forms (filter p cs) → HaveForms forms (cond b (c ∷ filter p cs) (filter p cs))
+    by true ih = (have.0, ih)
+    by false ih = ih
+
+pub filtered_begun : (p : Case → Bool) (m : ℕ) (cs : List Case) → AreBegunBy m cs → AreBegunBy m (filter p cs)
+filtered_begun p m [] all = tt
+filtered_begun p m (c ∷ cs) all = by (p c) (filtered_begun p m cs all.1)
+  where
+    by : (b : Bool) → AreBegunBy m (filter p cs) → AreBegunBy m (cond b (c ∷ filter p cs) (filter p cs))
+    by true ih = (all.0, ih)
+    by false ih = ih
 
 -- ---- a change
 
@@ -202,7 +221,7 @@ pub record AreMade (p : Plain) : Type 0 where
   pub forms : HaveForms p.registry.forms p.cases
   pub begun : AreBegunBy p.numbering.at p.cases
 
-pub change_made : (time : ℕ) (p : Plain) (ch : Change) → IsMade time p.registry ch → p.numbering.at ≤ time → AreLegal p.registry.settings.offset time p.cases → AreMade p → AreMade (plain_after time ch p)
+pub change_made : (time : ℕ) (p : Plain) (ch : Change) → IsMade time p.registry ch → p.numbering.at ≤ time → AreLegal (reckoning p.registry.settings) time p.cases → AreMade p → AreMade (plain_after time ch p)
 change_made time p (Begins e) is le legal made =
     let new : Case = record { number = p.numbering.last + 1; trail = e ∷ [] } in
     record {
@@ -213,7 +232,7 @@ change_made time p (Begins e) is le legal made =
 change_made time p (Notes n e) is le legal made = record {
   versions = made.versions;
   forms = forms_noted p.registry.forms n e p.cases is made.forms;
-  begun = begun_noted p.numbering.at n e p.registry.settings.offset time p.cases legal made.begun;
+  begun = begun_noted p.numbering.at n e (reckoning p.registry.settings) time p.cases legal made.begun;
 }
 change_made time p (Configures (OfForm item)) is le legal made = record {
   versions = versions_more p.registry.forms item made.versions is;
@@ -223,6 +242,7 @@ change_made time p (Configures (OfForm item)) is le legal made = record {
 change_made time p (Configures (OfTenant next)) is le legal made = record { versions = made.versions; forms = made.forms; begun = made.begun }
 change_made time p (Configures (OfUser item ends)) is le legal made = record { versions = made.versions; forms = made.forms; begun = made.begun }
 change_made time p (Configures (OfContext item)) is le legal made = record { versions = made.versions; forms = made.forms; begun = made.begun }
+change_made time p (Deletes n) is le legal made = record { versions = made.versions; forms = filtered_forms _ p.registry.forms p.cases made.forms; begun = filtered_begun _ p.numbering.at p.cases made.begun }
 change_made time p Draws is le legal made = record { versions = made.versions; forms = made.forms; begun = later_begun p.numbering.at time p.cases le made.begun }
 change_made time p _ is le legal made = record { versions = made.versions; forms = made.forms; begun = made.begun }
 
@@ -260,20 +280,20 @@ alone_made at p who o d (Sets t proposal) k free = proposal_made at.time t p.reg
 alone_made at p who o d _ k free = tt
 
 -- what is done is no submission
-doing_silent : (time : ℕ) (who : Who) (trail : List Entry) (d : Doing) → submission_in (doing_entry time who trail d).deed ≡ None
-doing_silent time who trail (Acts act) = by act
+pub doing_silent : (calendar : Calendar) (time : ℕ) (who : Who) (trail : List Entry) (d : Doing) → submission_in (doing_entry calendar time who trail d).deed ≡ None
+doing_silent calendar time who trail (Acts act) = by act
   where
-    by : (x : Act) → submission_in (act_deed trail x) ≡ None
+    by : (x : Act) → submission_in (act_deed calendar trail x) ≡ None
     by (acts.Label text) = refl
     by _ = refl
-doing_silent time who trail (Moves move) = by move
+doing_silent calendar time who trail (Moves move) = by move
   where
     by : (x : Move) → submission_in (move_deed time x) ≡ None
     by (moves.Ask reason stamp) = refl
     by _ = refl
 
 on_made : (at : At) (g : Registry) (who : Who) (n : ℕ) (trail : List Entry) (e : Effect) → IsMade at.time g (change_on at g who n trail e)
-on_made at g who n trail (Writes d) = doing_silent at.time who trail d
+on_made at g who n trail (Writes d) = doing_silent g.settings.calendar at.time who trail d
 on_made at g who n trail _ = tt
 
 judged_made : (time : ℕ) (g : Registry) (o : Option Told) (ch : Change) (a : Answer) → (o ≡ None → IsMade time g ch) → IsMade time g (change_of (judged o ch a))

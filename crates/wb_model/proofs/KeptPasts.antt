@@ -1,18 +1,17 @@
 -- What a past that verdicts made keeps of its reports, and that a host may be opened with it again.
-use Rattle.std.proofs.Common.{◌≡◌, ℕ, ◌≤◌, Bool, true, false, cond, eqb, List, [], ◌∷◌, ◌++◌, None, refl, sym, ap, ◌∙◌, subst, arith, ℤ}
+use Rattle.std.proofs.Common.{◌≡◌, ℕ, ◌≤◌, Bool, true, false, cond, eqb, List, [], ◌∷◌, ◌++◌, None, refl, sym, ap, ◌∙◌, subst, arith}
 use Rattle.std.specs.Prelude.{map, filter, max, is_some}
 use Rattle.std.proofs.lemmas.Bool.Decides.{nat_tests}
 use Rattle.wb_model.specs.declared.entry.Entry.{Entry}
 use Rattle.wb_model.specs.declared.event.Event.{Event}
 use Rattle.wb_model.specs.declared.event.What.{What}
 use Rattle.wb_model.specs.declared.event.What.TheVariants.{Did, Gap, Idle, Lost}
-use Rattle.wb_model.specs.declared.registry.FormItem.{FormItem}
 use Rattle.wb_model.specs.Trails.{has_identity}
 use Rattle.wb_model.specs.Requests.{Frame, plain_part}
 use Rattle.wb_model.specs.Tables.{Plain, Case, has_receipt, is_live, is_there, report}
 use Rattle.wb_model.specs.Changes.{At}
 use Rattle.wb_model.specs.Host.{Tables, change_of, ruling}
-use Rattle.wb_model.specs.Legal.{last_at, AreLegal}
+use Rattle.wb_model.specs.Legal.{Reckoning, reckoning, last_at, AreLegal}
 use Rattle.wb_model.specs.Opened.{AtMost, HaveForms, AreBegunBy, Apart, entries_of, AreOpened, Opened}
 use Rattle.wb_model.specs.Past.{Past, Opening, Turn, now, registry, last, drawn_at, numbers, case_of, trail, sealed, live_reports, plain, tables, held}
 use Rattle.wb_model.specs.PastTurns.{at_frame, target_at, what_at}
@@ -28,27 +27,11 @@ use Rattle.wb_model.proofs.LegalPasts.{live_up, trails_legal, registries_sound}
 use Rattle.wb_model.proofs.Marked.{marked}
 use Rattle.wb_model.proofs.Numberings.{numbered}
 use Rattle.wb_model.proofs.InOrder.{past_ordered}
-use Rattle.wb_model.proofs.KeptForms.{later_begun, AreMade, change_made, verdict_made}
+use Rattle.wb_model.proofs.KeptForms.{filtered_forms, filtered_begun, later_begun, AreMade, change_made, verdict_made}
 
 -- ---- what passes
 
-filtered_forms : (p : Case → Bool) (forms : List FormItem) (cs : List Case) → HaveForms forms cs → HaveForms forms (filter p cs)
-filtered_forms p forms [] have = tt
-filtered_forms p forms (c ∷ cs) have = by (p c) (filtered_forms p forms cs have.1)
-  where
-    by : (b : Bool) → HaveForms forms (filter p cs) → HaveForms forms (cond b (c ∷ filter p cs) (filter p cs))
-    by true ih = (have.0, ih)
-    by false ih = ih
-
-filtered_begun : (p : Case → Bool) (m : ℕ) (cs : List Case) → AreBegunBy m cs → AreBegunBy m (filter p cs)
-filtered_begun p m [] all = tt
-filtered_begun p m (c ∷ cs) all = by (p c) (filtered_begun p m cs all.1)
-  where
-    by : (b : Bool) → AreBegunBy m (filter p cs) → AreBegunBy m (cond b (c ∷ filter p cs) (filter p cs))
-    by true ih = (all.0, ih)
-    by false ih = ih
-
-below_filtered : (p : Case → Bool) (past : Past Opened) (k : ℕ) (ns : List ℕ) → Below k ns → AtMost k (filter p (map (case_of past) ns))
+pub below_filtered : (p : Case → Bool) (past : Past Opened) (k : ℕ) (ns : List ℕ) → Below k ns → AtMost k (filter p (map (case_of past) ns))
 below_filtered p past k [] all = tt
 below_filtered p past k (n ∷ ns) all = by (p (case_of past n)) (below_filtered p past k ns all.1)
   where
@@ -147,13 +130,13 @@ last_latest : (time : ℕ) (es : List Entry) → last_at time es ≤ max time (l
 last_latest time [] = omega arith
 last_latest time (e ∷ es) = let ih : last_at e.at es ≤ max e.at (latest (map (λ (x : Entry). x.at) es)) = last_latest e.at es in omega (arith, ih)
 
-done_by : (offset : ℤ) (m at : ℕ) (cs : List Case) → latest (entry_moments cs) ≤ at → AreLegal offset m cs → AreLegal offset at cs
-done_by offset m at [] le legal = tt
-done_by offset m at (c ∷ cs) le legal =
+done_by : (days : Reckoning) (m at : ℕ) (cs : List Case) → latest (entry_moments cs) ≤ at → AreLegal days m cs → AreLegal days at cs
+done_by days m at [] le legal = tt
+done_by days m at (c ∷ cs) le legal =
     let here : latest (map (λ (e : Entry). e.at) c.trail) ≤ latest (entry_moments (c ∷ cs)) = latest_first (map (λ (e : Entry). e.at) c.trail) (entry_moments cs) in
     let rest : latest (entry_moments cs) ≤ latest (entry_moments (c ∷ cs)) = latest_rest (map (λ (e : Entry). e.at) c.trail) (entry_moments cs) in
     let last : last_at 0 c.trail ≤ max 0 (latest (map (λ (e : Entry). e.at) c.trail)) = last_latest 0 c.trail in
-    ((legal.0.0, omega (arith, here, last, le)), done_by offset m at cs (omega (arith, rest, le)) legal.1)
+    ((legal.0.0, omega (arith, here, last, le)), done_by days m at cs (omega (arith, rest, le)) legal.1)
 
 -- ---- the opening
 
@@ -170,7 +153,7 @@ tables_opened t at past verdicts le =
       ascend = live_up past (now past);
       most = below_filtered (is_live (registry past).settings (now past)) past (last past) (numbers past) (numbers_below past);
       begun = is.made.begun;
-      legal = done_by (registry past).settings.offset (now past) at cs (omega (arith, le)) (trails_legal t (now past) past verdicts (omega arith));
+      legal = done_by (reckoning (registry past).settings) (now past) at cs (omega (arith, le)) (trails_legal t (now past) past verdicts (omega arith));
       forms = is.made.forms;
       receipts = is.receipts;
       marks = λ r. live_marks past (is_live (registry past).settings (now past)) r (numbers past);
@@ -188,7 +171,7 @@ held_opened t at (Opening o) verdicts le = record {
   ascend = o.sound.ascend;
   most = o.sound.most;
   begun = o.sound.begun;
-  legal = done_by o.tables.plain.registry.settings.offset o.at at o.tables.plain.cases (omega (arith, le)) o.sound.legal;
+  legal = done_by (reckoning o.tables.plain.registry.settings) o.at at o.tables.plain.cases (omega (arith, le)) o.sound.legal;
   forms = o.sound.forms;
   receipts = o.sound.receipts;
   marks = o.sound.marks;

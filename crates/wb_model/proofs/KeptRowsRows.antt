@@ -1,6 +1,11 @@
 -- Kept rows, expiry and counts, computed.
 use Rattle.std.proofs.Common.{◌≡◌, true, false, [], ◌∷◌, refl, pos}
-use Rattle.std.specs.Prelude.{map}
+use Rattle.std.specs.Prelude.{map, codes, Some, option_map}
+use Rattle.std.specs.Fmt.{digits}
+use Rattle.json.specs.Print.{escape_byte}
+use Rattle.serde_json.specs.Written.{compact_text}
+use Rattle.wb_base.specs.FormJson.{weighed_show}
+use Rattle.wb_base.specs.declared.form.Trigger.TheVariants as triggers
 use Rattle.wb_base.specs.declared.rows.Row.{Row}
 use Rattle.wb_model.specs.declared.entry.Actor.TheVariants as actors
 use Rattle.wb_model.specs.declared.entry.Deed.TheVariants as deeds
@@ -9,10 +14,15 @@ use Rattle.wb_model.proofs.Starter.{starter_registry, starter_opening}
 use Rattle.wb_model.specs.Past.{Opening}
 use Rattle.wb_model.specs.Rows.{rows}
 
--- settings, numbering, four users, a form's version and two contexts
-starter-rows : map (λ (x : Row). x.key.kind) (rows (Opening starter_opening)) ≡ 1 ∷ 2 ∷ 3 ∷ 3 ∷ 3 ∷ 3 ∷ 4 ∷ 5 ∷ 5 ∷ []
+-- the format, settings, numbering, four users, a form's version and two contexts
+starter-rows : map (λ (x : Row). x.key.kind) (rows (Opening starter_opening)) ≡ 0 ∷ 1 ∷ 2 ∷ 3 ∷ 3 ∷ 3 ∷ 3 ∷ 4 ∷ 5 ∷ 5 ∷ []
 unfolding starter_opening starter_registry
 starter-rows = refl
+
+-- how the starter form's third field is kept
+kept-show : option_map compact_text (weighed_show (triggers.All (record { field = codes "cat"; option = codes "fraud" } ∷ []))) ≡ Some (codes "{\"least\":1,\"mode\":\"all\",\"parts\":[{\"field\":\"cat\",\"option\":\"fraud\",\"points\":1}]}")
+unfolding escape_byte digits
+kept-show = refl
 
 -- a report of day 20089 that is kept for 30 days, where the day begins two hours earlier
 abbrev kept : Case

@@ -3,7 +3,7 @@ use Rattle.std.proofs.Common.{◌≡◌, ℕ, ◌+◌, not, List, [], ◌∷◌,
 use Rattle.std.specs.Prelude.{filter}
 use Rattle.std.proofs.lemmas.List.{append-nil}
 use Rattle.serde_json.specs.Written.{compact_text}
-use Rattle.wb_base.specs.FormJson.{form_data}
+use Rattle.wb_base.specs.FormJson.{kept_data}
 use Rattle.wb_base.specs.AnswerList.{Answered}
 use Rattle.wb_base.specs.declared.rows.Row.{Row}
 use Rattle.wb_base.specs.declared.rows.Change.{Change as RowChange}
@@ -98,7 +98,7 @@ texts = record {
   settings = λ s. compact_text (rows.settings_data s);
   numbering = λ n. compact_text (rows.numbering_data n);
   user = λ u. compact_text (rows.user_data u);
-  form = λ f. compact_text (form_data f.form);
+  form = λ f. compact_text (kept_data f.form);
   context = λ c. compact_text (rows.context_data c);
   entry = λ e. compact_text (rows.entry_data e);
   sealed = λ a. compact_text (answers_data a);
@@ -125,7 +125,7 @@ tenants_same f g [] same = refl
 tenants_same f g (x ∷ xs) same = λ i. same x i ++ tenants_same f g xs same i
 
 -- the rows that are kept are these
-pub rows_same : (xs : List Tenancy) → rows.rows_of xs ≡ rows_of texts xs
+pub rows_same : (xs : List Tenancy) → rows.tenants_rows xs ≡ rows_of texts xs
 rows_same xs =
     joined (tenants_same rows.settings_rows (settings_rows texts) xs (λ x. refl))
     (joined (tenants_same rows.numbering_rows (numbering_rows texts) xs (λ x. refl))

@@ -3,9 +3,8 @@ use Rattle.std.proofs.Common.{◌≡◌, ◌≢◌, ◌⊎◌, inl, inr, ℕ, �
 use Rattle.std.specs.Prelude.{is_some, nat_lt, filter, map, find, ◌&&◌}
 use Rattle.std.proofs.lemmas.Bool.Decides.{nat_tests}
 use Rattle.wb_base.specs.declared.words.Digest.{Digest}
-use Rattle.wb_model.specs.Tables.{Case, Session, Who, TheUser, TheReporter, report, has_number, has_receipt, with_receipt, is_there, stays, lasts}
+use Rattle.wb_model.specs.Tables.{Case, Session, Who, TheUser, TheReporter, report, has_number, has_receipt, with_receipt, is_there, stays, lasts, others, is_reporter_of, sessions_but}
 use Rattle.wb_model.specs.Opened.{Apart}
-use Rattle.wb_model.specs.Absence.{others, is_reporter_of, sessions_but}
 use Rattle.wb_model.proofs.Found.{Held, same_number, other_number, decide, filter_twice, find_true}
 
 pub truth : (b : Bool) → (b ≡ true) ⊎ (b ≡ false)
@@ -148,11 +147,11 @@ others_all r (c ∷ cs) e = grind (arith, nat_tests, others_all r cs, e)
 
 -- ---- sessions
 
-stays_without : (r : ℕ) (cs : List Case) (w : Who) → (stays (others r cs) w && not (is_reporter_of r w)) ≡ (stays cs w && not (is_reporter_of r w))
+pub stays_without : (r : ℕ) (cs : List Case) (w : Who) → (stays (others r cs) w && not (is_reporter_of r w)) ≡ (stays cs w && not (is_reporter_of r w))
 stays_without r cs (TheUser u) = refl
 stays_without r cs (TheReporter n) = let k : is_there n (others r cs) ≡ (is_there n cs && not (eqb n r)) = there_others r n cs in grind (arith, k)
 
-and_first : (a b c f : Bool) → (b && f) ≡ (c && f) → ((a && b) && f) ≡ ((a && c) && f)
+pub and_first : (a b c f : Bool) → (b && f) ≡ (c && f) → ((a && b) && f) ≡ ((a && c) && f)
 and_first true b c f e = e
 and_first false b c f e = refl
 

@@ -25,16 +25,16 @@ use Rattle.wb_model.specs.declared.entry.Entry.{Entry}
 use Rattle.wb_model.specs.declared.registry.ContextItem.{ContextItem}
 use Rattle.wb_model.specs.declared.registry.FormItem.{FormItem}
 use Rattle.wb_model.specs.Access.{requests, request_at, state_now, ended_state, is_waiting, is_granted, user_by}
-use Rattle.wb_model.specs.Trails.{received, expires, has_identity}
+use Rattle.wb_model.specs.Trails.{received, acknowledged, is_extended, expires, has_identity}
 use Rattle.wb_model.specs.Tables.{Registry}
 use Rattle.wb_model.specs.Faults.{case_told, custody_told}
-use Rattle.wb_model.specs.Acts.{closed, same_context, context_closed, full, case_fault, act_deed}
+use Rattle.wb_model.specs.Acts.{closed, same_context, context_closed, not_external, extended, full, case_fault, act_deed}
 use Rattle.wb_model.specs.Moves.{unless_state, decided, not_granted, custody_fault, effective, move_deed}
 use Rattle.wb_model.specs.Changes.{At}
 use Rattle.wb_model.specs.Requests.{Outcome}
 use Rattle.wb_model.specs.Submissions.{submission_entry}
 use Rattle.wb_model.specs.Doings.{Doing, Acts, Moves, doing_fault, doing_deed}
-use Rattle.wb_model.specs.Legal.{is_reporter, is_within, are_readers, is_effective, is_first, is_next, legal_from, is_legal, last_at, AsksRightly}
+use Rattle.wb_model.specs.Legal.{Reckoning, reckoning, is_reporter, is_within, are_readers, is_effective, is_first, is_next, legal_from, is_legal, last_at, AsksRightly}
 use Rattle.wb_model.proofs.Drawn.{same_day}
 
 -- ---- parts
@@ -77,26 +77,36 @@ was_open None None d true e = refl
 
 -- ---- acts
 
-act_legal : (offset : ℤ) (last time : ℕ) (trail : List Entry) (by : Actor) (act : Act) → last ≤ time → AsksRightly offset time by (Acts act) → case_fault trail act ≡ None → is_next offset last trail (record { at = time; by = by; deed = act_deed trail act }) ≡ true
-act_legal offset last time trail by (acts.Comment internal text) le asks free = four _ _ _ _ (grind (arith, nat_tests, le)) refl refl (no_fault case_told _ free)
-act_legal offset last time trail by (acts.Label text) le asks free = four _ _ _ _ (grind (arith, nat_tests, le)) (user_right (is_reporter by) asks) refl (no_fault case_told _ free)
-act_legal offset last time trail by (acts.SetStatus status) le asks free = four _ _ _ _ (grind (arith, nat_tests, le)) (user_right (is_reporter by) asks) refl (no_fault case_told _ free)
-act_legal offset last time trail by (acts.Acknowledge today) le asks free =
+was_external : (o p : Option CaseFault) (external : Bool) → option_or o (option_or (not_external external) p) ≡ None → external ≡ true
+was_external o p true free = refl
+was_external None p false free = absurd (grind (arith, free))
+was_external (Some x) p false free = absurd (grind (arith, free))
+
+act_legal : (days : Reckoning) (last time : ℕ) (trail : List Entry) (by : Actor) (act : Act) → last ≤ time → AsksRightly days time by (Acts act) → case_fault trail act ≡ None → is_next days last trail (record { at = time; by = by; deed = act_deed days.calendar trail act }) ≡ true
+act_legal days last time trail by (acts.Comment internal text) le asks free = four _ _ _ _ (grind (arith, nat_tests, le)) refl refl (no_fault case_told _ free)
+act_legal days last time trail by (acts.Label text) le asks free = four _ _ _ _ (grind (arith, nat_tests, le)) (user_right (is_reporter by) asks) refl (no_fault case_told _ free)
+act_legal days last time trail by (acts.SetStatus status) le asks free = four _ _ _ _ (grind (arith, nat_tests, le)) (user_right (is_reporter by) asks) refl (no_fault case_told _ free)
+act_legal days last time trail by (acts.Acknowledge today) le asks free =
     four _ _ _ _ (grind (arith, nat_tests, le)) (user_right (is_reporter by) asks.0)
-    (ap (λ b. b && int_eq (terms.feedback_due (received trail) (Some today)) (terms.feedback_due (received trail) (Some today))) (same_day today (day_of time offset) asks.1) ∙ same_day (terms.feedback_due (received trail) (Some today)) (terms.feedback_due (received trail) (Some today)) refl)
+    (ap (λ b. b && int_eq (terms.feedback_due (received trail) (Some today) (is_extended trail) days.calendar) (terms.feedback_due (received trail) (Some today) (is_extended trail) days.calendar)) (same_day today (day_of time days.offset) asks.1) ∙ same_day (terms.feedback_due (received trail) (Some today) (is_extended trail) days.calendar) (terms.feedback_due (received trail) (Some today) (is_extended trail) days.calendar) refl)
     (no_fault case_told _ free)
-act_legal offset last time trail by (acts.Feedback text) le asks free = four _ _ _ _ (grind (arith, nat_tests, le)) (user_right (is_reporter by) asks) refl (no_fault case_told _ free)
-act_legal offset last time trail by (acts.Share user) le asks free = four _ _ _ _ (grind (arith, nat_tests, le)) (user_right (is_reporter by) asks) refl (no_fault case_told _ free)
-act_legal offset last time trail by (acts.Unshare user) le asks free = four _ _ _ _ (grind (arith, nat_tests, le)) (user_right (is_reporter by) asks) refl (no_fault case_told _ free)
-act_legal offset last time trail by (acts.Transfer context is_open readers) le asks free =
+act_legal days last time trail by (acts.Feedback text) le asks free = four _ _ _ _ (grind (arith, nat_tests, le)) (user_right (is_reporter by) asks) refl (no_fault case_told _ free)
+act_legal days last time trail by (acts.Share user) le asks free = four _ _ _ _ (grind (arith, nat_tests, le)) (user_right (is_reporter by) asks) refl (no_fault case_told _ free)
+act_legal days last time trail by (acts.Unshare user) le asks free = four _ _ _ _ (grind (arith, nat_tests, le)) (user_right (is_reporter by) asks) refl (no_fault case_told _ free)
+act_legal days last time trail by (acts.Transfer context is_open readers) le asks free =
     let open_is : is_open ≡ true = was_open (closed trail) (same_context context trail) (full trail) is_open free in
     four _ _ _ _ (grind (arith, nat_tests, le)) (user_right (is_reporter by) asks.0) asks.1
     (no_fault case_told _ (ap (λ b. case_fault trail (acts.Transfer context b readers)) (sym open_is) ∙ free))
-act_legal offset last time trail by (acts.Postpone today retention) le asks free =
+act_legal days last time trail by (acts.Postpone today retention) le asks free =
     four _ _ _ _ (grind (arith, nat_tests, le)) (user_right (is_reporter by) asks.0)
     (subst (λ day. (not (int_lt (int_max (expires trail) (today +ℤ pos retention)) (expires trail)) && (int_eq (int_max (expires trail) (today +ℤ pos retention)) (expires trail) || not (int_lt (day +ℤ pos 3_650) (int_max (expires trail) (today +ℤ pos retention))))) ≡ true) asks.1 (postponed_right (expires trail) today retention asks.2))
     (no_fault case_told _ free)
-act_legal offset last time trail by acts.Identity le asks free = four _ _ _ _ (grind (arith, nat_tests, le)) asks refl (no_fault case_told _ free)
+act_legal days last time trail by (acts.Extend reason external) le asks free =
+    let external_is : external ≡ true = was_external (closed trail) (option_or (extended trail) (full trail)) external free in
+    let due : ℤ = terms.feedback_due (received trail) (acknowledged trail) true days.calendar in
+    four _ _ _ _ (grind (arith, nat_tests, le)) (user_right (is_reporter by) asks) (same_day due due refl)
+    (no_fault case_told _ (ap (λ b. case_fault trail (acts.Extend reason b)) (sym external_is) ∙ free))
+act_legal days last time trail by acts.Identity le asks free = four _ _ _ _ (grind (arith, nat_tests, le)) asks refl (no_fault case_told _ free)
 
 -- ---- moves
 
@@ -149,22 +159,22 @@ granted_days time n None le =
     let whole : eqb (((time + 86_400 * n) - time) % 86_400) 0 ≡ true = ap (λ k. eqb (k % 86_400) 0) gap ∙ ap (λ k. eqb k 0) days in
     rw (after, most, whole) refl
 
-move_legal : (offset : ℤ) (last time : ℕ) (trail : List Entry) (by : Actor) (move : Move) → last ≤ time → AsksRightly offset time by (Moves move) → custody_fault (length trail) (has_identity trail) (requests trail) (user_by by) move ≡ None →
-    is_next offset last trail (record { at = time; by = by; deed = move_deed time move }) ≡ true
-move_legal offset last time trail by (moves.Ask reason stamp) le asks free = four _ _ _ _ (grind (arith, nat_tests, le)) (user_right (is_reporter by) asks) refl (no_fault custody_told _ free)
-move_legal offset last time trail by (moves.Grant request stamp notice_days reason withheld) le asks free =
+move_legal : (days : Reckoning) (last time : ℕ) (trail : List Entry) (by : Actor) (move : Move) → last ≤ time → AsksRightly days time by (Moves move) → custody_fault (length trail) (has_identity trail) (requests trail) (user_by by) move ≡ None →
+    is_next days last trail (record { at = time; by = by; deed = move_deed time move }) ≡ true
+move_legal days last time trail by (moves.Ask reason stamp) le asks free = four _ _ _ _ (grind (arith, nat_tests, le)) (user_right (is_reporter by) asks) refl (no_fault custody_told _ free)
+move_legal days last time trail by (moves.Grant request stamp notice_days reason withheld) le asks free =
     let rules = first_none (decided request stamp (requests trail)) (Rattle.wb_model.specs.Moves.full (length trail)) free in
     four _ _ _ _ (grind (arith, nat_tests, le)) (user_right (is_reporter by) asks.0) (granted_days time notice_days withheld asks.1)
     (no_fault custody_told _ (both_none _ (Rattle.wb_model.specs.Moves.full (length trail)) (own_state is_waiting (λ state. custody.Decided state) stamp (request_at request (requests trail)) (λ r. waiting_own r stamp) rules.0) rules.1))
-move_legal offset last time trail by (moves.Deny request stamp reason) le asks free =
+move_legal days last time trail by (moves.Deny request stamp reason) le asks free =
     four _ _ _ _ (grind (arith, nat_tests, le)) (user_right (is_reporter by) asks) refl (no_fault custody_told _ (own_state is_waiting (λ state. custody.Decided state) stamp (request_at request (requests trail)) (λ r. waiting_own r stamp) free))
-move_legal offset last time trail by (moves.Revoke request stamp reason) le asks free =
+move_legal days last time trail by (moves.Revoke request stamp reason) le asks free =
     four _ _ _ _ (grind (arith, nat_tests, le)) (user_right (is_reporter by) asks) refl (no_fault custody_told _ (own_state is_granted (λ state. custody.NotGranted state) stamp (request_at request (requests trail)) (λ r. granted_own r stamp) free))
 
 -- what is not refused is legal
-pub doing_legal : (offset : ℤ) (last time : ℕ) (trail : List Entry) (by : Actor) (d : Doing) → last ≤ time → AsksRightly offset time by d → doing_fault trail (user_by by) d ≡ None → is_next offset last trail (record { at = time; by = by; deed = doing_deed time trail d }) ≡ true
-doing_legal offset last time trail by (Acts act) le asks free = act_legal offset last time trail by act le asks (told_none case_told _ free)
-doing_legal offset last time trail by (Moves move) le asks free = move_legal offset last time trail by move le asks (told_none custody_told _ free)
+pub doing_legal : (days : Reckoning) (last time : ℕ) (trail : List Entry) (by : Actor) (d : Doing) → last ≤ time → AsksRightly days time by d → doing_fault trail (user_by by) d ≡ None → is_next days last trail (record { at = time; by = by; deed = doing_deed days.calendar time trail d }) ≡ true
+doing_legal days last time trail by (Acts act) le asks free = act_legal days last time trail by act le asks (told_none case_told _ free)
+doing_legal days last time trail by (Moves move) le asks free = move_legal days last time trail by move le asks (told_none custody_told _ free)
 
 -- ---- submissions
 
@@ -179,11 +189,11 @@ within day n least most = of (int_lt (day +ℤ pos n) (day +ℤ pos 1)) (int_lt 
 five : (a b c d e : Bool) → a ≡ true → b ≡ true → c ≡ true → d ≡ true → e ≡ true → (a && b && c && d && e) ≡ true
 five a b c d e f g h i j = grind (arith, f, g, h, i, j)
 
-pub submission_legal : (at : At) (g : Registry) (o : Outcome) (c : ContextItem) (form : FormItem) → 1 ≤ c.retention → c.retention ≤ 3_650 → are_readers c.recipients ≡ true → is_first g.settings.offset (submission_entry at g o c form) ≡ true
+pub submission_legal : (at : At) (g : Registry) (o : Outcome) (c : ContextItem) (form : FormItem) → 1 ≤ c.retention → c.retention ≤ 3_650 → are_readers c.recipients ≡ true → is_first (reckoning g.settings) (submission_entry at g o c form) ≡ true
 unfolding submission_entry
 submission_legal at g o c form least most readers =
     let today : ℤ = day_of at.time g.settings.offset in
-    five _ _ _ _ _ (same_day today today refl) (same_day (terms.ack_due today) (terms.ack_due today) refl) (same_day (terms.feedback_due today None) (terms.feedback_due today None) refl) (within today c.retention least most) readers
+    five _ _ _ _ _ (same_day today today refl) (same_day (terms.ack_due today g.settings.calendar) (terms.ack_due today g.settings.calendar) refl) (same_day (terms.feedback_due today None false g.settings.calendar) (terms.feedback_due today None false g.settings.calendar) refl) (within today c.retention least most) readers
 
 -- ---- trails
 
@@ -192,16 +202,16 @@ both true true e = (refl, refl)
 both true false e = absurd (grind (arith, e))
 both false b e = absurd (grind (arith, e))
 
-legal_more : (offset : ℤ) (time : ℕ) (before es : List Entry) (e : Entry) → legal_from offset time before es ≡ true → is_next offset (last_at time es) (before ++ es) e ≡ true → legal_from offset time before (es ++ e ∷ []) ≡ true
-legal_more offset time before [] e legal next = ap (λ b. b && true) (ap (λ xs. is_next offset time xs e) (sym (append-nil before)) ∙ next)
-legal_more offset time before (x ∷ es) e legal next =
-    let parts = both (is_next offset time before x) (legal_from offset x.at (before ++ x ∷ []) es) legal in
-    ap (λ b. b && legal_from offset x.at (before ++ x ∷ []) (es ++ e ∷ [])) parts.0
-    ∙ legal_more offset x.at (before ++ x ∷ []) es e parts.1 (ap (λ xs. is_next offset (last_at x.at es) xs e) (append_assoc before (x ∷ []) es) ∙ next)
+legal_more : (days : Reckoning) (time : ℕ) (before es : List Entry) (e : Entry) → legal_from days time before es ≡ true → is_next days (last_at time es) (before ++ es) e ≡ true → legal_from days time before (es ++ e ∷ []) ≡ true
+legal_more days time before [] e legal next = ap (λ b. b && true) (ap (λ xs. is_next days time xs e) (sym (append-nil before)) ∙ next)
+legal_more days time before (x ∷ es) e legal next =
+    let parts = both (is_next days time before x) (legal_from days x.at (before ++ x ∷ []) es) legal in
+    ap (λ b. b && legal_from days x.at (before ++ x ∷ []) (es ++ e ∷ [])) parts.0
+    ∙ legal_more days x.at (before ++ x ∷ []) es e parts.1 (ap (λ xs. is_next days (last_at x.at es) xs e) (append_assoc before (x ∷ []) es) ∙ next)
 
 -- a legal trail stays legal
-pub trail_more : (offset : ℤ) (es : List Entry) (e : Entry) → is_legal offset es ≡ true → is_next offset (last_at 0 es) es e ≡ true → is_legal offset (es ++ e ∷ []) ≡ true
-trail_more offset [] e legal next = absurd (grind (arith, legal))
-trail_more offset (x ∷ es) e legal next =
-    let parts = both (is_first offset x) (legal_from offset x.at (x ∷ []) es) legal in
-    ap (λ b. b && legal_from offset x.at (x ∷ []) (es ++ e ∷ [])) parts.0 ∙ legal_more offset x.at (x ∷ []) es e parts.1 next
+pub trail_more : (days : Reckoning) (es : List Entry) (e : Entry) → is_legal days es ≡ true → is_next days (last_at 0 es) es e ≡ true → is_legal days (es ++ e ∷ []) ≡ true
+trail_more days [] e legal next = absurd (grind (arith, legal))
+trail_more days (x ∷ es) e legal next =
+    let parts = both (is_first days x) (legal_from days x.at (x ∷ []) es) legal in
+    ap (λ b. b && legal_from days x.at (x ∷ []) (es ++ e ∷ [])) parts.0 ∙ legal_more days x.at (x ∷ []) es e parts.1 next

@@ -1,6 +1,6 @@
 -- The live trails of a past that verdicts made are legal.
-use Rattle.std.proofs.Common.{◌≡◌, ◌≢◌, ◌⊎◌, inl, inr, ℕ, ◌+◌, ◌≤◌, Bool, true, false, cond, List, [], ◌∷◌, ◌++◌, refl, sym, ap, ◌∙◌, subst, arith, ℤ}
-use Rattle.std.specs.Prelude.{◌<◌, map, filter}
+use Rattle.std.proofs.Common.{◌≡◌, ◌≢◌, ◌⊎◌, inl, inr, ℕ, ◌+◌, ◌≤◌, Bool, true, false, cond, List, [], ◌∷◌, ◌++◌, refl, sym, ap, ◌∙◌, subst, arith}
+use Rattle.std.specs.Prelude.{◌<◌, map, filter, not, ◌==◌}
 use Rattle.wb_model.specs.declared.command.Asked.{Asked}
 use Rattle.wb_model.specs.declared.event.Event.{Event}
 use Rattle.wb_model.specs.declared.event.What.{What}
@@ -9,9 +9,9 @@ use Rattle.wb_model.specs.Fits.{fits_command}
 use Rattle.wb_model.specs.Tables.{Plain, Case, is_live}
 use Rattle.wb_model.specs.Targets.{Target, Nobody, Alone, On}
 use Rattle.wb_model.specs.Requests.{Frame, outline, plain_part}
-use Rattle.wb_model.specs.Changes.{At, Change, Begins, Verdict, Refused, Accepted}
+use Rattle.wb_model.specs.Changes.{At, Change, Begins, Deletes, Verdict, Refused, Accepted}
 use Rattle.wb_model.specs.Host.{Tables, tables_after}
-use Rattle.wb_model.specs.Past.{Past, Opening, Turn, now, registry, alone_at, last, numbers_after, numbers, case_of, live_reports, held, tables}
+use Rattle.wb_model.specs.Past.{Past, Opening, Turn, now, registry, alone_at, change_at, last, numbers_after, numbers, case_of, live_reports, held, tables}
 use Rattle.wb_model.specs.PastTurns.{at_frame, did, what_by, what_at, verdict_at, target_at}
 use Rattle.wb_model.specs.Commands.{is_read}
 use Rattle.wb_model.specs.Opened.{Ascend, Opened}
@@ -19,15 +19,15 @@ use Rattle.wb_model.specs.Pasts.{AllOpened, seen, part, has_tenant, what_in, wit
 use Rattle.wb_model.specs.Tenants.{tenant_at}
 use Rattle.wb_model.specs.Readings.{Reading, Asks, Refuses}
 use Rattle.wb_model.specs.Scripts.{Place, Loss, NotLost, ByKeeper, ByMemory, Unread, frame_of, play_asked, play_by, play, past_after}
-use Rattle.wb_model.specs.Legal.{IsSound, AreLegal}
+use Rattle.wb_model.specs.Legal.{Reckoning, reckoning, IsSound, AreLegal}
 use Rattle.wb_model.specs.ByVerdicts.{IsByVerdict, AreByVerdicts, AsksInRange, AskInRange}
 use Rattle.wb_model.proofs.Found.{decide}
 use Rattle.wb_model.proofs.Fitting.{target_held}
 use Rattle.wb_model.proofs.PastLaw.{Below, live_twice, numbers_below}
 use Rattle.wb_model.proofs.HeldTables.{opened_back}
 use Rattle.wb_model.proofs.TurnLaw.{event, turn_tables}
-use Rattle.wb_model.proofs.Drawn.{offset_kept}
-use Rattle.wb_model.proofs.LegalTurns.{turn_legal}
+use Rattle.wb_model.proofs.Drawn.{reckoning_kept}
+use Rattle.wb_model.proofs.LegalTurns.{filtered_legal, turn_legal}
 use Rattle.wb_model.proofs.SoundRegistries.{turn_sound}
 use Rattle.wb_model.proofs.Receipts.{idle_unless}
 use Rattle.wb_model.proofs.Leaving.{truth}
@@ -47,13 +47,26 @@ pushed_rise : (k l : ℕ) (ns : List ℕ) → k ≤ l → Below l ns → Rise k 
 pushed_rise k l [] le below up = (omega (arith, le), tt)
 pushed_rise k l (n ∷ ns) le below up = (up.0, pushed_rise n l ns below.0 below.1 up.1)
 
+low_rise : (j k : ℕ) (ns : List ℕ) → j ≤ k → Rise k ns → Rise j ns
+low_rise j k [] le up = tt
+low_rise j k (n ∷ ns) le up = (omega (arith, le, up.0), up.1)
+
+passed_rise : (p : ℕ → Bool) (k : ℕ) (ns : List ℕ) → Rise k ns → Rise k (filter p ns)
+passed_rise p k [] up = tt
+passed_rise p k (n ∷ ns) up = by (p n) (passed_rise p n ns up.1)
+  where
+    by : (b : Bool) → Rise n (filter p ns) → Rise k (cond b (n ∷ filter p ns) (filter p ns))
+    by true ih = (up.0, ih)
+    by false ih = low_rise k n (filter p ns) (omega (arith, up.0)) ih
+
 changed_rise : (ch : Change) (l : ℕ) (ns : List ℕ) → Below l ns → Rise 0 ns → Rise 0 (numbers_after ch l ns)
 changed_rise (Begins e) l ns below up = pushed_rise 0 l ns (omega arith) below up
+changed_rise (Deletes n) l ns below up = passed_rise (λ m. not (m == n)) 0 ns up
 changed_rise _ l ns below up = up
 
 numbers_rise : (past : Past Opened) → Rise 0 (numbers past)
 numbers_rise (Opening o) = opened_rise 0 o.tables.plain.cases o.sound.ascend
-numbers_rise (Turn e past) = changed_rise (alone_at past e) (last past) (numbers past) (numbers_below past) (numbers_rise past)
+numbers_rise (Turn e past) = changed_rise (change_at past e) (last past) (numbers past) (numbers_below past) (numbers_rise past)
 
 lower : (j k : ℕ) (cs : List Case) → j ≤ k → Ascend k cs → Ascend j cs
 lower j k [] le up = tt
@@ -77,34 +90,26 @@ live_up past time = filtered_up (is_live (registry past).settings time) 0 (map (
 
 -- ---- legal trails stay so
 
-later_legal : (offset : ℤ) (m n : ℕ) (cs : List Case) → m ≤ n → AreLegal offset m cs → AreLegal offset n cs
-later_legal offset m n [] le legal = tt
-later_legal offset m n (c ∷ cs) le legal = ((legal.0.0, omega (arith, le, legal.0.1)), later_legal offset m n cs le legal.1)
-
-filtered_legal : (p : Case → Bool) (offset : ℤ) (time : ℕ) (cs : List Case) → AreLegal offset time cs → AreLegal offset time (filter p cs)
-filtered_legal p offset time [] legal = tt
-filtered_legal p offset time (c ∷ cs) legal = by (p c) (filtered_legal p offset time cs legal.1)
-  where
-    by : (b : Bool) → AreLegal offset time (filter p cs) → AreLegal offset time (cond b (c ∷ filter p cs) (filter p cs))
-    by true ih = (legal.0, ih)
-    by false ih = ih
+later_legal : (days : Reckoning) (m n : ℕ) (cs : List Case) → m ≤ n → AreLegal days m cs → AreLegal days n cs
+later_legal days m n [] le legal = tt
+later_legal days m n (c ∷ cs) le legal = ((legal.0.0, omega (arith, le, legal.0.1)), later_legal days m n cs le legal.1)
 
 -- what holds of a past: its registry is in its ranges, and its live trails are legal
 record IsLegal (past : Past Opened) : Type 0 where
   sound : IsSound (registry past)
-  trails : AreLegal (registry past).settings.offset (now past) (live_reports past (now past))
+  trails : AreLegal (reckoning (registry past).settings) (now past) (live_reports past (now past))
 
-live_legal : (past : Past Opened) (time : ℕ) → now past ≤ time → IsLegal past → AreLegal (registry past).settings.offset time (live_reports past time)
+live_legal : (past : Past Opened) (time : ℕ) → now past ≤ time → IsLegal past → AreLegal (reckoning (registry past).settings) time (live_reports past time)
 live_legal past time le is =
-    subst (AreLegal (registry past).settings.offset time) (live_twice (registry past).settings (now past) time le (map (case_of past) (numbers past)))
-    (filtered_legal (is_live (registry past).settings time) (registry past).settings.offset time (live_reports past (now past)) (later_legal (registry past).settings.offset (now past) time (live_reports past (now past)) le is.trails))
+    subst (AreLegal (reckoning (registry past).settings) time) (live_twice (registry past).settings (now past) time le (map (case_of past) (numbers past)))
+    (filtered_legal (is_live (registry past).settings time) (reckoning (registry past).settings) time (live_reports past (now past)) (later_legal (reckoning (registry past).settings) (now past) time (live_reports past (now past)) le is.trails))
 
 opening_legal : (o : Opened) → IsLegal (Opening o)
 opening_legal o =
     let live : Case → Bool = is_live o.tables.plain.registry.settings o.at in
     record {
       sound = o.sound.sound;
-      trails = subst (λ cs. AreLegal o.tables.plain.registry.settings.offset o.at (filter live cs)) (sym (opened_back 0 o.tables.plain.cases o.sound.ascend)) (filtered_legal live o.tables.plain.registry.settings.offset o.at o.tables.plain.cases o.sound.legal);
+      trails = subst (λ cs. AreLegal (reckoning o.tables.plain.registry.settings) o.at (filter live cs)) (sym (opened_back 0 o.tables.plain.cases o.sound.ascend)) (filtered_legal live (reckoning o.tables.plain.registry.settings) o.at o.tables.plain.cases o.sound.legal);
     }
 
 -- a request's turn
@@ -113,13 +118,13 @@ request_legal t past f fits is =
     let at : At = at_frame past f in
     let p : Plain = plain_of past at.time in
     let e : Event = event f (what_at t past f) in
-    let legal : AreLegal (registry past).settings.offset at.time (live_reports past at.time) = live_legal past at.time (omega arith) is in
-    let after : AreLegal (registry past).settings.offset at.time (tables_after (tables past at.time) at f.asked).plain.cases =
+    let legal : AreLegal (reckoning (registry past).settings) at.time (live_reports past at.time) = live_legal past at.time (omega arith) is in
+    let after : AreLegal (reckoning (registry past).settings) at.time (tables_after (tables past at.time) at f.asked).plain.cases =
     turn_legal p at (plain_part p f.asked) is.sound (λ who c e. target_held p f.asked.session (outline f.asked.command) who c e) (live_up past at.time) legal in
-    let cases : AreLegal (registry past).settings.offset at.time (live_reports (Turn e past) at.time) = subst (AreLegal (registry past).settings.offset at.time) (sym (ap (λ (x : Tables). x.plain.cases) (turn_tables t past f))) after in
+    let cases : AreLegal (reckoning (registry past).settings) at.time (live_reports (Turn e past) at.time) = subst (AreLegal (reckoning (registry past).settings) at.time) (sym (ap (λ (x : Tables). x.plain.cases) (turn_tables t past f))) after in
     record {
       sound = subst IsSound (sym (ap (λ (x : Tables). x.plain.registry) (turn_tables t past f))) (turn_sound p at (plain_part p f.asked) f.asked.command refl fits is.sound);
-      trails = subst (λ offset. AreLegal offset at.time (live_reports (Turn e past) at.time)) (sym (offset_kept (alone_at past e) (registry past))) cases;
+      trails = subst (λ days. AreLegal days at.time (live_reports (Turn e past) at.time)) (sym (reckoning_kept (alone_at past e) (registry past))) cases;
     }
   where
     plain_of : Past Opened → ℕ → Plain
@@ -141,20 +146,20 @@ past_legal t (Turn e past) made = turned_legal t past e made.0 (past_legal t pas
 pub registries_sound : (t : ℕ) (past : Past Opened) → AreByVerdicts t past → IsSound (registry past)
 registries_sound t past made = (past_legal t past made).sound
 
-pub trails_legal : (t time : ℕ) (past : Past Opened) → AreByVerdicts t past → now past ≤ time → AreLegal (registry past).settings.offset time (live_reports past time)
+pub trails_legal : (t time : ℕ) (past : Past Opened) → AreByVerdicts t past → now past ≤ time → AreLegal (reckoning (registry past).settings) time (live_reports past time)
 trails_legal t time past made le = live_legal past time le (past_legal t past made)
 
 -- what the host holds
-pub held_legal : (t : ℕ) (past : Past Opened) → AreByVerdicts t past → AreLegal (registry past).settings.offset (now past) (held past).plain.cases
+pub held_legal : (t : ℕ) (past : Past Opened) → AreByVerdicts t past → AreLegal (reckoning (registry past).settings) (now past) (held past).plain.cases
 held_legal t (Opening o) made = o.sound.legal
 held_legal t (Turn e past) made = by e.what (trails_legal t (now (Turn e past)) (Turn e past) made (omega arith)) (held_legal t past made.1)
   where
-    by : (w : What) → AreLegal (registry (Turn (record { moment = e.moment; words = e.words; what = w }) past)).settings.offset (now (Turn e past)) (live_reports (Turn (record { moment = e.moment; words = e.words; what = w }) past) (now (Turn e past))) → AreLegal (registry past).settings.offset (now past) (held past).plain.cases →
-        AreLegal (registry (Turn (record { moment = e.moment; words = e.words; what = w }) past)).settings.offset (now (Turn e past)) (held (Turn (record { moment = e.moment; words = e.words; what = w }) past)).plain.cases
+    by : (w : What) → AreLegal (reckoning (registry (Turn (record { moment = e.moment; words = e.words; what = w }) past)).settings) (now (Turn e past)) (live_reports (Turn (record { moment = e.moment; words = e.words; what = w }) past) (now (Turn e past))) → AreLegal (reckoning (registry past).settings) (now past) (held past).plain.cases →
+        AreLegal (reckoning (registry (Turn (record { moment = e.moment; words = e.words; what = w }) past)).settings) (now (Turn e past)) (held (Turn (record { moment = e.moment; words = e.words; what = w }) past)).plain.cases
     by (Did asked who) h ih = h
     by (Gap u) h ih = h
     by Idle h ih = h
-    by Lost h ih = later_legal (registry past).settings.offset (now past) (now (Turn e past)) (held past).plain.cases (omega arith) ih
+    by Lost h ih = later_legal (reckoning (registry past).settings) (now past) (now (Turn e past)) (held past).plain.cases (omega arith) ih
 
 -- ---- scripts make such pasts
 

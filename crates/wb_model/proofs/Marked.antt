@@ -10,6 +10,7 @@ use Rattle.wb_model.specs.declared.command.Command.{Command}
 use Rattle.wb_model.specs.declared.command.Command.TheVariants as commands
 use Rattle.wb_model.specs.declared.command.Decision.{Decision}
 use Rattle.wb_model.specs.declared.command.Decision.TheVariants as decisions
+use Rattle.wb_base.specs.Calendars.{Calendar}
 use Rattle.wb_model.specs.declared.entry.Entry.{Entry}
 use Rattle.wb_model.specs.declared.event.What.{What}
 use Rattle.wb_model.specs.declared.event.What.TheVariants.{Did, Gap, Idle, Lost}
@@ -25,7 +26,7 @@ use Rattle.wb_model.specs.Rules.{change_alone}
 use Rattle.wb_model.specs.Submissions.{submission_entry}
 use Rattle.wb_model.specs.Doings.{Moves, doing_entry, decision_move}
 use Rattle.wb_model.specs.Commands.{is_submission}
-use Rattle.wb_model.specs.Past.{Past, Opening, Turn, now, at_of, who_of, report_of, about, change_by, change_in, secret_in, registry, last, grown, trail_of, trail, change_at, live, newer, given, sealed}
+use Rattle.wb_model.specs.Past.{Past, Opening, Turn, now, at_of, who_of, report_of, about, change_by, change_in, secret_in, registry, last, grown, trail_of, trail, change_at, lives_at, newer, given, sealed}
 use Rattle.wb_model.specs.Opened.{Opened}
 use Rattle.wb_model.proofs.Effects.{IsSubmitted, submitted, share_is, transfer_is, decide_is, comes_is, goes_is, in_open_is, identity_is, set_is}
 
@@ -38,29 +39,29 @@ Says _ secret = Unit {0}
 -- ---- what a request writes
 
 -- what is written on a report, by a command that gives identity answers or not
-abbrev Writing : At → Who → List Entry → Option Answered → Effect → Type 0
-Writing at who trail secret (Writes d) = is_some secret ≡ is_marked (doing_entry at.time who trail d).deed
-Writing at who trail secret _ = Unit {0}
+abbrev Writing : Calendar → At → Who → List Entry → Option Answered → Effect → Type 0
+Writing calendar at who trail secret (Writes d) = is_some secret ≡ is_marked (doing_entry calendar at.time who trail d).deed
+Writing calendar at who trail secret _ = Unit {0}
 
-on_says : (at : At) (g : Registry) (who : Who) (n : ℕ) (trail : List Entry) (e : Effect) (secret : Option Answered) → Writing at who trail secret e → Says (change_on at g who n trail e) secret
+on_says : (at : At) (g : Registry) (who : Who) (n : ℕ) (trail : List Entry) (e : Effect) (secret : Option Answered) → Writing g.settings.calendar at who trail secret e → Says (change_on at g who n trail e) secret
 on_says at g who n trail (Writes d) secret w = w
 on_says at g who n trail _ secret w = tt
 
-effect_says : (at : At) (g : Registry) (who : Who) (s : Presented) (trail : List Entry) (d : Command) → Writing at who trail (secret_of g d) (effect_of at g (Some who) s trail (outline d))
-effect_says at g who s trail (commands.Share t n reader) = share_is (Writing at who trail None) reader g tt refl
-effect_says at g who s trail (commands.Transfer t n c) = transfer_is (Writing at who trail None) c g tt (λ x is. refl)
-effect_says at g who s trail (commands.Decide t n k decision reason withhold) = decide_is (Writing at who trail None) k g trail decision reason withhold tt (λ r y. by r y)
+effect_says : (at : At) (g : Registry) (who : Who) (s : Presented) (trail : List Entry) (d : Command) → Writing g.settings.calendar at who trail (secret_of g d) (effect_of at g (Some who) s trail (outline d))
+effect_says at g who s trail (commands.Share t n reader) = share_is (Writing g.settings.calendar at who trail None) reader g tt refl
+effect_says at g who s trail (commands.Transfer t n c) = transfer_is (Writing g.settings.calendar at who trail None) c g tt (λ x is. refl)
+effect_says at g who s trail (commands.Decide t n k decision reason withhold) = decide_is (Writing g.settings.calendar at who trail None) k g trail decision reason withhold tt (λ r y. by r y)
   where
-    by : (r : AccessRequest) (y : Decision) → Writing at who trail None (Writes (Moves (decision_move k (disablings r.by g.users) g.settings.notice_days reason withhold y)))
+    by : (r : AccessRequest) (y : Decision) → Writing g.settings.calendar at who trail None (Writes (Moves (decision_move k (disablings r.by g.users) g.settings.notice_days reason withhold y)))
     by r decisions.Grant = refl
     by r decisions.Deny = refl
     by r decisions.Revoke = refl
-effect_says at g who s trail (commands.Submit t c answers) = in_open_is (Writing at who trail (secret_of g (commands.Submit t c answers))) Submits c g tt (λ x y is form. tt)
-effect_says at g who s trail (commands.ContextOf t c) = in_open_is (Writing at who trail None) _ c g tt (λ x y is form. tt)
-effect_says at g who s trail (commands.Login t name password) = comes_is (Writing at who trail None) (Some who) g.users tt (λ role. tt)
-effect_says at g who s trail (commands.ReceiptLogin t receipt) = comes_is (Writing at who trail None) (Some who) g.users tt (λ role. tt)
-effect_says at g who s trail (commands.Logout t) = goes_is (Writing at who trail None) s tt (λ turn. tt)
-effect_says at g who s trail (commands.GiveIdentity t answers) = identity_is (Writing at who trail (Some answers)) trail g tt refl
+effect_says at g who s trail (commands.Submit t c answers) = in_open_is (Writing g.settings.calendar at who trail (secret_of g (commands.Submit t c answers))) Submits c g tt (λ x y is form. tt)
+effect_says at g who s trail (commands.ContextOf t c) = in_open_is (Writing g.settings.calendar at who trail None) _ c g tt (λ x y is form. tt)
+effect_says at g who s trail (commands.Login t name password) = comes_is (Writing g.settings.calendar at who trail None) (Some who) g.users tt (λ role. tt)
+effect_says at g who s trail (commands.ReceiptLogin t receipt) = comes_is (Writing g.settings.calendar at who trail None) (Some who) g.users tt (λ role. tt)
+effect_says at g who s trail (commands.Logout t) = goes_is (Writing g.settings.calendar at who trail None) s tt (λ turn. tt)
+effect_says at g who s trail (commands.GiveIdentity t answers) = identity_is (Writing g.settings.calendar at who trail (Some answers)) trail g tt refl
 effect_says at g who s trail (commands.OwnComment t text) = refl
 effect_says at g who s trail (commands.Comment t n text internal) = refl
 effect_says at g who s trail (commands.Label t n text) = refl
@@ -69,6 +70,7 @@ effect_says at g who s trail (commands.Acknowledge t n) = refl
 effect_says at g who s trail (commands.Feedback t n text) = refl
 effect_says at g who s trail (commands.Unshare t n u) = refl
 effect_says at g who s trail (commands.Postpone t n) = refl
+effect_says at g who s trail (commands.Extend t n reason) = refl
 effect_says at g who s trail (commands.Ask t n reason) = refl
 effect_says at g who s trail _ = tt
 
@@ -129,4 +131,4 @@ step_fact _ k r lives secret before trail says is = is
 
 pub marked : (past : Past Opened) (r : ℕ) → is_some (sealed past r) ≡ has_identity (trail past r)
 marked (Opening o) r = o.sound.marks r
-marked (Turn e past) r = step_fact (change_at past e) (last past) r (live past r (max (now past) e.moment)) (secret_in e.what (registry past)) (sealed past r) (trail past r) (what_says e.what (at_of past e) (registry past) (trail_of (about e.what) (trail past))) (marked past r)
+marked (Turn e past) r = step_fact (change_at past e) (last past) r (lives_at (registry past) (max (now past) e.moment) r (trail past r)) (secret_in e.what (registry past)) (sealed past r) (trail past r) (what_says e.what (at_of past e) (registry past) (trail_of (about e.what) (trail past))) (marked past r)

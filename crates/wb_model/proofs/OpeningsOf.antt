@@ -1,5 +1,6 @@
 -- What the rules of a setup, and those of kept rows, let through is what a host may be opened with.
-use Rattle.std.proofs.Common.{◌≡◌, ℕ, ◌≤◌, Bool, true, false, cond, eqb, not, List, [], ◌∷◌, Some, None, refl, sym, ap, ◌∙◌, subst, arith, ℤ}
+use Rattle.wb_base.specs.Calendars.{are_holidays}
+use Rattle.std.proofs.Common.{◌≡◌, ℕ, ◌≤◌, Bool, true, false, cond, eqb, not, List, [], ◌∷◌, Some, None, refl, sym, ap, ◌∙◌, subst, arith}
 use Rattle.std.specs.Prelude.{◌==◌, ◌&&◌, ◌||◌, nat_lt, nat_le, map, filter, find, is_some, unwrap_or}
 use Rattle.std.specs.List.{list_all, list_any}
 use Rattle.std.proofs.lemmas.Bool.Decides.{nat_tests}
@@ -17,9 +18,10 @@ use Rattle.wb_model.specs.Tables.{Registry, Case, has_receipt}
 use Rattle.wb_model.specs.Requests.{form_of_trail}
 use Rattle.wb_model.specs.Host.{Tables}
 use Rattle.wb_model.specs.Fits.{is_between, has_bytes}
-use Rattle.wb_model.specs.Legal.{ascends, ascends_from, are_readers, is_legal, last_at, AreSound, IsSound, AreLegal}
+use Rattle.wb_model.specs.Legal.{Reckoning, reckoning, ascends, ascends_from, are_readers, is_legal, last_at, AreSound, IsSound, AreLegal}
 use Rattle.wb_model.specs.Opened.{Ascend, AtMost, AreVersions, AreOrdered, Apart, begun, AreBegunBy, HaveForms, AreOpened}
-use Rattle.wb_model.specs.SetUps.{is_offset, is_tenant_item, is_form_item, is_context_item, are_apart, are_ordered, is_user_before, is_version_before, is_context_before, AreSetUp}
+use Rattle.wb_model.specs.SetUps.{is_offset, is_tenant_item, is_form_item, is_context_item, are_apart, is_user_before, is_version_before, is_context_before, AreSetUp}
+use Rattle.wb_model.specs.Ordered.{are_ordered}
 use Rattle.wb_model.specs.KeptRules.{same_receipt, AreKept}
 use Rattle.wb_model.specs.Openings.{no_settings, registry_of, empty_tables}
 use Rattle.wb_model.proofs.Receipts.{same_text}
@@ -34,11 +36,11 @@ both false b e = absurd (grind (arith, e))
 at_most : (a b : ℕ) → nat_le a b ≡ true → a ≤ b
 at_most a b e = grind (arith, nat_tests, e)
 
-third : (a b c d e : Bool) → (a && b && c && d && e) ≡ true → c ≡ true
-third a b c d e is = (both (a && b) c (both (a && b && c) d (both (a && b && c && d) e is).0).0).1
+third : (a b c d e f : Bool) → (a && b && c && d && e && f) ≡ true → c ≡ true
+third a b c d e f is = (both (a && b) c (both (a && b && c) d (both (a && b && c && d) e (both (a && b && c && d && e) f is).0).0).0).1
 
 notice_in : (x : TenantItem) → is_tenant_item x ≡ true → x.notice_days ≤ 30
-notice_in x e = at_most x.notice_days 30 (third (is_between 1 64 x.tenant) (has_bytes 1 128 x.name) (nat_le x.notice_days 30) (is_offset x.offset) (is_between 1 100_000 x.quota) e)
+notice_in x e = at_most x.notice_days 30 (third (is_between 1 64 x.tenant) (has_bytes 1 128 x.name) (nat_le x.notice_days 30) (is_offset x.offset) (is_between 1 100_000 x.quota) (are_holidays x.calendar.holidays) e)
 
 context_in : (x : ContextItem) → is_context_item x ≡ true → (1 ≤ x.retention) × (x.retention ≤ 3_650) × (are_readers x.recipients ≡ true)
 context_in x e =
@@ -154,12 +156,12 @@ kept_begun : (at : ℕ) (cs : List Case) → list_all (λ (c : Case). nat_le (be
 kept_begun at [] e = tt
 kept_begun at (c ∷ cs) e = let parts = both (nat_le (begun c.trail) at) (list_all (λ (x : Case). nat_le (begun x.trail) at) cs) e in (at_most (begun c.trail) at parts.0, kept_begun at cs parts.1)
 
-kept_legal : (offset : ℤ) (at : ℕ) (cs : List Case) → list_all (λ (c : Case). is_legal offset c.trail) cs ≡ true → list_all (λ (c : Case). nat_le (last_at 0 c.trail) at) cs ≡ true → AreLegal offset at cs
-kept_legal offset at [] e f = tt
-kept_legal offset at (c ∷ cs) e f =
-    let legal = both (is_legal offset c.trail) (list_all (λ (x : Case). is_legal offset x.trail) cs) e in
+kept_legal : (days : Reckoning) (at : ℕ) (cs : List Case) → list_all (λ (c : Case). is_legal days c.trail) cs ≡ true → list_all (λ (c : Case). nat_le (last_at 0 c.trail) at) cs ≡ true → AreLegal days at cs
+kept_legal days at [] e f = tt
+kept_legal days at (c ∷ cs) e f =
+    let legal = both (is_legal days c.trail) (list_all (λ (x : Case). is_legal days x.trail) cs) e in
     let past = both (nat_le (last_at 0 c.trail) at) (list_all (λ (x : Case). nat_le (last_at 0 x.trail) at) cs) f in
-    ((legal.0, at_most (last_at 0 c.trail) at past.0), kept_legal offset at cs legal.1 past.1)
+    ((legal.0, at_most (last_at 0 c.trail) at past.0), kept_legal days at cs legal.1 past.1)
 
 kept_forms : (forms : List FormItem) (cs : List Case) → list_all (λ (c : Case). is_some (form_of_trail c.trail forms)) cs ≡ true → HaveForms forms cs
 kept_forms forms [] e = tt
@@ -193,7 +195,7 @@ kept_opened at lists tenant t kept = record {
   ascend = kept_ascend 0 t.plain.cases kept.keys;
   most = kept_most t.plain.numbering.last t.plain.cases kept.numbers;
   begun = kept_begun t.plain.numbering.at t.plain.cases kept.begun;
-  legal = kept_legal t.plain.registry.settings.offset at t.plain.cases kept.legal kept.entries;
+  legal = kept_legal (reckoning t.plain.registry.settings) at t.plain.cases kept.legal kept.entries;
   forms = kept_forms t.plain.registry.forms t.plain.cases kept.forms;
   receipts = kept_apart t.plain.cases kept.receipts;
   marks = kept.marks;

@@ -13,13 +13,16 @@ use Rattle.wb_model.specs.Trails.{expires}
 use Rattle.wb_base.specs.AnswerList.{Answered}
 use Rattle.wb_model.specs.declared.entry.Entry.{Entry}
 use Rattle.wb_model.specs.declared.registry.TenantItem.{TenantItem}
-use Rattle.wb_model.specs.Tables.{Plain, Case, Session, Who, TheUser, TheReporter, is_there, is_live, stays, lasts}
-use Rattle.wb_model.specs.Changes.{At, Change, Draws, Begins, Notes}
+use Rattle.wb_model.specs.Tables.{Plain, Case, Session, Who, TheUser, TheReporter, is_there, is_live, stays, lasts, others}
+use Rattle.wb_model.specs.Changes.{At, Change, Draws, Begins, Notes, Deletes}
 use Rattle.wb_model.specs.Host.{Sealed, Tables, purged, is_draw, noted, cases_after, sealed_under, sealed_after}
-use Rattle.wb_model.specs.Past.{Past, Opening, Turn, registry, alone_at, last, numbers_after, numbers, grown, lives_at, trail, live, newer, given, sealed, case_of, live_reports, logins, is_ended, stands, standing_sessions, plain, tables}
+use Rattle.wb_model.specs.Past.{Past, Opening, Turn, registry, alone_at, at_of, about, trail_of, change_at, has_report, last, numbers_after, numbers, grown, lives_at, trail, live, newer, given, sealed, case_of, live_reports, logins, is_ended, stands, standing_sessions, plain, tables}
 use Rattle.wb_model.specs.Opened.{AtMost, Opened}
 use Rattle.wb_model.proofs.Found.{decide, same_number, other_number, filter_twice, filter_after, filter_same, filter_both}
 use Rattle.wb_model.proofs.Fitting.{Fits}
+use Rattle.wb_model.proofs.Agreeing.{Agree, alone_agrees}
+use Rattle.wb_model.proofs.Leaving.{filter_swap, there_others}
+use Rattle.std.specs.List.{list_any}
 
 -- ---- a later purge
 
@@ -108,9 +111,18 @@ pub below_push : (k : ℕ) (ns : List ℕ) → Below k ns → Below (k + 1) (ns 
 below_push k [] b = (omega arith, tt)
 below_push k (n ∷ ns) b = (omega arith, below_push k ns b.1)
 
+below_but : (k n : ℕ) (ns : List ℕ) → Below k ns → Below k (filter (λ m. not (eqb m n)) ns)
+below_but k n [] b = tt
+below_but k n (m ∷ ns) b = by (eqb m n) (below_but k n ns b.1)
+  where
+    by : (is : Bool) → Below k (filter (λ j. not (eqb j n)) ns) → Below k (cond (not is) (m ∷ filter (λ j. not (eqb j n)) ns) (filter (λ j. not (eqb j n)) ns))
+    by true rest = rest
+    by false rest = (b.0, rest)
+
 pub below_change : (ch : Change) (k : ℕ) (ns : List ℕ) → Below k ns → Below (cond (is_draw ch) (k + 1) k) (numbers_after ch k ns)
 below_change Draws k ns b = below_more k ns b
 below_change (Begins e) k ns b = below_push k ns b
+below_change (Deletes n) k ns b = below_but k n ns b
 below_change _ k ns b = b
 
 pub at_most_below : (k : ℕ) (cs : List Case) → AtMost k cs → Below k (map (λ c. c.number) cs)
@@ -120,7 +132,9 @@ at_most_below k (c ∷ cs) b = (b.0, at_most_below k cs b.1)
 -- no report has a number above the last one drawn
 pub numbers_below : (past : Past Opened) → Below (last past) (numbers past)
 numbers_below (Opening o) = at_most_below o.tables.plain.numbering.last o.tables.plain.cases o.sound.most
-numbers_below (Turn e past) = below_change (alone_at past e) (last past) (numbers past) (numbers_below past)
+numbers_below (Turn e past) =
+    let same : Agree (alone_at past e) (change_at past e) = alone_agrees e.what (at_of past e) (registry past) (trail_of (about e.what) (trail past)) in
+    subst (λ b. Below (cond b (last past + 1) (last past)) (numbers (Turn e past))) (sym same.drawing) (below_change (change_at past e) (last past) (numbers past) (numbers_below past))
 
 pub map_below : (f g : ℕ → Case) (k : ℕ) → ((q : ℕ) → q ≤ k → g q ≡ f q) → (ns : List ℕ) → Below k ns → map g ns ≡ map f ns
 map_below f g k same [] b = refl
@@ -135,7 +149,7 @@ below_there past time q e = below_in past (last past) q (numbers past) (numbers_
 
 -- the report of a number after a change
 abbrev pub case_after : Past Opened → ℕ → Change → ℕ → Case
-case_after past time ch q = record { number = q; trail = grown ch (last past) q (live past q time) (trail past q) }
+case_after past time ch q = record { number = q; trail = grown ch (last past) q (lives_at (registry past) time q (trail past q)) (trail past q) }
 
 pub opens_same : (past : Past Opened) (time q : ℕ) (e : Entry) → q ≤ last past → case_after past time (Begins e) q ≡ case_of past q
 opens_same past time q e le = same_case q _ _ (grind (arith, nat_tests))
@@ -146,11 +160,11 @@ opens_last past time e lives =
     ap (λ c. filter (is_live (registry past).settings time) (c ∷ [])) new
     ∙ ap (λ b. cond b (record { number = last past + 1; trail = e ∷ [] } ∷ []) []) (lives (last past + 1))
 
-pub noted_here : (past : Past Opened) (time n q : ℕ) (e : Entry) → n ≡ q → live past q time ≡ true → case_after past time (Notes n e) q ≡ record { number = q; trail = trail past q ++ e ∷ [] }
-noted_here past time n q e here lives = same_case q _ _ (ap (λ b. cond (b && live past q time) (trail past q ++ e ∷ []) (trail past q)) (same_number n q here) ∙ ap (λ b. cond b (trail past q ++ e ∷ []) (trail past q)) lives)
+pub noted_here : (past : Past Opened) (time n q : ℕ) (e : Entry) → n ≡ q → lives_at (registry past) time q (trail past q) ≡ true → case_after past time (Notes n e) q ≡ record { number = q; trail = trail past q ++ e ∷ [] }
+noted_here past time n q e here lives = same_case q _ _ (ap (λ b. cond (b && lives_at (registry past) time q (trail past q)) (trail past q ++ e ∷ []) (trail past q)) (same_number n q here) ∙ ap (λ b. cond b (trail past q ++ e ∷ []) (trail past q)) lives)
 
 pub noted_away : (past : Past Opened) (time n q : ℕ) (e : Entry) → n ≢ q → case_after past time (Notes n e) q ≡ case_of past q
-noted_away past time n q e ne = same_case q _ _ (ap (λ b. cond (b && live past q time) (trail past q ++ e ∷ []) (trail past q)) (other_number n q ne))
+noted_away past time n q e ne = same_case q _ _ (ap (λ b. cond (b && lives_at (registry past) time q (trail past q)) (trail past q ++ e ∷ []) (trail past q)) (other_number n q ne))
 
 pub note_case : (n q : ℕ) (e : Entry) (t : List Entry) → n ≡ q → ◌≡◌ {A = Case} (record { number = q; trail = t ++ e ∷ [] }) (noted n e (record { number = q; trail = t }))
 note_case n q e t here = same_case q _ _ (ap (λ b. cond b (t ++ e ∷ []) t) (sym (same_number q n (sym here))))
@@ -158,7 +172,7 @@ note_case n q e t here = same_case q _ _ (ap (λ b. cond b (t ++ e ∷ []) t) (s
 pub away_case : (n q : ℕ) (e : Entry) (t : List Entry) → n ≢ q → ◌≡◌ {A = Case} (record { number = q; trail = t }) (noted n e (record { number = q; trail = t }))
 away_case n q e t ne = same_case q _ _ (ap (λ b. cond b (t ++ e ∷ []) t) (sym (other_number q n (λ k. ne (sym k)))))
 
-pub note_on : (past : Past Opened) (time n q : ℕ) (e : Entry) → ((k : ℕ) (t : List Entry) → lives_at (registry past) time k t ≡ true → lives_at (registry past) time k (t ++ e ∷ []) ≡ true) → (n ≡ q) ⊎ (n ≢ q) → live past q time ≡ true
+pub note_on : (past : Past Opened) (time n q : ℕ) (e : Entry) → ((k : ℕ) (t : List Entry) → lives_at (registry past) time k t ≡ true → lives_at (registry past) time k (t ++ e ∷ []) ≡ true) → (n ≡ q) ⊎ (n ≢ q) → lives_at (registry past) time q (trail past q) ≡ true
     → (is_live (registry past).settings time (case_after past time (Notes n e) q) ≡ true) × (case_after past time (Notes n e) q ≡ noted n e (case_of past q))
 note_on past time n q e leaves (inl here) lives =
     (ap (is_live (registry past).settings time) (noted_here past time n q e here lives) ∙ leaves q (trail past q) lives, noted_here past time n q e here lives ∙ note_case n q e (trail past q) here)
@@ -169,10 +183,21 @@ pub and_false : (b : Bool) → (b && false) ≡ false
 and_false true = refl
 and_false false = refl
 
-pub note_out : (past : Past Opened) (time n q : ℕ) (e : Entry) → live past q time ≡ false → is_live (registry past).settings time (case_after past time (Notes n e) q) ≡ false
+pub note_out : (past : Past Opened) (time n q : ℕ) (e : Entry) → lives_at (registry past) time q (trail past q) ≡ false → is_live (registry past).settings time (case_after past time (Notes n e) q) ≡ false
 note_out past time n q e out =
     ap (λ b. is_live (registry past).settings time (record { number = q; trail = cond (eqb n q && b) (trail past q ++ e ∷ []) (trail past q) })) out
     ∙ (ap (λ b. is_live (registry past).settings time (record { number = q; trail = cond b (trail past q ++ e ∷ []) (trail past q) })) (and_false (eqb n q)) ∙ out)
+
+map_gone : (past : Past Opened) (n : ℕ) (ns : List ℕ) → map (case_of past) (filter (λ k. not (eqb k n)) ns) ≡ others n (map (case_of past) ns)
+map_gone past n [] = refl
+map_gone past n (m ∷ ns) = by (eqb m n) (map_gone past n ns)
+  where
+    left : List ℕ
+    left = filter (λ k. not (eqb k n)) ns
+
+    by : (is : Bool) → map (case_of past) left ≡ others n (map (case_of past) ns) → map (case_of past) (cond (not is) (m ∷ left) left) ≡ cond (not is) (case_of past m ∷ others n (map (case_of past) ns)) (others n (map (case_of past) ns))
+    by true ih = ih
+    by false ih = ap (λ cs. case_of past m ∷ cs) ih
 
 -- the live reports after a change that fits
 pub cases_law : (past : Past Opened) (at : At) (ch : Change) → Fits at (plain past at.time) ch
@@ -186,6 +211,7 @@ cases_law past at (Begins e) fits =
     ∙ ap (λ cs. live_reports past at.time ++ cs) (opens_last past at.time e fits)))
 cases_law past at (Notes n e) fits =
     filter_after (is_live (registry past).settings at.time) (case_of past) (case_after past at.time (Notes n e)) (noted n e) (λ q. note_on past at.time n q e fits.0 (decide n q)) (λ q. note_out past at.time n q e) (numbers past)
+cases_law past at (Deletes n) fits = ap (filter (is_live (registry past).settings at.time)) (map_gone past n (numbers past)) ∙ filter_swap (is_live (registry past).settings at.time) _ (map (case_of past) (numbers past))
 cases_law past at _ fits = refl
 
 -- ---- the sessions after a change
@@ -215,23 +241,52 @@ notes_sealed n q true true (Some z) before sealed here up is = grind (arith, nat
 notes_sealed n q false lives None before sealed here up is = grind (arith, nat_tests, is)
 notes_sealed n q false lives (Some z) before sealed here up is = let ne : n ≢ q = λ e. (let bad : false ≡ true = here e in grind (arith, bad)) in grind (arith, nat_tests, is, ne)
 
-pub there_live : (past : Past Opened) (time q : ℕ) (ns : List ℕ) → is_there q (filter (is_live (registry past).settings time) (map (case_of past) ns)) ≡ true → live past q time ≡ true
-there_live past time q [] e = absurd (grind (arith, e))
-there_live past time q (n ∷ ns) e = by (live past n time) (decide n q) refl e (there_live past time q ns)
+-- what is there is before its expiry
+pub there_lives : (past : Past Opened) (time q : ℕ) (ns : List ℕ) → is_there q (filter (is_live (registry past).settings time) (map (case_of past) ns)) ≡ true → lives_at (registry past) time q (trail past q) ≡ true
+there_lives past time q [] e = absurd (grind (arith, e))
+there_lives past time q (n ∷ ns) e = by (lives_at (registry past) time n (trail past n)) (decide n q) refl e (there_lives past time q ns)
   where
-    by : (b : Bool) → (n ≡ q) ⊎ (n ≢ q) → live past n time ≡ b → is_there q (cond b (case_of past n ∷ filter (is_live (registry past).settings time) (map (case_of past) ns)) (filter (is_live (registry past).settings time) (map (case_of past) ns))) ≡ true →
-        (is_there q (filter (is_live (registry past).settings time) (map (case_of past) ns)) ≡ true → live past q time ≡ true) → live past q time ≡ true
-    by true (inl here) is f ih = subst (λ j. live past j time ≡ true) here is
+    by : (b : Bool) → (n ≡ q) ⊎ (n ≢ q) → lives_at (registry past) time n (trail past n) ≡ b → is_there q (cond b (case_of past n ∷ filter (is_live (registry past).settings time) (map (case_of past) ns)) (filter (is_live (registry past).settings time) (map (case_of past) ns))) ≡ true →
+        (is_there q (filter (is_live (registry past).settings time) (map (case_of past) ns)) ≡ true → lives_at (registry past) time q (trail past q) ≡ true) → lives_at (registry past) time q (trail past q) ≡ true
+    by true (inl here) is f ih = subst (λ j. lives_at (registry past) time j (trail past j) ≡ true) here is
     by true (inr ne) is f ih = ih (grind (arith, nat_tests, f, ne))
     by false d is f ih = ih f
 
+pub either : (a b c : Bool) → (a || b) ≡ true → (b ≡ true → c ≡ true) → (a || c) ≡ true
+either true b c is up = refl
+either false b c is up = up is
+
+pub or_later : (a c : Bool) → c ≡ true → (a || c) ≡ true
+or_later true c is = refl
+or_later false c is = is
+
+any_there : (past : Past Opened) (p : Case → Bool) (q : ℕ) (ns : List ℕ) → is_there q (filter p (map (case_of past) ns)) ≡ true → list_any (λ k. eqb k q) ns ≡ true
+any_there past p q [] is = absurd (grind (arith, is))
+any_there past p q (n ∷ ns) is = by (p (case_of past n)) is (any_there past p q ns)
+  where
+    by : (b : Bool) → is_there q (cond b (case_of past n ∷ filter p (map (case_of past) ns)) (filter p (map (case_of past) ns))) ≡ true → (is_there q (filter p (map (case_of past) ns)) ≡ true → list_any (λ k. eqb k q) ns ≡ true) → (eqb n q || list_any (λ k. eqb k q) ns) ≡ true
+    by true k up = either (eqb n q) (is_there q (filter p (map (case_of past) ns))) (list_any (λ j. eqb j q) ns) k up
+    by false k up = or_later (eqb n q) (list_any (λ j. eqb j q) ns) (up k)
+
+-- and live
+pub there_live : (past : Past Opened) (time q : ℕ) → is_there q (live_reports past time) ≡ true → live past q time ≡ true
+there_live past time q is =
+    both_hold (has_report past q) (lives_at (registry past) time q (trail past q)) (any_there past (is_live (registry past).settings time) q (numbers past) is) (there_lives past time q (numbers past) is)
+
+pub sealed_off : (same there : Bool) (o : Option Answered) → cond (there && not same) o None ≡ cond same None (cond there o None)
+sealed_off true true o = refl
+sealed_off true false o = refl
+sealed_off false true o = refl
+sealed_off false false o = refl
+
 pub sealed_law : (past : Past Opened) (at : At) (ch : Change) (secret : Option Answered) (q : ℕ) → Fits at (plain past at.time) ch
-    → cond (is_there q (cases_after ch (last past) (live_reports past at.time))) (given ch (last past) q (live past q at.time) secret (sealed past q)) None ≡ sealed_after ch (last past) secret (tables past at.time).sealed q
+    → cond (is_there q (cases_after ch (last past) (live_reports past at.time))) (given ch (last past) q (lives_at (registry past) at.time q (trail past q)) secret (sealed past q)) None ≡ sealed_after ch (last past) secret (tables past at.time).sealed q
 sealed_law past at (Begins e) secret q fits =
-    ap (λ b. cond b (given (Begins e) (last past) q (live past q at.time) secret (sealed past q)) None) (pushed q (live_reports past at.time) (record { number = last past + 1; trail = e ∷ [] }))
+    ap (λ b. cond b (given (Begins e) (last past) q (lives_at (registry past) at.time q (trail past q)) secret (sealed past q)) None) (pushed q (live_reports past at.time) (record { number = last past + 1; trail = e ∷ [] }))
     ∙ opens_sealed (last past) q (is_there q (live_reports past at.time)) secret (sealed past q) (tables past at.time).sealed (below_there past at.time q) refl
 sealed_law past at (Notes n e) secret q fits =
-    ap (λ b. cond b (given (Notes n e) (last past) q (live past q at.time) secret (sealed past q)) None) (there_noted q n e (live_reports past at.time))
-    ∙ notes_sealed n q (is_there q (live_reports past at.time)) (live past q at.time) secret (sealed past q) (tables past at.time).sealed
-    (λ here. subst (λ j. is_there j (live_reports past at.time) ≡ true) here fits.1) (there_live past at.time q (numbers past)) refl
+    ap (λ b. cond b (given (Notes n e) (last past) q (lives_at (registry past) at.time q (trail past q)) secret (sealed past q)) None) (there_noted q n e (live_reports past at.time))
+    ∙ notes_sealed n q (is_there q (live_reports past at.time)) (lives_at (registry past) at.time q (trail past q)) secret (sealed past q) (tables past at.time).sealed
+    (λ here. subst (λ j. is_there j (live_reports past at.time) ≡ true) here fits.1) (there_lives past at.time q (numbers past)) refl
+sealed_law past at (Deletes n) secret q fits = ap (λ b. cond b (sealed past q) None) (there_others n q (live_reports past at.time)) ∙ sealed_off (eqb q n) (is_there q (live_reports past at.time)) (sealed past q)
 sealed_law past at _ secret q fits = refl

@@ -1,32 +1,29 @@
 -- A report that is not live stays so, and once it is purged replies and hosts are those of the script in which its submission only drew a number.
-use Rattle.std.proofs.Common.{zero, suc, ◌≡◌, ℕ, ◌+◌, ◌≤◌, ◌<◌, Bool, true, false, cond, not, eqb, List, [], ◌∷◌, ◌++◌, Some, refl, sym, ap, ◌∙◌, arith}
+use Rattle.std.proofs.Common.{zero, suc, ◌≡◌, ℕ, ◌≤◌, ◌<◌, Bool, true, false, cond, not, List, [], ◌∷◌, Some, refl, sym, ap, ◌∙◌, arith}
 use Rattle.std.specs.Prelude.{map, max, ◌&&◌, ◌||◌}
-use Rattle.wb_model.specs.declared.entry.Entry.{Entry}
 use Rattle.wb_model.specs.declared.event.Event.{Event}
 use Rattle.wb_model.specs.declared.event.What.{What}
 use Rattle.wb_model.specs.declared.event.What.TheVariants.{Idle, Lost}
 use Rattle.wb_model.specs.Tables.{is_there}
 use Rattle.wb_model.specs.Requests.{Frame}
-use Rattle.wb_model.specs.Changes.{Change, Nothing, Draws, Begins, Notes, LogsIn, LogsOut, Configures}
 use Rattle.wb_model.specs.Host.{Tables}
 use Rattle.wb_model.specs.Tenants.{tenant_at}
-use Rattle.wb_model.specs.Past.{alone_at, Past, Turn, now, at_of, registry, last, grown, lives_at, trail, change_at, live, tables, is_lost, held}
+use Rattle.wb_model.specs.Past.{Past, Turn, now, at_of, registry, last, lives_at, trail, has_report, live, tables, is_lost, held}
 use Rattle.wb_model.specs.PastTurns.{what_at, verdict_at, target_at}
 use Rattle.wb_model.specs.Opened.{Opened}
 use Rattle.wb_model.specs.Pasts.{AllOpened, seen, part, has_tenant, what_in, time, standing_hosts, with_turn}
 use Rattle.wb_model.specs.Readings.{Reading, Asks, Refuses}
 use Rattle.wb_model.specs.Scripts.{Loss, NotLost, ByKeeper, ByMemory, Unread, Place, frame_of, play_asked, play_by, play, script_replies, past_after}
 use Rattle.wb_model.specs.ScriptsAlike.{is_made}
-use Rattle.wb_model.specs.Absence.{first_last, all_gapped, AreApart, AllDrawAnother, DrawOthersAfter, Stands, replies, past_with, without_place, with_gap, BeginsAt, lives_here, purges_here, is_purged, replies_purged, is_purged_after, replies_after}
-use Rattle.wb_model.proofs.Found.{other_number}
-use Rattle.wb_model.proofs.PastLaw.{live_earlier}
+use Rattle.wb_model.specs.Absence.{first_last, all_gapped, AreApart, AllDrawAnother, DrawOthersAfter, Stands, replies, past_with, without_place, with_gap, BeginsAt, lives_here, purges_here, is_purged, replies_purged, is_purged_after, replies_after, begins_here, holds, NoneIsLost, HoldsLive}
+use Rattle.wb_model.proofs.PastLaw.{both_hold, live_earlier}
+use Rattle.wb_model.proofs.RecentSessions.{and_left, and_right, live_falls}
 use Rattle.wb_model.proofs.PartLaw.{part_now}
 use Rattle.wb_model.proofs.Gapless.{not_live, with_what}
 use Rattle.wb_model.proofs.AbsentPast.{stands_gapped, held_made, same_standing, seen_made}
 use Rattle.wb_model.proofs.HeldTables.{not_lost}
 use Rattle.wb_model.proofs.AbsentTurns.{event_in}
 use Rattle.wb_model.proofs.Receipts.{receipts_place}
-use Rattle.wb_model.proofs.TurnLaw.{live_kept}
 use Rattle.wb_model.proofs.AbsentScripts.{Lacks, last_more, lacks_place, reply_place, submission_place, absent_pasts}
 
 -- ---- one tenant
@@ -36,28 +33,15 @@ falls a true up e = absurd (let bad : true ≡ false = sym (up refl) ∙ e in gr
 falls a false up e = refl
 
 later_dead : (past : Past Opened) (r m n : ℕ) → m ≤ n → live past r m ≡ false → live past r n ≡ false
-later_dead past r m n le e = falls (live past r m) (live past r n) (live_earlier (registry past).settings m n (record { number = r; trail = trail past r }) le) e
-
--- an event adds nothing to a report that was drawn and is not live
-no_growth : (ch : Change) (last r : ℕ) (t : List Entry) → r ≤ last → grown ch last r false t ≡ t
-no_growth Nothing last r t le = refl
-no_growth Draws last r t le = refl
-no_growth (LogsIn s) last r t le = refl
-no_growth (LogsOut turn who) last r t le = refl
-no_growth (Configures setting) last r t le = refl
-no_growth (Begins e) last r t le = ap (λ b. cond b (e ∷ []) t) (other_number (last + 1) r (omega arith))
-no_growth (Notes n e) last r t le = by (eqb n r)
+later_dead past r m n le e = falls (live past r m) (live past r n) up e
   where
-    by : (b : Bool) → cond (b && false) (t ++ e ∷ []) t ≡ t
-    by true = refl
-    by false = refl
-
-same_trail : (past : Past Opened) (e : Event) (r : ℕ) → r ≤ last past → live past r (at_of past e).time ≡ false → trail (Turn e past) r ≡ trail past r
-same_trail past e r le dead = ap (λ b. grown (change_at past e) (last past) r b (trail past r)) dead ∙ no_growth (change_at past e) (last past) r (trail past r) le
+    up : live past r n ≡ true → live past r m ≡ true
+    up is = both_hold (has_report past r) (lives_at (registry past) m r (trail past r)) (and_left (has_report past r) (lives_at (registry past) n r (trail past r)) is)
+        (live_earlier (registry past).settings m n (record { number = r; trail = trail past r }) le (and_right (has_report past r) (lives_at (registry past) n r (trail past r)) is))
 
 -- what is not live stays so
 pub stays_dead : (past : Past Opened) (e : Event) (r time : ℕ) → r ≤ last past → live past r (at_of past e).time ≡ false → (at_of past e).time ≤ time → live (Turn e past) r time ≡ false
-stays_dead past e r time le dead later = live_kept (alone_at past e) (registry past) time (record { number = r; trail = trail (Turn e past) r }) ∙ (ap (lives_at (registry past) time r) (same_trail past e r le dead) ∙ later_dead past r (at_of past e).time time later dead)
+stays_dead past e r time le dead later = falls (live past r (at_of past e).time) (live (Turn e past) r time) (live_falls past e time r later le) dead
 
 -- ---- purged
 
@@ -138,7 +122,7 @@ same_answers t r past other (p ∷ ps) a l g =
     ap (λ x. Some x ∷ map Some (script_replies (play past p).past ps)) (sym (reply_place t r past other p l.facts (gone_here t r past p g)))
     ∙ ap (λ xs. Some (play other p).reply ∷ xs) (same_answers t r (play past p).past (play other p).past ps a.1 (lacks_place t r past other p a.0 l) (purged_place t r past p g))
 
-purged_same : (t r : ℕ) (past other : Past AllOpened) (ps : List Place) → AllDrawAnother t r past ps → Lacks t r past other → replies_purged t r past ps (map Some (script_replies past ps)) ≡ replies_purged t r past ps (replies other (map Stands ps))
+pub purged_same : (t r : ℕ) (past other : Past AllOpened) (ps : List Place) → AllDrawAnother t r past ps → Lacks t r past other → replies_purged t r past ps (map Some (script_replies past ps)) ≡ replies_purged t r past ps (replies other (map Stands ps))
 purged_same t r past other [] a l = refl
 purged_same t r past other (p ∷ ps) a l = by (purges_here t r past p p.reading) refl (purged_same t r (play past p).past (play other p).past ps a.1 (lacks_place t r past other p a.0 l))
   where
@@ -155,7 +139,7 @@ still_purged : (t r : ℕ) (past : Past AllOpened) (ps : List Place) → Purged 
 still_purged t r past [] g = g
 still_purged t r past (p ∷ ps) g = still_purged t r (play past p).past ps (purged_place t r past p g)
 
-purged_end : (t r : ℕ) (past other : Past AllOpened) (ps : List Place) → AllDrawAnother t r past ps → Lacks t r past other → is_purged t r past ps ≡ true → Purged t r (past_after past ps)
+pub purged_end : (t r : ℕ) (past other : Past AllOpened) (ps : List Place) → AllDrawAnother t r past ps → Lacks t r past other → is_purged t r past ps ≡ true → Purged t r (past_after past ps)
 purged_end t r past other [] a l is = absurd (grind (arith, is))
 purged_end t r past other (p ∷ ps) a l is = by (purges_here t r past p p.reading) refl is (λ k. purged_end t r (play past p).past (play other p).past ps a.1 (lacks_place t r past other p a.0 l) k)
   where
@@ -174,8 +158,55 @@ purged_after i t r past [] b o d is = absurd o
 purged_after zero t r past (p ∷ ps) b o d is = purged_end t r (play past p).past (with_gap past p.moment p.words t) ps d (submission_place t r past p p.reading b o) is
 purged_after (suc i) t r past (p ∷ ps) b o d is = purged_after i t r (play past p).past ps (receipts_place t past p b) o d is
 
--- and so are the hosts
-pub purged_hosts : (i t r : ℕ) (past : Past AllOpened) (ps : List Place) → AreApart t past → BeginsAt i t r past ps → DrawOthersAfter i t r past ps → is_purged_after i t r past ps ≡ true → standing_hosts (past_with past (without_place i t ps)) ≡ standing_hosts (past_after past ps)
-purged_hosts i t r past ps b o d is =
+-- where the hosts at the end do not hold it, they are the same
+pub gone_hosts : (i t r : ℕ) (past : Past AllOpened) (ps : List Place) → AreApart t past → BeginsAt i t r past ps → DrawOthersAfter i t r past ps → holds t r (past_after past ps) ≡ false → standing_hosts (past_with past (without_place i t ps)) ≡ standing_hosts (past_after past ps)
+gone_hosts i t r past ps b o d none =
     let l : Lacks t r (past_after past ps) (past_with past (without_place i t ps)) = absent_pasts i t r past ps b o d in
-    same_standing t r (past_after past ps) (past_with past (without_place i t ps)) l.facts (l.held_same (purged_after i t r past ps b o d is).unheld)
+    same_standing t r (past_after past ps) (past_with past (without_place i t ps)) l.facts (l.held_same none)
+
+pub purged_unheld : (i t r : ℕ) (past : Past AllOpened) (ps : List Place) → AreApart t past → BeginsAt i t r past ps → DrawOthersAfter i t r past ps → is_purged_after i t r past ps ≡ true → holds t r (past_after past ps) ≡ false
+purged_unheld i t r past ps b o d is = (purged_after i t r past ps b o d is).unheld
+
+-- ---- where nothing is lost
+
+-- what is not live is not held
+abbrev Follows : ℕ → ℕ → Past AllOpened → Type 0
+Follows t r past = live (part t past) r (now (part t past)) ≡ false → holds t r past ≡ false
+
+follows_turn : (t r : ℕ) (past : Past AllOpened) (f : Frame) → Follows t r (with_turn past f)
+follows_turn t r past f dead =
+    let e : Event = with_what (event_in past f) (seen t (what_in past f)) in
+    ap (λ (x : Tables). is_there r x.plain.cases) (held_made (part t past) e (seen_made t (what_in past f) (what_made past f))) ∙ not_live r (now (part t (with_turn past f))) (part t (with_turn past f)) dead
+
+follows_asked : (t r : ℕ) (past : Past AllOpened) (f : Frame) (loss : Loss) → is_made loss ≡ true → Follows t r (play_asked past f loss).past
+follows_asked t r past f NotLost made = follows_turn t r past f
+follows_asked t r past f ByKeeper made = absurd (grind (arith, made))
+follows_asked t r past f ByMemory made = absurd (grind (arith, made))
+follows_asked t r past f (Unread close) made = absurd (grind (arith, made))
+
+follows_place : (t r : ℕ) (past : Past AllOpened) (p : Place) (reading : Reading) → is_made p.loss ≡ true → Follows t r past → Follows t r (play_by past p reading).past
+follows_place t r past p (Asks asked) made before = follows_asked t r past (frame_of p asked) p.loss made
+follows_place t r past p (Refuses fault close) made before = before
+
+follow_all : (t r : ℕ) (past : Past AllOpened) (ps : List Place) → NoneIsLost ps → Follows t r past → Follows t r (past_after past ps)
+follow_all t r past [] made is = is
+follow_all t r past (p ∷ ps) made is = follow_all t r (play past p).past ps made.1 (follows_place t r past p p.reading made.0 is)
+
+begun_follows : (t r : ℕ) (past : Past AllOpened) (p : Place) (reading : Reading) → begins_here t r past p reading ≡ true → is_made p.loss ≡ true → Follows t r (play_by past p reading).past
+begun_follows t r past p (Asks asked) here made = follows_asked t r past (frame_of p asked) p.loss made
+begun_follows t r past p (Refuses fault close) here made = absurd (grind (arith, here))
+
+-- a report that is submitted at place i and is not live at the end is not held there
+pub gone_unheld : (i t r : ℕ) (past : Past AllOpened) (ps : List Place) → BeginsAt i t r past ps → NoneIsLost ps → live (part t (past_after past ps)) r (time (past_after past ps)) ≡ false → holds t r (past_after past ps) ≡ false
+gone_unheld i t r past ps o made dead = end i past ps o made (ap (live (part t (past_after past ps)) r) (part_now t (past_after past ps)) ∙ dead)
+  where
+    end : (k : ℕ) (before : Past AllOpened) (qs : List Place) → BeginsAt k t r before qs → NoneIsLost qs → Follows t r (past_after before qs)
+    end k before [] b m = absurd b
+    end zero before (q ∷ qs) b m = follow_all t r (play before q).past qs m.1 (begun_follows t r before q q.reading b m.0)
+    end (suc k) before (q ∷ qs) b m = end k (play before q).past qs b m.1
+
+-- hosts that hold it only while it is live do so at the end
+pub gone_held : (t r : ℕ) (past : Past AllOpened) (ps : List Place) → HoldsLive t r past → NoneIsLost ps → HoldsLive t r (past_after past ps)
+gone_held t r past ps held made dead =
+    follow_all t r past ps made (λ k. held (ap (live (part t past) r) (sym (part_now t past)) ∙ k))
+    (ap (live (part t (past_after past ps)) r) (part_now t (past_after past ps)) ∙ dead)

@@ -16,7 +16,7 @@ use Rattle.wb_model.specs.Tables.{Registry, Plain, Case, Who, has_receipt, with_
 use Rattle.wb_model.specs.Targets.{Target, Nobody, Alone, On}
 use Rattle.wb_model.specs.Refusals.{numbers_spent, quota_spent, receipt_taken}
 use Rattle.wb_model.specs.Requests.{Frame, Outcome, Request, plain_part}
-use Rattle.wb_model.specs.Changes.{At, Change, Begins, Notes, Answer, judged}
+use Rattle.wb_model.specs.Changes.{At, Change, Begins, Deletes, Notes, Answer, judged}
 use Rattle.wb_model.specs.Effects.{Effect, Writes, Submits, Sets}
 use Rattle.wb_model.specs.OnReports.{change_on}
 use Rattle.wb_model.specs.Rules.{refusal_alone, change_alone, effect_at, verdict_on}
@@ -79,7 +79,7 @@ alone_own at p who o (Sets t proposal) free = set_is (HasOwn p) _ tt (λ x is. t
 alone_own at p who o _ free = tt
 
 on_own : (at : At) (p : Plain) (who : Who) (c : Case) (e : Effect) → HasOwn p (change_on at p.registry who c.number c.trail e)
-on_own at p who c (Writes d) = doing_receipt at.time who c.trail d
+on_own at p who c (Writes d) = doing_receipt p.registry.settings.calendar at.time who c.trail d
 on_own at p who c _ = tt
 
 judged_own : (p : Plain) (o : Option Told) (ch : Change) (a : Answer) → (o ≡ None → HasOwn p ch) → HasOwn p (change_of (judged o ch a))
@@ -112,6 +112,7 @@ noted_receipt n e leaves d c = by (eqb c.number n)
 apart_changed : (p : Plain) (ch : Change) (last : ℕ) → HasOwn p ch → Apart has_receipt p.cases → Apart has_receipt (cases_after ch last p.cases)
 apart_changed p (Begins e) last own a = apart_push has_receipt p.cases (record { number = last + 1; trail = e ∷ [] }) a (λ d is. own d (last + 1) is)
 apart_changed p (Notes n e) last own a = apart_map has_receipt (noted n e) p.cases (noted_receipt n e own) a
+apart_changed p (Deletes n) last own a = apart_filter has_receipt _ p.cases a
 apart_changed p _ last own a = a
 
 pub receipts_request : (u : ℕ) (past : Past Opened) (f : Frame) → Receipts past → Receipts (Turn (event f (what_at u past f)) past)

@@ -6,12 +6,13 @@ use Rattle.std.proofs.lemmas.List.Elements.{filter-append}
 use Rattle.wb_model.specs.declared.entry.Entry.{Entry}
 use Rattle.wb_model.specs.declared.event.Event.{Event}
 use Rattle.wb_model.specs.Tables.{Case, Session, Who, TheUser, TheReporter, is_there, is_live, stays, lasts}
-use Rattle.wb_model.specs.Changes.{Change, Begins, Notes}
+use Rattle.wb_model.specs.Changes.{Change, Begins, Notes, Deletes}
 use Rattle.wb_model.specs.Host.{ends, made, remaining}
-use Rattle.wb_model.specs.Past.{Past, Opening, Turn, turns, now, registry, alone_at, last, numbers_after, numbers, grown, trail, change_at, live, case_of, live_reports, recent, logins, is_ended, stands, standing_sessions}
+use Rattle.wb_model.specs.Past.{Past, Opening, Turn, turns, now, registry, alone_at, last, numbers_after, numbers, grown, lives_at, trail, change_at, has_report, live, case_of, live_reports, recent, logins, is_ended, stands, standing_sessions}
 use Rattle.wb_model.specs.Opened.{Opened}
 use Rattle.wb_model.proofs.Found.{decide, filter_same, filter_both, filter_held, Held, held_filter}
-use Rattle.wb_model.proofs.PastLaw.{live_earlier, there_live}
+use Rattle.wb_model.proofs.PastLaw.{both_hold, either, or_later, live_earlier, there_lives}
+use Rattle.std.specs.List.{list_any}
 use Rattle.wb_model.proofs.SessionsLaw.{ended_later, logins_within, made_turn, Within}
 use Rattle.wb_model.proofs.TurnLaw.{live_kept}
 
@@ -24,14 +25,49 @@ grown_lives (Notes n e) k r true t le = inr refl
 grown_lives (Notes n e) k r false t le = inl (grind arith)
 grown_lives _ k r lives t le = inl refl
 
--- a report that was drawn before and is live later was live
-live_falls : (past : Past Opened) (e : Event) (time r : ℕ) → max (now past) e.moment ≤ time → r ≤ last past → live (Turn e past) r time ≡ true → live past r (max (now past) e.moment) ≡ true
-live_falls past e time r le most is = by (grown_lives (change_at past e) (last past) r (live past r (max (now past) e.moment)) (trail past r) most)
+-- a report that was drawn before and is before its expiry later was so
+lives_falls : (past : Past Opened) (e : Event) (time r : ℕ) → max (now past) e.moment ≤ time → r ≤ last past → lives_at (registry (Turn e past)) time r (trail (Turn e past) r) ≡ true → lives_at (registry past) (max (now past) e.moment) r (trail past r) ≡ true
+lives_falls past e time r le most is = by (grown_lives (change_at past e) (last past) r (lives_at (registry past) (max (now past) e.moment) r (trail past r)) (trail past r) most)
   where
-    by : (trail (Turn e past) r ≡ trail past r) ⊎ (live past r (max (now past) e.moment) ≡ true) → live past r (max (now past) e.moment) ≡ true
+    by : (trail (Turn e past) r ≡ trail past r) ⊎ (lives_at (registry past) (max (now past) e.moment) r (trail past r) ≡ true) → lives_at (registry past) (max (now past) e.moment) r (trail past r) ≡ true
     by (inr lives) = lives
     by (inl same) = live_earlier (registry past).settings (max (now past) e.moment) time (case_of past r) le
         (sym (live_kept (alone_at past e) (registry past) time (case_of past r)) ∙ (ap (λ t. is_live (registry (Turn e past)).settings time (record { number = r; trail = t })) (sym same) ∙ is))
+
+any_pushed : (k r : ℕ) (ns : List ℕ) → r ≤ k → list_any (λ n. eqb n r) (ns ++ (k + 1) ∷ []) ≡ true → list_any (λ n. eqb n r) ns ≡ true
+any_pushed k r [] le is = absurd (let away : eqb (k + 1) r ≡ false = grind (arith, nat_tests, le) in grind (arith, is, away))
+any_pushed k r (n ∷ ns) le is = by (eqb n r) is (any_pushed k r ns le)
+  where
+    by : (b : Bool) → (b || list_any (λ m. eqb m r) (ns ++ (k + 1) ∷ [])) ≡ true → (list_any (λ m. eqb m r) (ns ++ (k + 1) ∷ []) ≡ true → list_any (λ m. eqb m r) ns ≡ true) → (b || list_any (λ m. eqb m r) ns) ≡ true
+    by true i up = refl
+    by false i up = up i
+
+any_passed : (p : ℕ → Bool) (r : ℕ) (ns : List ℕ) → list_any (λ n. eqb n r) (filter p ns) ≡ true → list_any (λ n. eqb n r) ns ≡ true
+any_passed p r [] is = is
+any_passed p r (n ∷ ns) is = by (p n) is (any_passed p r ns)
+  where
+    by : (b : Bool) → list_any (λ m. eqb m r) (cond b (n ∷ filter p ns) (filter p ns)) ≡ true → (list_any (λ m. eqb m r) (filter p ns) ≡ true → list_any (λ m. eqb m r) ns ≡ true) → (eqb n r || list_any (λ m. eqb m r) ns) ≡ true
+    by true i up = either (eqb n r) (list_any (λ m. eqb m r) (filter p ns)) (list_any (λ m. eqb m r) ns) i up
+    by false i up = or_later (eqb n r) (list_any (λ m. eqb m r) ns) (up i)
+
+-- and was not deleted
+report_falls : (ch : Change) (k r : ℕ) (ns : List ℕ) → r ≤ k → list_any (λ n. eqb n r) (numbers_after ch k ns) ≡ true → list_any (λ n. eqb n r) ns ≡ true
+report_falls (Begins e) k r ns le is = any_pushed k r ns le is
+report_falls (Deletes n) k r ns le is = any_passed (λ m. not (eqb m n)) r ns is
+report_falls _ k r ns le is = is
+
+pub and_left : (a b : Bool) → (a && b) ≡ true → a ≡ true
+and_left a b is = grind (arith, is)
+
+pub and_right : (a b : Bool) → (a && b) ≡ true → b ≡ true
+and_right a b is = grind (arith, is)
+
+-- a report that was drawn before and is live later was live
+pub live_falls : (past : Past Opened) (e : Event) (time r : ℕ) → max (now past) e.moment ≤ time → r ≤ last past → live (Turn e past) r time ≡ true → live past r (max (now past) e.moment) ≡ true
+live_falls past e time r le most is =
+    both_hold (has_report past r) (lives_at (registry past) (max (now past) e.moment) r (trail past r))
+    (report_falls (change_at past e) (last past) r (numbers past) most (and_left (has_report (Turn e past) r) (lives_at (registry (Turn e past)) time r (trail (Turn e past) r)) is))
+    (lives_falls past e time r le most (and_right (has_report (Turn e past) r) (lives_at (registry (Turn e past)) time r (trail (Turn e past) r)) is))
 
 in_numbers : (f : ℕ → Case) (p : Case → Bool) (r : ℕ) (ns : List ℕ) → ((n : ℕ) → (f n).number ≡ n) → is_there r (filter p (map f ns)) ≡ true → Held r ns
 in_numbers f p r [] own e = absurd (grind (arith, e))
@@ -42,14 +78,14 @@ in_numbers f p r (n ∷ ns) own e = by (p (f n)) (decide n r) e (in_numbers f p 
     by true (inr ne) k ih = inr (ih (let number : (f n).number ≡ n = own n in grind (arith, nat_tests, k, ne, number)))
     by false (inr ne) k ih = inr (ih k)
 
-there_in : (past : Past Opened) (time r : ℕ) (ns : List ℕ) → Held r ns → live past r time ≡ true → is_there r (filter (is_live (registry past).settings time) (map (case_of past) ns)) ≡ true
+there_in : (past : Past Opened) (time r : ℕ) (ns : List ℕ) → Held r ns → lives_at (registry past) time r (trail past r) ≡ true → is_there r (filter (is_live (registry past).settings time) (map (case_of past) ns)) ≡ true
 there_in past time r [] h lives = absurd h
-there_in past time r (n ∷ ns) (inl e) lives = by (live past n time) (subst (λ k. live past k time ≡ true) e lives)
+there_in past time r (n ∷ ns) (inl e) lives = by (lives_at (registry past) time n (trail past n)) (subst (λ k. lives_at (registry past) time k (trail past k) ≡ true) e lives)
   where
     by : (b : Bool) → b ≡ true → is_there r (cond b (case_of past n ∷ filter (is_live (registry past).settings time) (map (case_of past) ns)) (filter (is_live (registry past).settings time) (map (case_of past) ns))) ≡ true
     by true k = let here : n ≡ r = sym e in grind (arith, nat_tests, here)
     by false k = absurd (grind (arith, k))
-there_in past time r (n ∷ ns) (inr h) lives = by (live past n time) (there_in past time r ns h lives)
+there_in past time r (n ∷ ns) (inr h) lives = by (lives_at (registry past) time n (trail past n)) (there_in past time r ns h lives)
   where
     by : (b : Bool) → is_there r (filter (is_live (registry past).settings time) (map (case_of past) ns)) ≡ true → is_there r (cond b (case_of past n ∷ filter (is_live (registry past).settings time) (map (case_of past) ns)) (filter (is_live (registry past).settings time) (map (case_of past) ns))) ≡ true
     by true k = grind (arith, k)
@@ -63,13 +99,14 @@ before_draw (Begins e) k r ns le h = pushed ns h
     pushed [] (inr h) = absurd h
     pushed (x ∷ xs) (inl e) = inl e
     pushed (x ∷ xs) (inr h) = inr (pushed xs h)
+before_draw (Deletes n) k r ns le h = (held_filter (λ m. not (eqb m n)) ns r h).0
 before_draw _ k r ns le h = h
 
 there_falls : (past : Past Opened) (e : Event) (time r : ℕ) → max (now past) e.moment ≤ time → r ≤ last past → is_there r (live_reports (Turn e past) time) ≡ true → is_there r (live_reports past (max (now past) e.moment)) ≡ true
 there_falls past e time r le most is =
     there_in past (max (now past) e.moment) r (numbers past)
-    (before_draw (alone_at past e) (last past) r (numbers past) most (in_numbers (case_of (Turn e past)) _ r (numbers (Turn e past)) (λ n. refl) is))
-    (live_falls past e time r le most (there_live (Turn e past) time r (numbers (Turn e past)) is))
+    (before_draw (change_at past e) (last past) r (numbers past) most (in_numbers (case_of (Turn e past)) _ r (numbers (Turn e past)) (λ n. refl) is))
+    (lives_falls past e time r le most (there_lives (Turn e past) time r (numbers (Turn e past)) is))
 
 lasts_falls : (past : Past Opened) (e : Event) (time : ℕ) (s : Session) → max (now past) e.moment ≤ time → Within (turns past) (last past) s → lasts time (live_reports (Turn e past) time) s ≡ true → lasts (max (now past) e.moment) (live_reports past (max (now past) e.moment)) s ≡ true
 lasts_falls past e time s le within is =

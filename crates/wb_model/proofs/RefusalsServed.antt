@@ -18,13 +18,13 @@ use Rattle.wb_model.specs.declared.body.Told.{Told}
 use Rattle.wb_model.specs.declared.entry.Entry.{Entry}
 use Rattle.wb_model.specs.declared.registry.UserItem.{UserItem}
 use Rattle.wb_model.specs.declared.setting.AdminFault.TheVariants as admin
-use Rattle.wb_model.specs.Acts.{closed, has_status, acknowledged, has_reader, not_reader, same_context, context_closed, postpone_spent, full, case_fault}
+use Rattle.wb_model.specs.Acts.{closed, has_status, acknowledged, has_reader, not_reader, same_context, context_closed, postpone_spent, not_external, extended, full, case_fault}
 use Rattle.wb_model.specs.Changes.{At}
 use Rattle.wb_model.specs.Doings.{Doing, Acts, Moves, doing_fault, actor_of}
 use Rattle.wb_model.specs.Access.{request_at, user_by, requests, state_now, is_waiting, is_granted}
 use Rattle.wb_model.specs.Trails.{has_identity}
 use Rattle.wb_model.specs.declared.command.UserSet.{UserSet}
-use Rattle.wb_model.specs.Effects.{Effect, Misses, Looks, Reads as ReadsPart, ToReader, ToReporter, TheIdentity, Writes, Submits, Comes, Goes, Sets}
+use Rattle.wb_model.specs.Effects.{Effect, Misses, Looks, Reads as ReadsPart, ToReader, ToReporter, TheIdentity, Writes, Erases, Submits, Comes, Goes, Sets}
 use Rattle.wb_model.specs.Faults.{case_told, custody_told, admin_told, trail_full}
 use Rattle.wb_model.specs.Moves.{pending_from, unless_state, custody_fault}
 use Rattle.wb_model.specs.OnReports.{refusal_on}
@@ -102,6 +102,7 @@ case_served trail (acts.Unshare reader) = either_served case_told (not_reader re
 case_served trail (acts.Transfer context is_open readers) =
     closed_then trail _ (either_served case_told (same_context context trail) _ (fault_where case_told _ cases.SameContext refl) (either_served case_told (context_closed is_open) _ (fault_where case_told _ cases.ContextClosed refl) (full_served trail)))
 case_served trail (acts.Postpone today retention) = either_served case_told (postpone_spent trail) _ (fault_where case_told _ cases.PostponeSpent refl) (full_served trail)
+case_served trail (acts.Extend reason external) = closed_then trail _ (either_served case_told (not_external external) _ (fault_where case_told _ cases.NotExternal refl) (either_served case_told (extended trail) _ (acknowledged_served _) (full_served trail)))
 case_served trail acts.Identity = closed_then trail _ (full_served trail)
 
 pub pending_served : (id asker stamp : ℕ) (rs : List AccessRequest) → FaultServed custody_told (pending_from id asker stamp rs)
@@ -174,12 +175,14 @@ alone_refused g n o (Sets t proposal) = proposal_served g proposal
 alone_refused g n o Misses = served_not_found
 alone_refused g n o (ReadsPart part) = served_not_found
 alone_refused g n o (Writes doing) = served_not_found
+alone_refused g n o Erases = served_not_found
 
 pub on_refused : (at : At) (g : Registry) (who : Who) (c : Case) (o : Outcome) (does : Effect) → RefusalServed (refusal_on at g who c o does)
 on_refused at g who c o (ReadsPart ToReader) = tt
 on_refused at g who c o (ReadsPart ToReporter) = tt
 on_refused at g who c o (ReadsPart TheIdentity) = where_served _ not_found served_not_found
 on_refused at g who c o (Writes doing) = or_served (outcome_refusal o) _ (outcome_served o) (doing_served c.trail (user_by (actor_of who)) doing)
+on_refused at g who c o Erases = tt
 on_refused at g who c o (Comes role) = tt
 on_refused at g who c o (Goes turn) = tt
 on_refused at g who c o Misses = served_not_found

@@ -10,7 +10,7 @@ use Rattle.wb_model.specs.Tenants.{Tenancy}
 use Rattle.wb_model.specs.Past.{Past, Opening, Turn, held}
 use Rattle.wb_model.specs.Pasts.{AllOpened, part, tenants, has_tenant, held_tenancy, standing_hosts}
 use Rattle.wb_model.specs.ByVerdicts.{AreByVerdicts}
-use Rattle.wb_model.specs.Rows.{of_tenants, of_kinds, kinds, rows_of, rows}
+use Rattle.wb_model.specs.Rows.{of_tenants, of_kinds, kinds, format_row, rows_of, rows}
 use Rattle.wb_model.specs.Reopened.{moments, all_moments, latest, left_time, left_tables, left_tenancy, left_hosts, without_sessions, reopening}
 use Rattle.wb_model.proofs.Found.{decide, other_number}
 use Rattle.wb_model.proofs.PartLaw.{map_in}
@@ -18,7 +18,7 @@ use Rattle.wb_model.proofs.KeptPasts.{latest_first, latest_rest, held_opened}
 
 -- ---- what is left is what a host may be opened with
 
-one_of : (past : Past AllOpened) (t : ℕ) (ts : List ℕ) → list_any (λ u. eqb u t) ts ≡ true → latest (moments (held (part t past))) ≤ latest (all_moments (map (held_tenancy past) ts))
+pub one_of : (past : Past AllOpened) (t : ℕ) (ts : List ℕ) → list_any (λ u. eqb u t) ts ≡ true → latest (moments (held (part t past))) ≤ latest (all_moments (map (held_tenancy past) ts))
 one_of past t [] is = absurd (grind (arith, is))
 one_of past t (u ∷ ts) is = by (decide u t) (one_of past t ts)
   where
@@ -94,7 +94,7 @@ kinds_left [] same xs = refl
 kinds_left (kind ∷ more) same xs = ap (λ rows. rows ++ of_kinds more (map left_tenancy xs)) (of_left kind same.0 xs) ∙ ap (λ rows. of_tenants kind xs ++ rows) (kinds_left more same.1 xs)
 
 rows_left : (xs : List Tenancy) → rows_of (map left_tenancy xs) ≡ rows_of xs
-rows_left xs = kinds_left kinds (λ x. refl, (λ x. refl, (λ x. refl, (λ x. refl, (λ x. refl, (λ x. refl, (λ x. refl, tt))))))) xs
+rows_left xs = ap (λ l. format_row ∷ l) (kinds_left kinds (λ x. refl, (λ x. refl, (λ x. refl, (λ x. refl, (λ x. refl, (λ x. refl, (λ x. refl, tt))))))) xs)
 
 pub reopened_rows : (past : Past AllOpened) (ids : ascends (tenants past) ≡ true) (sound : (t : ℕ) → AreOpened (left_time past) (left_tables past t)) → rows (Opening (reopening past ids sound)) ≡ rows past
 reopened_rows past ids sound = ap rows_of (reopened_list past ids sound) ∙ rows_left (standing_hosts past).list

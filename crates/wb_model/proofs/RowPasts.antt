@@ -1,4 +1,5 @@
 -- Pasts for rows: the starter tenant with one report, what refuses a command there, and what is answered.
+use Rattle.wb_base.specs.Calendars.{plain}
 use Rattle.std.proofs.Common.{Bool, cond, eqb, ◌≡◌, ℕ, ◌+◌, true, false, List, [], ◌∷◌, Option, Some, None, refl, arith, pos}
 use Rattle.std.specs.Prelude.{codes, is_some}
 use Rattle.jiff_core.specs.Calendar.{days_from_civil, day_count, days_of_years, days_of_months}
@@ -49,7 +50,7 @@ pub starter_sound : IsSound starter_registry
 unfolding starter_registry
 starter_sound = record { notice = omega arith; contexts = ((omega arith, omega arith, refl), ((omega arith, omega arith, refl), tt)) }
 
-pub opened_legal : is_legal (pos 0) opened_case.trail ≡ true
+pub opened_legal : is_legal (record { offset = pos 0; calendar = plain }) opened_case.trail ≡ true
 unfolding days_from_civil day_count days_of_years days_of_months date_at
 opened_legal = refl
 

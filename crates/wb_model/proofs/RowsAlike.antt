@@ -8,14 +8,14 @@ use Rattle.wb_base.specs.declared.rows.Row.{Row}
 use Rattle.wb_model.specs.Tables.{Plain, Case}
 use Rattle.wb_model.specs.Host.{Tables}
 use Rattle.wb_model.specs.Tenants.{Tenancy, Hosts, AlikeWhere, AllAlike, AllHostsAlike}
-use Rattle.wb_model.specs.Rows.{sealed_row, sealed_rows, settings_rows, numbering_rows, user_rows, form_rows, context_rows, entry_rows, answer_rows, kinds, of_tenants, of_kinds, rows_of, is_sealed_row, rows_but}
+use Rattle.wb_model.specs.Rows.{sealed_row, sealed_rows, settings_rows, numbering_rows, user_rows, form_rows, context_rows, entry_rows, answer_rows, kinds, of_tenants, of_kinds, format_row, rows_of, is_sealed_row, rows_but}
 use Rattle.wb_model.proofs.Found.{decide, same_number}
 
 -- the rows of one tenant but for those identity answers
 abbrev but : ℕ → ℕ → List Row → List Row
 but t r rows = filter (λ x. not (is_sealed_row t r x)) rows
 
-one_plain : (b : Bool) (r : ℕ) (x y : Tables) → AlikeWhere b r x y → x.plain ≡ y.plain
+pub one_plain : (b : Bool) (r : ℕ) (x y : Tables) → AlikeWhere b r x y → x.plain ≡ y.plain
 one_plain true r x y al = al.plain
 one_plain false r x y al = ap (λ (z : Tables). z.plain) al
 
@@ -107,7 +107,7 @@ kinds_same t r xs ys (kind ∷ more) same =
     ∙ sym (filter-append (λ z. not (is_sealed_row t r z)) (of_tenants kind ys) (of_kinds more ys))))
 
 pub rows_alike : (t r : ℕ) (h k : Hosts) → AllHostsAlike t r h k → rows_but t r (rows_of h.list) ≡ rows_but t r (rows_of k.list)
-rows_alike t r h k al = kinds_same t r h.list k.list kinds (
+rows_alike t r h k al = ap (λ l. format_row ∷ l) (kinds_same t r h.list k.list kinds (
   ap (but t r) (plain_same settings_rows settings_plain t r h.list k.list al.list),
   (
     ap (but t r) (plain_same numbering_rows numbering_plain t r h.list k.list al.list),
@@ -125,4 +125,4 @@ rows_alike t r h k al = kinds_same t r h.list k.list kinds (
       ),
     ),
   ),
-)
+))

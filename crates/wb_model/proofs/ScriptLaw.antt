@@ -86,7 +86,7 @@ hide : (b : Bool) (x y : Reply) → (b ≡ false → x ≡ y) → cond b None (S
 hide true x y h = refl
 hide false x y h = ap Some (h refl)
 
-later_answers : (t r : ℕ) (past other : Past AllOpened) (ps qs : List Place) → PastsAlike t r past other → AllPlacesAlike t r past ps qs → hidden_replies t r past ps (script_replies past ps) ≡ hidden_replies t r past ps (script_replies other qs)
+pub later_answers : (t r : ℕ) (past other : Past AllOpened) (ps qs : List Place) → PastsAlike t r past other → AllPlacesAlike t r past ps qs → hidden_replies t r past ps (script_replies past ps) ≡ hidden_replies t r past ps (script_replies other qs)
 later_answers t r past other [] [] al l = refl
 later_answers t r past other [] (q ∷ qs) al l = absurd l
 later_answers t r past other (p ∷ ps) [] al l = absurd l
@@ -95,7 +95,7 @@ later_answers t r past other (p ∷ ps) (q ∷ qs) al l =
     ap (λ o. o ∷ hidden_replies t r (play past p).past ps (script_replies (play past p).past ps)) (hide (reader_by t r past p p.reading) _ _ first.reply)
     ∙ ap (λ os. cond (reader_by t r past p p.reading) None (Some (play other q).reply) ∷ os) (later_answers t r (play past p).past (play other q).past ps qs first.pasts l.1)
 
-all_same : (t r : ℕ) (past : Past AllOpened) (ps : List Place) → AllPlacesAlike t r past ps ps
+pub all_same : (t r : ℕ) (past : Past AllOpened) (ps : List Place) → AllPlacesAlike t r past ps ps
 all_same t r past [] = tt
 all_same t r past (p ∷ ps) = (inl refl, all_same t r (play past p).past ps)
 
@@ -117,7 +117,7 @@ alike_answers (suc i) t r past (p ∷ ps) (q ∷ qs) l =
 
 -- the hosts at the end are alike
 
-later_end : (t r : ℕ) (past other : Past AllOpened) (ps qs : List Place) → PastsAlike t r past other → AllPlacesAlike t r past ps qs → PastsAlike t r (past_after past ps) (past_after other qs)
+pub later_end : (t r : ℕ) (past other : Past AllOpened) (ps qs : List Place) → PastsAlike t r past other → AllPlacesAlike t r past ps qs → PastsAlike t r (past_after past ps) (past_after other qs)
 later_end t r past other [] [] al l = al
 later_end t r past other [] (q ∷ qs) al l = absurd l
 later_end t r past other (p ∷ ps) [] al l = absurd l

@@ -50,10 +50,10 @@ over-row = refl
 
 -- user 1 is disabled and enabled again
 abbrev disabled : Past Opened
-disabled = Turn (did 10 4 (presented.Token 2 []) (commands.SetUser 1 1 (record { name = codes "ada"; role = roles.Recipient; enabled = false; may = record { postpone = true; share = true; transfer = true }; password = None }))) two_in
+disabled = Turn (did 10 4 (presented.Token 2 []) (commands.SetUser 1 1 (record { name = codes "ada"; role = roles.Recipient; enabled = false; may = record { delete = false; postpone = true; share = true; transfer = true }; password = None }))) two_in
 
 abbrev enabled : Past Opened
-enabled = Turn (did 20 4 (presented.Token 2 []) (commands.SetUser 1 1 (record { name = codes "ada"; role = roles.Recipient; enabled = true; may = record { postpone = true; share = true; transfer = true }; password = None }))) disabled
+enabled = Turn (did 20 4 (presented.Token 2 []) (commands.SetUser 1 1 (record { name = codes "ada"; role = roles.Recipient; enabled = true; may = record { delete = false; postpone = true; share = true; transfer = true }; password = None }))) disabled
 
 disabled-row : turns_at disabled 10 ≡ 2 ∷ []
 unfolding starter_registry
@@ -84,7 +84,7 @@ unfolding starter_registry
 nine-over-row = refl
 
 -- a password ends the sessions of its user, and of no other
-password-row : turns_at (Turn (did 10 4 (presented.Token 2 []) (commands.SetUser 1 1 (record { name = codes "ada"; role = roles.Recipient; enabled = true; may = record { postpone = true; share = true; transfer = true }; password = Some (codes "new") }))) two_in) 10 ≡ 2 ∷ []
+password-row : turns_at (Turn (did 10 4 (presented.Token 2 []) (commands.SetUser 1 1 (record { name = codes "ada"; role = roles.Recipient; enabled = true; may = record { delete = false; postpone = true; share = true; transfer = true }; password = Some (codes "new") }))) two_in) 10 ≡ 2 ∷ []
 unfolding starter_registry
 password-row = refl
 

@@ -3,10 +3,9 @@ use Rattle.std.proofs.Common.{◌≡◌, ℕ, Bool, true, false, cond, List, [],
 use Rattle.std.specs.Prelude.{◌&&◌, nat_le, not, filter, length}
 use Rattle.std.proofs.lemmas.Bool.Decides.{nat_tests}
 use Rattle.std.proofs.lemmas.List.Elements.{filter-append}
-use Rattle.wb_model.specs.Tables.{Case, lasts, Session, Who, TheUser, TheReporter, same_who}
-use Rattle.wb_model.specs.Changes.{LogsOut, Configures, Nothing, Change, LogsIn}
+use Rattle.wb_model.specs.Tables.{Case, lasts, Session, Who, TheUser, TheReporter, same_who, others, is_reporter_of, sessions_but}
+use Rattle.wb_model.specs.Changes.{Deletes, LogsOut, Configures, Nothing, Change, LogsIn}
 use Rattle.wb_model.specs.Host.{made, remaining, count_from, ends}
-use Rattle.wb_model.specs.Absence.{others, is_reporter_of, sessions_but}
 use Rattle.wb_model.proofs.Found.{filter_same, filter_both, filter_only}
 use Rattle.wb_model.proofs.Leaving.{filter_swap, purge_sessions}
 use Rattle.wb_model.proofs.SessionsLaw.{all_pass}
@@ -47,11 +46,12 @@ abbrev pub MadeElsewhere : ℕ → Change → Type 0
 MadeElsewhere r (LogsIn new) = is_reporter_of r new.who ≡ false
 MadeElsewhere r _ = Unit {0}
 
--- the change is a login or a logout of r's reporter, or touches no session
+-- the change is a login or a logout of r's reporter, or r's deletion, or touches no session
 abbrev pub IsGone : ℕ → Change → Type 0
 IsGone r (LogsIn new) = is_reporter_of r new.who ≡ true
 IsGone r (LogsOut turn who) = is_reporter_of r who ≡ true
 IsGone r (Configures setting) = ⊥
+IsGone r (Deletes n) = n ≡ r
 IsGone r _ = Unit {0}
 
 kept_test : (r : ℕ) (ch : Change) (zs : List Session) (s : Session) → (not (is_reporter_of r s.who) && not (ends ch (sessions_but r zs) s)) ≡ (not (is_reporter_of r s.who) && not (ends ch zs s))
@@ -91,6 +91,7 @@ spared : (r : ℕ) (ch : Change) (zs : List Session) (s : Session) → IsGone r 
 spared r (LogsIn new) zs s on off = ap (λ b. b && nat_le 8 (count_from new.who s zs)) (not_same r s.who new.who on off)
 spared r (LogsOut turn who) zs s on off = let k : same_who s.who who ≡ false = not_same r s.who who on off in grind (arith, k)
 spared r (Configures setting) zs s on off = absurd on
+spared r (Deletes n) zs s on off = ap (λ k. is_reporter_of k s.who) on ∙ off
 spared r _ zs s on off = refl
 
 none_made : (r : ℕ) (ch : Change) → IsGone r ch → sessions_but r (made ch) ≡ []

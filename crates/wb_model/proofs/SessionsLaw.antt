@@ -9,9 +9,9 @@ use Rattle.wb_model.specs.declared.entry.Entry.{Entry}
 use Rattle.wb_model.specs.declared.event.Event.{Event}
 use Rattle.wb_model.specs.declared.event.What.{What}
 use Rattle.wb_model.specs.declared.event.What.TheVariants.{Did, Gap, Idle, Lost}
-use Rattle.wb_model.specs.Tables.{Registry, Case, Session, Who, TheUser, TheReporter, is_there, stays, lasts}
+use Rattle.wb_model.specs.Tables.{Registry, Case, Session, Who, TheUser, TheReporter, is_there, stays, lasts, others, is_reporter_of}
 use Rattle.wb_model.specs.Requests.{Outcome, outline, outcome}
-use Rattle.wb_model.specs.Changes.{At, Change, Begins, Notes, LogsIn, LogsOut, Configures}
+use Rattle.wb_model.specs.Changes.{At, Change, Begins, Notes, Deletes, LogsIn, LogsOut, Configures}
 use Rattle.wb_model.specs.Effects.{Effect, Comes, Sets, effect_of}
 use Rattle.wb_model.specs.OnReports.{change_on}
 use Rattle.wb_model.specs.Rules.{change_alone}
@@ -22,16 +22,33 @@ use Rattle.wb_model.specs.Opened.{Opened, IsWithin, AreWithin}
 use Rattle.wb_model.proofs.Found.{filter_both, filter_only, Held, held_filter, filter_held, held_append}
 use Rattle.wb_model.proofs.Fitting.{Fits}
 use Rattle.wb_model.proofs.PastLaw.{below_there, pushed, there_noted}
+use Rattle.wb_model.proofs.Leaving.{stays_without, and_first}
+
+-- the change is no deletion
+abbrev Leaves : Change → Type 0
+Leaves (Deletes n) = ⊥
+Leaves _ = Unit {0}
 
 -- whether a report that was drawn before is there
-pub there_after : (ch : Change) (k q : ℕ) (cs : List Case) → q ≤ k → is_there q (cases_after ch k cs) ≡ is_there q cs
-there_after (Begins e) k q cs le = pushed q cs (record { number = k + 1; trail = e ∷ [] }) ∙ (let away : eqb (k + 1) q ≡ false = grind (arith, nat_tests, le) in grind (arith, away))
-there_after (Notes n e) k q cs le = there_noted q n e cs
-there_after _ k q cs le = refl
+there_after : (ch : Change) (k q : ℕ) (cs : List Case) → Leaves ch → q ≤ k → is_there q (cases_after ch k cs) ≡ is_there q cs
+there_after (Begins e) k q cs leaves le = pushed q cs (record { number = k + 1; trail = e ∷ [] }) ∙ (let away : eqb (k + 1) q ≡ false = grind (arith, nat_tests, le) in grind (arith, away))
+there_after (Notes n e) k q cs leaves le = there_noted q n e cs
+there_after (Deletes n) k q cs leaves le = absurd leaves
+there_after _ k q cs leaves le = refl
 
-pub stays_after : (ch : Change) (k : ℕ) (cs : List Case) (w : Who) → IsWithin k w → stays (cases_after ch k cs) w ≡ stays cs w
-stays_after ch k cs (TheUser u) within = refl
-stays_after ch k cs (TheReporter n) within = there_after ch k n cs within
+stays_after : (ch : Change) (k : ℕ) (cs : List Case) (w : Who) → Leaves ch → IsWithin k w → stays (cases_after ch k cs) w ≡ stays cs w
+stays_after ch k cs (TheUser u) leaves within = refl
+stays_after ch k cs (TheReporter n) leaves within = there_after ch k n cs leaves within
+
+still : (ch : Change) (k time : ℕ) (cs : List Case) (ss : List Session) (s : Session) → Leaves ch → IsWithin k s.who → (lasts time (cases_after ch k cs) s && not (ends ch ss s)) ≡ (lasts time cs s && not (ends ch ss s))
+still ch k time cs ss s leaves within = ap (λ b. (nat_lt time (s.at + 14_400) && b) && not (ends ch ss s)) (stays_after ch k cs s.who leaves within)
+
+-- a session that a change does not end lasts after it where it lasted before it
+lasts_after : (ch : Change) (k time : ℕ) (cs : List Case) (ss : List Session) (s : Session) → IsWithin k s.who → (lasts time (cases_after ch k cs) s && not (ends ch ss s)) ≡ (lasts time cs s && not (ends ch ss s))
+lasts_after (Deletes n) k time cs ss s within = and_first (nat_lt time (s.at + 14_400)) (stays (others n cs) s.who) (stays cs s.who) (not (is_reporter_of n s.who)) (stays_without n cs s.who)
+lasts_after (Begins e) k time cs ss s within = still (Begins e) k time cs ss s tt within
+lasts_after (Notes n e) k time cs ss s within = still (Notes n e) k time cs ss s tt within
+lasts_after _ k time cs ss s within = refl
 
 -- a session's turn and report are not to come
 abbrev pub Within : ℕ → ℕ → Session → Type 0
@@ -126,14 +143,15 @@ ended_later (Turn e past) s lt =
 abbrev pub stands_after : Past Opened → ℕ → Change → Session → Bool
 stands_after past time ch s = lasts time (cases_after ch (last past) (live_reports past time)) s && not (is_ended past s || (nat_le s.turn (turns past) && ends ch (standing_sessions past time) s))
 
-pub both_tests : (l k ended later ends : Bool) → k ≡ l → later ≡ true → (k && not (ended || (later && ends))) ≡ ((l && not ended) && not ends)
-both_tests l k ended later ends a b = grind (arith, a, b)
+pub both_tests : (l k ended later ends : Bool) → (k && not ends) ≡ (l && not ends) → later ≡ true → (k && not (ended || (later && ends))) ≡ ((l && not ended) && not ends)
+both_tests l k ended later true a b = grind (arith, b)
+both_tests l k ended later false a b = grind (arith, a, b)
 
 pub old_stands : (past : Past Opened) (time : ℕ) (ch : Change) (s : Session) → Within (turns past) (last past) s → stands_after past time ch s ≡ (stands past time s && not (ends ch (standing_sessions past time) s))
 old_stands past time ch s within =
     let turn : s.turn ≤ turns past = within.0 in
     both_tests (lasts time (live_reports past time) s) _ (is_ended past s) (nat_le s.turn (turns past)) (ends ch (standing_sessions past time) s)
-    (ap (λ b. nat_lt time (s.at + 14_400) && b) (stays_after ch (last past) (live_reports past time) s.who within.1)) (grind (arith, nat_tests, turn))
+    (lasts_after ch (last past) time (live_reports past time) (standing_sessions past time) s within.1) (grind (arith, nat_tests, turn))
 
 pub new_test : (l ended later ends : Bool) → l ≡ true → ended ≡ false → later ≡ false → (l && not (ended || (later && ends))) ≡ true
 new_test l ended later ends a b c = grind (arith, a, b, c)
@@ -156,6 +174,7 @@ pub sessions_are : (ch : Change) (ss : List Session) → remaining ch ss ++ made
 sessions_are (LogsIn new) ss = refl
 sessions_are (LogsOut turn who) ss = append-nil (remaining (LogsOut turn who) ss)
 sessions_are (Configures setting) ss = append-nil (remaining (Configures setting) ss)
+sessions_are (Deletes n) ss = append-nil (remaining (Deletes n) ss)
 sessions_are _ ss = append-nil (filter (λ s. not false) ss) ∙ all_pass ss
 
 -- the sessions that stand after a change that fits

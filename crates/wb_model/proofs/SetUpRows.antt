@@ -9,7 +9,8 @@ use Rattle.wb_model.specs.declared.registry.Lists.{Lists}
 use Rattle.wb_model.specs.declared.registry.TenantItem.{TenantItem}
 use Rattle.wb_model.specs.declared.registry.UserItem.{UserItem}
 use Rattle.wb_model.specs.Legal.{ascends}
-use Rattle.wb_model.specs.SetUps.{is_tenant_item, is_user_item, is_form_item, is_context_item, are_apart, are_ordered, tenant_ids, is_user_before, same_user_name, is_version_before, is_context_before, are_owned, has_form, has_recipients, follows, AreSetUp}
+use Rattle.wb_model.specs.SetUps.{is_tenant_item, is_user_item, is_form_item, is_context_item, are_apart, tenant_ids, is_user_before, same_user_name, is_version_before, is_context_before, are_owned, has_form, has_recipients, follows, AreSetUp}
+use Rattle.wb_model.specs.Ordered.{are_ordered}
 use Rattle.wb_model.proofs.Starter.{starter_registry, starter_user, starter_context, starter_form}
 use Rattle.wb_model.proofs.StarterForm.{starter-good}
 

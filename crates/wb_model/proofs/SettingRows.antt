@@ -18,7 +18,7 @@ use Rattle.wb_model.proofs.Starter.{starter_registry, starter_form, starter_salt
 -- ---- users
 
 abbrev none_may : UserSet
-none_may = record { name = codes "ada"; role = roles.Recipient; enabled = true; may = record { postpone = false; share = false; transfer = false }; password = None }
+none_may = record { name = codes "ada"; role = roles.Recipient; enabled = true; may = record { delete = false; postpone = false; share = false; transfer = false }; password = None }
 
 abbrev refused : ℕ → UserSet → Option Told
 refused u next = proposal_refusal starter_registry (ToUser u next)
@@ -59,7 +59,7 @@ own-name-row = refl
 
 -- a user who was disabled so often
 abbrev often : ℕ → Bool → UserItem
-often disabled enabled = record { tenant = 1; id = 1; disabled = disabled; enabled = enabled; may = record { postpone = false; share = false; transfer = false }; name = codes "ada"; role = roles.Recipient; secret = record { 0 = [] } }
+often disabled enabled = record { tenant = 1; id = 1; disabled = disabled; enabled = enabled; may = record { delete = false; postpone = false; share = false; transfer = false }; name = codes "ada"; role = roles.Recipient; secret = record { 0 = [] } }
 
 abbrev disables : UserSet
 disables = record none_may { enabled = false }

@@ -97,10 +97,10 @@ five_last true true false d e is = absurd (grind (arith, is))
 five_last true true true false e is = absurd (grind (arith, is))
 five_last true true true true false is = absurd (grind (arith, is))
 
-abbrev RightContext : ContextItem → Type 0
+abbrev pub RightContext : ContextItem → Type 0
 RightContext c = (1 ≤ c.retention) × (c.retention ≤ 3_650) × (are_readers c.recipients ≡ true)
 
-context_right : (t c : ℕ) (next : ContextSet) → fits_context next ≡ true → RightContext (context_item t c next)
+pub context_right : (t c : ℕ) (next : ContextSet) → fits_context next ≡ true → RightContext (context_item t c next)
 context_right t c next is =
     let parts = five_last _ (is_between 1 16 next.form) (is_between 1 32 (length next.recipients)) _ (is_between 1 3_650 next.retention) is in
     let range = and_both (nat_le 1 next.retention) (nat_le next.retention 3_650) parts.1 in

@@ -1,4 +1,5 @@
 -- The starter tenant, on which rows are computed: four users, one form and two contexts.
+use Rattle.wb_base.specs.Calendars.{plain}
 use Rattle.std.specs.Prelude.{ℕ, List, [], ◌∷◌, Bool, true, false, None, pos, codes}
 use Rattle.std.proofs.Common.{arith, refl}
 use Rattle.wb_base.specs.declared.callers.Role.{Role}
@@ -54,7 +55,7 @@ starter_user id name role password may = record {
   id = id;
   disabled = 0;
   enabled = true;
-  may = record { postpone = may; share = may; transfer = may };
+  may = record { delete = false; postpone = may; share = may; transfer = may };
   name = name;
   role = role;
   secret = digest starter_salt password;
@@ -65,7 +66,7 @@ starter_context id name retention reader = record { tenant = 1; id = id; form = 
 
 unfoldable pub starter_registry : Registry
 starter_registry = record {
-  settings = record { tenant = 1; name = codes "Harbour City"; notice_days = 7; offset = pos 0; quota = 50; salt = starter_salt };
+  settings = record { tenant = 1; external = false; calendar = plain; name = codes "Harbour City"; notice_days = 7; offset = pos 0; quota = 50; salt = starter_salt };
   users =
       starter_user 1 (codes "ada") roles.Recipient (codes "ada-pass") true ∷
       starter_user 2 (codes "ben") roles.Recipient (codes "ben-pass") false ∷

@@ -16,7 +16,7 @@ use Rattle.wb_model.specs.declared.event.What.TheVariants.{Idle}
 use Rattle.wb_model.specs.declared.registry.UserItem.{UserItem}
 use Rattle.wb_model.specs.Refusals.{bad_login, not_found, no_session, wrong_role, wrong_right}
 use Rattle.wb_base.specs.Secrets.{digest, same_digest}
-use Rattle.wb_model.specs.Tables.{Registry, has_number, Plain, Case, Session, Who, TheUser, TheReporter, Registry, user, user_named, report, has_receipt, with_receipt, session}
+use Rattle.wb_model.specs.Tables.{Registry, has_number, Plain, Case, Session, Who, TheUser, TheReporter, Registry, user, user_named, report, has_receipt, with_receipt, session, others, is_reporter_of, sessions_but}
 use Rattle.wb_model.specs.Targets.{Target, Nobody, Alone, On, same_role, finds, named_case, staff, user_target, own_case, reporter_target, some_user_target, who_target, session_target, entering, returning, unasked, needed_target, target, trail_at}
 use Rattle.wb_model.specs.Commands.{Right, Free, Need, Anyone, Any_session, Own, Staff, Names, need, has_right}
 use Rattle.wb_model.specs.Requests.{Outcome, Request, request, outline}
@@ -28,7 +28,7 @@ use Rattle.wb_model.specs.Rules.{refusal_alone, answer_alone, change_alone, effe
 use Rattle.wb_model.specs.PastTurns.{did, what_by}
 use Rattle.wb_model.specs.Commands.{is_read}
 use Rattle.wb_model.specs.Opened.{Apart, has_turn}
-use Rattle.wb_model.specs.Absence.{others, is_reporter_of, sessions_but, shrunk}
+use Rattle.wb_model.specs.Absence.{shrunk}
 use Rattle.wb_model.specs.Commands.{is_submission}
 use Rattle.wb_model.proofs.Found.{decide, same_number, other_number}
 use Rattle.wb_model.proofs.Leaving.{truth, none_filter, some_filter, apart_gone, report_others, report_gone, report_number}

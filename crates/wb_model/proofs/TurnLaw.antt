@@ -10,25 +10,26 @@ use Rattle.wb_model.specs.declared.command.Command.TheVariants as commands
 use Rattle.wb_model.specs.declared.entry.Entry.{Entry}
 use Rattle.wb_model.specs.declared.event.Event.{Event}
 use Rattle.wb_model.specs.declared.event.What.{What}
-use Rattle.wb_model.specs.declared.event.What.TheVariants.{Did, Gap, Idle, Lost}
+use Rattle.wb_model.specs.declared.event.What.TheVariants.{Idle}
 use Rattle.wb_model.specs.declared.numbering.Numbering.{Numbering}
 use Rattle.wb_model.specs.Tables.{Registry, Plain, Case, Who, is_there, is_live}
 use Rattle.wb_model.specs.Targets.{Target, Nobody, Alone, On, trail_at}
 use Rattle.wb_model.specs.Requests.{Frame, Outcome, Request, outline, outcome, request, secret_of, plain_part}
 use Rattle.wb_model.specs.Settings.{Setting, OfTenant, configured}
-use Rattle.wb_model.specs.Changes.{At, Change, Nothing, Draws, Configures, Answer, Verdict, Refused, Accepted, judged}
-use Rattle.wb_model.specs.Effects.{Effect, Misses, Looks, Reads, Writes, effect_of}
+use Rattle.wb_model.specs.Changes.{At, Change, Nothing, Configures, Answer, Verdict, Refused, Accepted, judged}
+use Rattle.wb_model.specs.Effects.{Effect, Misses, Looks, Reads, effect_of}
 use Rattle.wb_model.specs.OnReports.{change_on}
 use Rattle.wb_model.specs.Routes.{paths}
 use Rattle.wb_model.proofs.Effects.{in_open_is}
 use Rattle.wb_model.specs.Rules.{change_alone, verdict_on}
 use Rattle.wb_model.specs.Host as host
 use Rattle.wb_model.specs.Host.{Sealed, Tables, Host, purged, is_draw, registry_after, cases_after, plain_after, sealed_after, changed, reply_by, ruling, tables_after, reply_to, host_after}
-use Rattle.wb_model.specs.Past.{Past, Turn, now, at_of, who_of, report_of, about, alone_by, change_by, alone_in, change_in, secret_in, registry, alone_at, drew, last, drawn_at, day, drawn, numbering, numbers_after, numbers, trail_of, trail, change_at, sealed, case_of, live_reports, logins, stands_by, is_ended, plain, tables}
+use Rattle.wb_model.specs.Past.{Past, Turn, now, at_of, report_of, about, change_by, secret_in, registry, alone_at, drew, last, drawn_at, day, drawn, numbering, numbers, trail_of, trail, change_at, sealed, case_of, live_reports, logins, stands_by, is_ended, plain, tables}
 use Rattle.wb_model.specs.PastTurns.{at_frame, verdict_at, reply_at, target_at, principal, did, what_by, what_at}
 use Rattle.wb_model.specs.Commands.{is_read}
 use Rattle.wb_model.specs.Opened.{Opened}
 use Rattle.wb_model.proofs.Found.{Held, held_filter, held_map, filter_same}
+use Rattle.wb_model.proofs.Agreeing.{Agree, alone_agrees}
 use Rattle.wb_model.proofs.Drawn.{same_day, drawn_now}
 use Rattle.wb_model.proofs.Fitting.{Fits, verdict_fits, target_held, held_there}
 use Rattle.wb_model.proofs.Placed.{alone_placed, on_placed, who_principal, whose}
@@ -37,31 +38,6 @@ use Rattle.wb_model.proofs.SessionsLaw.{made_turn, sessions_law}
 use Rattle.wb_model.proofs.KeptContexts.{kept_contexts}
 
 -- ---- an event whose change fits
-
--- two changes that do the same to the numbering, the list of numbers and the registry
-pub record Agree (x y : Change) : Type 0 where
-  pub drawing : is_draw x ≡ is_draw y
-  pub listing : (k : ℕ) (ns : List ℕ) → numbers_after x k ns ≡ numbers_after y k ns
-  pub setting : (g : Registry) → registry_after x g ≡ registry_after y g
-
-pub same_change : (x : Change) → Agree x x
-same_change x = record { drawing = refl; listing = λ k ns. refl; setting = λ g. refl }
-
-pub on_agrees : (at : At) (g : Registry) (who : Who) (n : ℕ) (trail : List Entry) (e : Effect) → Agree Nothing (change_on at g who n trail e)
-on_agrees at g who n trail (Writes d) = record { drawing = refl; listing = λ k ns. refl; setting = λ g. refl }
-on_agrees at g who n trail _ = record { drawing = refl; listing = λ k ns. refl; setting = λ g. refl }
-
-pub did_agrees : (at : At) (g : Registry) (trail : List Entry) (a : Asked) (by : Option Principal) (place : Option ℕ) → Agree (alone_by at g a by place) (change_by at g trail a by place)
-did_agrees at g trail a by None = same_change (alone_by at g a by None)
-did_agrees at g trail a None (Some n) = same_change Nothing
-did_agrees at g trail a (Some by) (Some n) = on_agrees at g (who_of by) n trail (effect_of at g (Some (who_of by)) a.session trail (outline a.command))
-
--- what an event does on no report is told without the trail
-pub alone_agrees : (w : What) (at : At) (g : Registry) (trail : List Entry) → Agree (alone_in w at g) (change_in w at g trail)
-alone_agrees (Did a by) at g trail = did_agrees at g trail a by (report_of a.command by)
-alone_agrees (Gap t) at g trail = same_change Draws
-alone_agrees Idle at g trail = same_change Nothing
-alone_agrees Lost at g trail = same_change Nothing
 
 pub same_numbering : (a b : Numbering) → a.at ≡ b.at → a.drawn ≡ b.drawn → a.last ≡ b.last → a ≡ b
 same_numbering a b t d l = λ i. record { at = t i; drawn = d i; last = l i }
@@ -93,7 +69,7 @@ event_law past e fits =
     let same : Agree (alone_at past e) ch = alone_agrees e.what at (registry past) (trail_of (about e.what) (trail past)) in
     let cases : live_reports (Turn e past) at.time ≡ cases_after ch (last past) (live_reports past at.time) =
     filter_same _ (is_live (registry past).settings at.time) (live_kept (alone_at past e) (registry past) at.time) (map (case_after past at.time ch) (numbers (Turn e past)))
-    ∙ (ap (λ ns. filter (is_live (registry past).settings at.time) (map (case_after past at.time ch) ns)) (same.listing (last past) (numbers past)) ∙ cases_law past at ch fits) in
+    ∙ cases_law past at ch fits in
     same_tables _ _
     (same_plain _ _ (same.setting (registry past))
     (numbering_step past at.time (drew past e) (omega arith) ∙ ap (λ b. cond b (host.drawn at.time (registry past).settings (numbering past)) (numbering past)) same.drawing)

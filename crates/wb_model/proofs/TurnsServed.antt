@@ -12,7 +12,7 @@ use Rattle.wb_model.specs.Acts.{act_status}
 use Rattle.wb_model.specs.Changes.{At, Change, Answer, Says, Shows_own, Shows_identity, judged}
 use Rattle.wb_model.specs.Commands.{need}
 use Rattle.wb_model.specs.Doings.{Doing, Acts, Moves, doing_told}
-use Rattle.wb_model.specs.Effects.{Effect, Misses, Looks, Reads as ReadsPart, ToReader, ToReporter, TheIdentity, Writes, Submits, Comes, Goes, Sets, View, OfHealth, OfTenant, OfContext, OfReports, OfDues, OfRequests, OfConfiguration}
+use Rattle.wb_model.specs.Effects.{Effect, Misses, Looks, Reads as ReadsPart, ToReader, ToReporter, TheIdentity, Writes, Erases, Submits, Comes, Goes, Sets, View, OfHealth, OfTenant, OfContext, OfReports, OfDues, OfRequests, OfConfiguration}
 use Rattle.wb_model.specs.Host.{Sealed, said, reply_by}
 use Rattle.wb_model.specs.OnReports.{refusal_on, change_on, answer_on, read_by}
 use Rattle.wb_model.specs.Opened.{Opened}
@@ -60,6 +60,7 @@ alone_answered at p who (Sets t proposal) = told_served p.registry proposal
 alone_answered at p who Misses = served_not_found
 alone_answered at p who (ReadsPart part) = served_not_found
 alone_answered at p who (Writes doing) = served_not_found
+alone_answered at p who Erases = served_not_found
 
 pub read_served : (at : At) (g : Registry) (c : Case) (who : Who) → Served (read_by at g c who)
 read_served at g c (TheUser u) = refl
@@ -75,6 +76,7 @@ act_served (acts.Share reader) body = refl
 act_served (acts.Unshare reader) body = refl
 act_served (acts.Transfer context is_open readers) body = refl
 act_served (acts.Postpone today retention) body = refl
+act_served (acts.Extend reason external) body = refl
 act_served acts.Identity body = refl
 
 pub doing_answered : (trail : List Entry) (d : Doing) → Served (doing_told trail d)
@@ -89,6 +91,7 @@ on_answered at g who c (ReadsPart ToReader) = read_served at g c who
 on_answered at g who c (ReadsPart ToReporter) = tt
 on_answered at g who c (ReadsPart TheIdentity) = tt
 on_answered at g who c (Writes doing) = doing_answered c.trail doing
+on_answered at g who c Erases = refl
 on_answered at g who c (Comes role) = refl
 on_answered at g who c (Goes turn) = refl
 on_answered at g who c Misses = served_not_found

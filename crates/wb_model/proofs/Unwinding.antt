@@ -18,7 +18,7 @@ use Rattle.wb_model.specs.Trails as trails
 use Rattle.wb_model.specs.Tables.{Registry, Plain, Case, Who, TheReporter, is_there, lasts, context}
 use Rattle.wb_model.specs.Targets.{Target, Nobody, Alone, On, target, trail_at}
 use Rattle.wb_model.specs.Requests.{Frame, Outcome, Checked, Request, outline, outcome, asking_form, form_of_trail, submission_outcome, identity_outcome, submission_fault, late_fault, public, mark, plain_part, sealed_part}
-use Rattle.wb_model.specs.Changes.{At, Change, Begins, Notes, Answer, Says, Shows_own, Shows_identity, Verdict, Refused, Accepted, judged}
+use Rattle.wb_model.specs.Changes.{At, Change, Begins, Deletes, Notes, Answer, Says, Shows_own, Shows_identity, Verdict, Refused, Accepted, judged}
 use Rattle.wb_model.specs.Rules.{change_alone, answer_alone, effect_at, verdict, verdict_on}
 use Rattle.wb_model.specs.OnReports.{refusal_on, change_on, answer_on}
 use Rattle.wb_model.specs.Effects.{Effect, Looks, Writes, Submits, Sets, effect_of}
@@ -122,6 +122,7 @@ insert_here r x y s t h q ne = insert_beside r x s q ne ∙ (h q ne ∙ sym (ins
 sealed_same : (r : ℕ) (c : Change) (x : Option Answered) (t u : Tables) → TablesAlike r t u → (q : ℕ) → q ≢ r → sealed_after c t.plain.numbering.last x t.sealed q ≡ sealed_after c u.plain.numbering.last x u.sealed q
 sealed_same r (Begins e) x t u h q ne = insert_same r (t.plain.numbering.last + 1) x t.sealed u.sealed h.others q ne ∙ ap (λ (p : Plain). sealed_under (p.numbering.last + 1) x u.sealed q) h.plain
 sealed_same r (Notes n e) x t u h q ne = insert_same r n x t.sealed u.sealed h.others q ne
+sealed_same r (Deletes n) x t u h q ne = ap (cond (eqb q n) None) (h.others q ne)
 sealed_same r _ x t u h q ne = h.others q ne
 
 -- the same change, with other identity answers for r
@@ -133,6 +134,7 @@ sealed_here r (Begins e) x y t u h is q ne =
 sealed_here r (Notes n e) x y t u h is q ne =
     let here : n ≡ r = is n refl in
     ap (λ k. sealed_under k x t.sealed q) here ∙ (insert_here r x y t.sealed u.sealed h.others q ne ∙ ap (λ k. sealed_under k y u.sealed q) (sym here))
+sealed_here r (Deletes n) x y t u h is q ne = ap (cond (eqb q n) None) (h.others q ne)
 sealed_here r _ x y t u h is q ne = h.others q ne
 
 pub change_same : (r now : ℕ) (c : Change) (x y : Option Answered) (t u : Tables) → TablesAlike r t u → (x ≡ y) ⊎ ((q : ℕ) → place c t.plain.numbering.last ≡ Some q → q ≡ r) → TablesAlike r (changed now c x t) (changed now c y u)

@@ -1,14 +1,14 @@
 -- The tables, the past and the script in which a report's submission only drew a number.
-use Rattle.std.specs.Prelude.{◌≡◌, ℕ, zero, suc, ◌+◌, ◌==◌, ◌&&◌, ◌||◌, not, max, Bool, true, false, if◌then◌else◌, List, [], ◌∷◌, map, filter, Option, Some, None}
+use Rattle.std.specs.Prelude.{◌≡◌, ℕ, zero, suc, ◌+◌, ◌==◌, ◌&&◌, ◌||◌, not, max, Bool, true, false, if◌then◌else◌, List, [], ◌∷◌, map, Option, Some, None}
 use Rattle.wb_base.specs.declared.words.Words.{Words}
 use Rattle.wb_model.specs.declared.event.Event.{Event}
 use Rattle.wb_model.specs.declared.event.What.{What}
 use Rattle.wb_model.specs.declared.event.What.TheVariants.{Did, Gap, Idle, Lost}
-use Rattle.wb_model.specs.Tables.{same_who, Plain, Case, Session, Who, TheReporter, has_number, has_receipt}
+use Rattle.wb_model.specs.Tables.{Plain, has_receipt, is_there, others, sessions_but}
 use Rattle.wb_model.specs.Changes.{Change, Begins}
 use Rattle.wb_model.specs.Host.{Tables}
 use Rattle.wb_model.specs.Commands.{tenant_of, is_submission}
-use Rattle.wb_model.specs.Past.{Past, Opening, Turn, now, registry, last, about, alone_at, live, case_of, live_reports}
+use Rattle.wb_model.specs.Past.{Past, Opening, Turn, now, registry, last, about, alone_at, live, case_of, live_reports, held}
 use Rattle.wb_model.specs.Opened.{Apart, Opened}
 use Rattle.wb_base.specs.Secrets.{digest, receipt_text}
 use Rattle.wb_model.specs.Pasts.{AllOpened, seen, part, time, what_in}
@@ -17,15 +17,6 @@ use Rattle.wb_model.specs.Scripts.{Place, Reply, frame_of, play}
 use Rattle.wb_model.specs.ScriptsAlike.{is_made}
 
 -- ---- tables without a report
-
-abbrev pub others : ℕ → List Case → List Case
-others r cases = filter (λ c. not (has_number r c)) cases
-
-abbrev pub is_reporter_of : ℕ → Who → Bool
-is_reporter_of r who = same_who who (TheReporter r)
-
-abbrev pub sessions_but : ℕ → List Session → List Session
-sessions_but r ss = filter (λ s. not (is_reporter_of r s.who)) ss
 
 -- without r's trail and its reporter's sessions
 abbrev pub shrunk : ℕ → Plain → Plain
@@ -187,6 +178,19 @@ abbrev pub is_purged_after : ℕ → ℕ → ℕ → Past AllOpened → List Pla
 is_purged_after i t r past [] = false
 is_purged_after zero t r past (p ∷ ps) = is_purged t r (play past p).past ps
 is_purged_after (suc i) t r past (p ∷ ps) = is_purged_after i t r (play past p).past ps
+
+-- the hosts hold report r of tenant t
+abbrev pub holds : ℕ → ℕ → Past AllOpened → Bool
+holds t r past = is_there r (held (part t past)).plain.cases
+
+-- the hosts hold it only while it is live
+abbrev pub HoldsLive : ℕ → ℕ → Past AllOpened → Type 0
+HoldsLive t r past = live (part t past) r (time past) ≡ false → holds t r past ≡ false
+
+-- no place of a script is lost
+abbrev pub NoneIsLost : List Place → Type 0
+NoneIsLost [] = Unit {0}
+NoneIsLost (p ∷ ps) = (is_made p.loss ≡ true) × NoneIsLost ps
 
 -- the replies from the place on at which it is purged
 abbrev pub replies_after : ℕ → ℕ → ℕ → Past AllOpened → List Place → List (Option Reply) → List (Option Reply)

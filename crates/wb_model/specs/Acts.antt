@@ -1,7 +1,8 @@
 -- Acts on a report: what refuses each, by the report's trail alone, and the deed that it is.
-use Rattle.std.specs.Prelude.{ℕ, nat_le, nat_lt, ◌==◌, not, Bool, List, length, Option, Some, option_map}
+use Rattle.std.specs.Prelude.{ℕ, nat_le, nat_lt, ◌==◌, not, Bool, true, List, length, Option, Some, option_map}
 use Rattle.std.specs.Int.{int_max}
 use Rattle.std.specs.Option.{option_or}
+use Rattle.wb_base.specs.Calendars.{Calendar}
 use Rattle.wb_base.specs.Terms as terms
 use Rattle.wb_model.specs.declared.act.Act.{Act}
 use Rattle.wb_model.specs.declared.act.Act.TheVariants as acts
@@ -45,6 +46,12 @@ context_closed is_open = refuses_where (not is_open) faults.ContextClosed
 abbrev pub postpone_spent : List Entry → Option CaseFault
 postpone_spent trail = refuses_where (nat_le 10 (postponements trail)) faults.PostponeSpent
 
+abbrev pub not_external : Bool → Option CaseFault
+not_external external = refuses_where (not external) faults.NotExternal
+
+abbrev pub extended : List Entry → Option CaseFault
+extended trail = option_map (λ day. faults.Already (was.Day day)) (trails.extension trail)
+
 abbrev pub is_full : ℕ → Bool
 is_full entries = not (nat_lt entries 4_096)
 
@@ -64,20 +71,22 @@ case_fault trail (acts.Share user) = option_or (has_reader user trail) (full tra
 case_fault trail (acts.Unshare user) = option_or (not_reader user trail) (last_reader trail)
 case_fault trail (acts.Transfer context is_open readers) = option_or (closed trail) (option_or (same_context context trail) (option_or (context_closed is_open) (full trail)))
 case_fault trail (acts.Postpone today retention) = option_or (postpone_spent trail) (full trail)
+case_fault trail (acts.Extend reason external) = option_or (closed trail) (option_or (not_external external) (option_or (extended trail) (full trail)))
 case_fault trail acts.Identity = option_or (closed trail) (full trail)
 
--- the deed that an act is, after this trail
-abbrev pub act_deed : List Entry → Act → Deed
-act_deed trail (acts.Comment internal text) = deeds.Comment internal text
-act_deed trail (acts.Label text) = deeds.Label text
-act_deed trail (acts.SetStatus status) = deeds.SetStatus status
-act_deed trail (acts.Acknowledge today) = deeds.Acknowledged today (terms.feedback_due (trails.received trail) (Some today))
-act_deed trail (acts.Feedback text) = deeds.Feedback text
-act_deed trail (acts.Share user) = deeds.Shared user
-act_deed trail (acts.Unshare user) = deeds.Unshared user
-act_deed trail (acts.Transfer context is_open readers) = deeds.Transferred context readers
-act_deed trail (acts.Postpone today retention) = deeds.Postponed (int_max (trails.expires trail) (terms.expiry today retention))
-act_deed trail acts.Identity = deeds.Identity
+-- the deed that an act is, after this trail, on this calendar
+abbrev pub act_deed : Calendar → List Entry → Act → Deed
+act_deed calendar trail (acts.Comment internal text) = deeds.Comment internal text
+act_deed calendar trail (acts.Label text) = deeds.Label text
+act_deed calendar trail (acts.SetStatus status) = deeds.SetStatus status
+act_deed calendar trail (acts.Acknowledge today) = deeds.Acknowledged today (terms.feedback_due (trails.received trail) (Some today) (trails.is_extended trail) calendar)
+act_deed calendar trail (acts.Feedback text) = deeds.Feedback text
+act_deed calendar trail (acts.Share user) = deeds.Shared user
+act_deed calendar trail (acts.Unshare user) = deeds.Unshared user
+act_deed calendar trail (acts.Transfer context is_open readers) = deeds.Transferred context readers
+act_deed calendar trail (acts.Postpone today retention) = deeds.Postponed (int_max (trails.expires trail) (terms.expiry today retention))
+act_deed calendar trail (acts.Extend reason external) = deeds.Extended (terms.feedback_due (trails.received trail) (trails.acknowledged trail) true calendar) reason
+act_deed calendar trail acts.Identity = deeds.Identity
 
 -- 201 where it makes something new, and else 200
 abbrev pub act_status : Act → ℕ
@@ -91,3 +100,4 @@ act_status (acts.Feedback text) = 201
 act_status (acts.Share user) = 201
 act_status (acts.Transfer context is_open readers) = 201
 act_status (acts.Postpone today retention) = 201
+act_status (acts.Extend reason external) = 201

@@ -23,6 +23,8 @@ pub data Change : Type 0 where
   Begins : Entry → Change
   -- one more entry on a report
   Notes : ℕ → Entry → Change
+  -- a report goes, before it expires
+  Deletes : ℕ → Change
   -- a session begins
   LogsIn : Session → Change
   -- the session that was made at a turn ends, which is of this caller

@@ -13,12 +13,14 @@ use Rattle.wb_model.specs.Routes.{same_route, only_reads}
 
 pub data Right : Type 0 where
   Free : Right
+  To_delete : Right
   To_postpone : Right
   To_share : Right
   To_transfer : Right
 
 abbrev pub has_right : Right → Rights → Bool
 has_right Free may = true
+has_right To_delete may = may.delete
 has_right To_postpone may = may.postpone
 has_right To_share may = may.share
 has_right To_transfer may = may.transfer
@@ -69,6 +71,8 @@ columns (commands.Share t n user) = line t routes.Share (Names Recipient To_shar
 columns (commands.Unshare t n u) = line t routes.Unshare (Names Recipient To_share n)
 columns (commands.Transfer t n context) = line t routes.Transfer (Names Recipient To_transfer n)
 columns (commands.Postpone t n) = line t routes.Postpone (Names Recipient To_postpone n)
+columns (commands.Extend t n reason) = line t routes.Extend (Names Recipient Free n)
+columns (commands.Delete t n) = line t routes.Delete (Names Recipient To_delete n)
 columns (commands.Ask t n reason) = line t routes.Ask (Names Recipient Free n)
 columns (commands.ReadIdentity t n) = line t routes.ReadIdentity (Names Recipient Free n)
 columns (commands.Requests t) = line t routes.Requests (Staff Custodian)

@@ -2,6 +2,7 @@
 use Rattle.std.specs.Prelude.{ℕ, ◌+◌, ◌&&◌, Bool, false, List, length, Option, option_map}
 use Rattle.std.specs.Option.{option_map_or}
 use Rattle.wb_base.specs.declared.callers.Role.TheVariants as roles
+use Rattle.wb_base.specs.Calendars.{Calendar}
 use Rattle.wb_model.specs.declared.act.Act.{Act}
 use Rattle.wb_model.specs.declared.act.Move.{Move}
 use Rattle.wb_model.specs.declared.act.Move.TheVariants as moves
@@ -51,16 +52,16 @@ doing_fault trail user (Moves move) = option_map custody_told (custody_fault (le
 
 -- ---- the entry that it makes
 
-abbrev pub doing_deed : ℕ → List Entry → Doing → Deed
-doing_deed time trail (Acts act) = act_deed trail act
-doing_deed time trail (Moves move) = move_deed time move
+abbrev pub doing_deed : Calendar → ℕ → List Entry → Doing → Deed
+doing_deed calendar time trail (Acts act) = act_deed calendar trail act
+doing_deed calendar time trail (Moves move) = move_deed time move
 
 abbrev pub actor_of : Who → Actor
 actor_of (TheUser u) = actors.User u
 actor_of (TheReporter n) = actors.Reporter
 
-abbrev pub doing_entry : ℕ → Who → List Entry → Doing → Entry
-doing_entry time who trail d = record { at = time; by = actor_of who; deed = doing_deed time trail d }
+abbrev pub doing_entry : Calendar → ℕ → Who → List Entry → Doing → Entry
+doing_entry calendar time who trail d = record { at = time; by = actor_of who; deed = doing_deed calendar time trail d }
 
 -- ---- the reply to it
 

@@ -56,6 +56,8 @@ pub data Effect : Type 0 where
   Reads : Part → Effect
   -- an act, or a move with the requests for the identity, on the report that it is on
   Writes : Doing → Effect
+  -- the report that it is on goes
+  Erases : Effect
   -- a report begins in this context, on this form
   Submits : ContextItem → FormItem → Effect
   -- its caller's session begins in this role
@@ -118,6 +120,8 @@ effect_of at g who s trail (commands.Share t n reader) = if may_read (user reade
 effect_of at g who s trail (commands.Unshare t n reader) = Writes (Acts (acts.Unshare reader))
 effect_of at g who s trail (commands.Transfer t n c) = option_map_or (λ (x : ContextItem). Writes (Acts (acts.Transfer c x.is_open x.recipients))) (context c g.contexts) Misses
 effect_of at g who s trail (commands.Postpone t n) = Writes (Acts (acts.Postpone (day_of at.time g.settings.offset) (retention_of (context (trails.context trail) g.contexts))))
+effect_of at g who s trail (commands.Extend t n reason) = Writes (Acts (acts.Extend reason g.settings.external))
+effect_of at g who s trail (commands.Delete t n) = Erases
 effect_of at g who s trail (commands.Ask t n reason) = Writes (Moves (moves.Ask reason (disablings (caller who) g.users)))
 effect_of at g who s trail (commands.ReadIdentity t n) = Reads TheIdentity
 effect_of at g who s trail (commands.Requests t) = Looks OfRequests

@@ -29,6 +29,7 @@ case_told cases.ContextClosed = refused 409 (codes "context_closed") Null
 case_told cases.NotReader = refused 409 (codes "not_reader") Null
 case_told cases.LastReader = refused 409 (codes "last_reader") Null
 case_told cases.PostponeSpent = refused 409 (codes "postpone_spent") (Whole 10)
+case_told cases.NotExternal = refused 409 (codes "not_external") Null
 case_told cases.TrailFull = trail_full
 case_told cases.Memory = no_memory
 

@@ -7,12 +7,12 @@ use Rattle.wb_model.specs.declared.command.Asked.{Asked}
 use Rattle.wb_model.specs.declared.entry.Entry.{Entry}
 use Rattle.wb_model.specs.declared.numbering.Numbering.{Numbering}
 use Rattle.wb_model.specs.declared.registry.TenantItem.{TenantItem}
-use Rattle.wb_model.specs.Tables.{Registry, Plain, Case, Session, Who, TheUser, TheReporter, same_who, is_live, is_there, lasts, drawn_on}
+use Rattle.wb_model.specs.Tables.{Registry, Plain, Case, Session, Who, TheUser, TheReporter, same_who, is_live, is_there, lasts, others, is_reporter_of, drawn_on}
 use Rattle.wb_model.specs.Json.{told}
 use Rattle.wb_model.specs.Views.{reporter_view, identity_view}
 use Rattle.wb_model.specs.Requests.{Frame, plain_part, sealed_part}
 use Rattle.wb_model.specs.Settings.{Setting, OfUser, configured}
-use Rattle.wb_model.specs.Changes.{At, Change, Nothing, Draws, Begins, Notes, LogsIn, LogsOut, Configures, Answer, Says, Shows_own, Shows_identity, Verdict, Refused, Accepted}
+use Rattle.wb_model.specs.Changes.{At, Change, Nothing, Draws, Begins, Notes, Deletes, LogsIn, LogsOut, Configures, Answer, Says, Shows_own, Shows_identity, Verdict, Refused, Accepted}
 use Rattle.wb_model.specs.Rules.{verdict}
 
 -- the identity answers by the number of their report
@@ -53,6 +53,7 @@ noted n entry case = record { number = case.number; trail = if case.number == n 
 abbrev pub cases_after : Change → ℕ → List Case → List Case
 cases_after (Begins entry) last cases = cases ++ record { number = last + 1; trail = entry ∷ [] } ∷ []
 cases_after (Notes n entry) last cases = map (noted n entry) cases
+cases_after (Deletes n) last cases = others n cases
 cases_after _ last cases = cases
 
 abbrev pub registry_after : Change → Registry → Registry
@@ -72,10 +73,11 @@ abbrev pub count_from : Who → Session → List Session → ℕ
 count_from who s standing = length (filter (λ z. same_who z.who who && nat_le s.turn z.turn) standing)
 
 -- a change ends the session s, where these stand just before it: a logout that used s; a setting that disables its user
--- or gives a password; or a login of its caller, of whom eight sessions from s on stand
+-- or gives a password; the deletion of its report; or a login of its caller, of whom eight sessions from s on stand
 abbrev pub ends : Change → List Session → Session → Bool
 ends (LogsOut turn who) standing s = s.turn == turn && same_who s.who who
 ends (Configures setting) standing s = ends_of setting s.who
+ends (Deletes n) standing s = is_reporter_of n s.who
 ends (LogsIn new) standing s = same_who s.who new.who && nat_le 8 (count_from new.who s standing)
 ends _ standing s = false
 
@@ -91,6 +93,7 @@ abbrev pub sessions_after : Change → List Session → List Session
 sessions_after (LogsIn new) standing = remaining (LogsIn new) standing ++ new ∷ []
 sessions_after (LogsOut turn who) standing = remaining (LogsOut turn who) standing
 sessions_after (Configures setting) standing = remaining (Configures setting) standing
+sessions_after (Deletes n) standing = remaining (Deletes n) standing
 sessions_after _ standing = standing
 
 abbrev pub plain_after : ℕ → Change → Plain → Plain
@@ -109,6 +112,7 @@ sealed_under n (Some secret) sealed = λ k. if k == n then Some secret else seal
 abbrev pub sealed_after : Change → ℕ → Option Answered → Sealed → Sealed
 sealed_after (Begins entry) last secret sealed = sealed_under (last + 1) secret sealed
 sealed_after (Notes n entry) last secret sealed = sealed_under n secret sealed
+sealed_after (Deletes n) last secret sealed = λ k. if k == n then None else sealed k
 sealed_after _ last secret sealed = sealed
 
 abbrev pub changed : ℕ → Change → Option Answered → Tables → Tables

@@ -18,7 +18,7 @@ use Rattle.wb_model.specs.Tables.{Registry, Case, user, context, report}
 use Rattle.wb_model.specs.Targets.{same_role}
 use Rattle.wb_model.specs.Requests.{form_of_trail, submission_fault, late_fault, mark}
 use Rattle.wb_model.specs.Host.{Tables}
-use Rattle.wb_model.specs.Legal.{ascends_from, is_legal, last_at}
+use Rattle.wb_model.specs.Legal.{ascends_from, is_legal, last_at, reckoning}
 use Rattle.wb_model.specs.Opened.{begun, entries_of, is_numbering}
 use Rattle.wb_model.specs.SetUps.{are_apart, AreSetUp}
 use Rattle.wb_model.specs.Openings.{registry_of}
@@ -45,9 +45,14 @@ users_in (deeds.Shared user) = user ∷ []
 users_in (deeds.Unshared user) = user ∷ []
 users_in _ = []
 
+-- an extension stands only in an external tenant
+abbrev pub is_of_channel : Bool → Deed → Bool
+is_of_channel external (deeds.Extended feedback_due reason) = external
+is_of_channel external _ = true
+
 -- whom and what an entry names is there
 abbrev pub is_named : Registry → Entry → Bool
-is_named g e = is_doer g.users e.deed e.by && list_all (λ u. is_some (user u g.users)) (users_in e.deed) && option_map_or (λ c. is_some (context c g.contexts)) (context_in e.deed) true
+is_named g e = is_of_channel g.settings.external e.deed && is_doer g.users e.deed e.by && list_all (λ u. is_some (user u g.users)) (users_in e.deed) && option_map_or (λ c. is_some (context c g.contexts)) (context_in e.deed) true
 
 -- ---- answers
 
@@ -75,7 +80,7 @@ pub record AreKept (at : ℕ) (lists : Lists) (tenant : ℕ) (t : Tables) : Type
   -- the reports' rows stand in the order of their numbers, from 1 on
   pub keys : ascends_from 0 (map (λ c. c.number) t.plain.cases) ≡ true
   -- each trail is legal
-  pub legal : list_all (λ c. is_legal t.plain.registry.settings.offset c.trail) t.plain.cases ≡ true
+  pub legal : list_all (λ c. is_legal (reckoning t.plain.registry.settings) c.trail) t.plain.cases ≡ true
   -- each form version, context and user that a trail names is there, users with the role of what they did, and the answers are valid
   pub forms : list_all (λ c. is_some (form_of_trail c.trail t.plain.registry.forms)) t.plain.cases ≡ true
   pub named : list_all (λ c. list_all (is_named t.plain.registry) c.trail) t.plain.cases ≡ true

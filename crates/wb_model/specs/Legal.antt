@@ -3,6 +3,7 @@ use Rattle.std.specs.Prelude.{◌≡◌, ◌≤◌, ℕ, ◌-◌, ◌*◌, ◌%�
 use Rattle.std.specs.Ordering.{int_eq}
 use Rattle.std.specs.Option.{option_map_or}
 use Rattle.wb_base.specs.Days.{day_of}
+use Rattle.wb_base.specs.Calendars.{Calendar}
 use Rattle.wb_base.specs.Terms as terms
 use Rattle.wb_model.specs.declared.access.AccessRequest.{AccessRequest}
 use Rattle.wb_model.specs.declared.act.Act.TheVariants as acts
@@ -13,9 +14,10 @@ use Rattle.wb_model.specs.declared.entry.Entry.{Entry}
 use Rattle.wb_model.specs.declared.entry.Deed.{Deed}
 use Rattle.wb_model.specs.declared.entry.Deed.TheVariants as deeds
 use Rattle.wb_model.specs.declared.registry.ContextItem.{ContextItem}
+use Rattle.wb_model.specs.declared.registry.TenantItem.{TenantItem}
 use Rattle.wb_model.specs.Tables.{Registry, Case}
 use Rattle.wb_model.specs.Access.{requests, request_at, user_by}
-use Rattle.wb_model.specs.Trails.{submission_in, expires, received}
+use Rattle.wb_model.specs.Trails.{submission_in, expires, received, acknowledged, is_extended}
 use Rattle.wb_model.specs.Doings.{Doing, Acts, Moves, doing_fault}
 
 -- ---- who may have done it
@@ -50,6 +52,7 @@ done trail (deeds.Shared user) = Some (Acts (acts.Share user))
 done trail (deeds.Unshared user) = Some (Acts (acts.Unshare user))
 done trail (deeds.Transferred context readers) = Some (Acts (acts.Transfer context true readers))
 done trail (deeds.Postponed expires) = Some (Acts (acts.Postpone (pos 0) 0))
+done trail (deeds.Extended feedback_due reason) = Some (Acts (acts.Extend reason true))
 done trail (deeds.Asked reason stamp) = Some (Moves (moves.Ask reason stamp))
 done trail (deeds.Granted effective reason request withheld) = Some (Moves (moves.Grant request (own_stamp request trail) 0 reason withheld))
 done trail (deeds.Denied reason request) = Some (Moves (moves.Deny request (own_stamp request trail) reason))
@@ -82,35 +85,44 @@ abbrev pub is_effective : ℕ → ℕ → Option (List ℕ) → Bool
 is_effective time effective (Some withheld) = effective == time
 is_effective time effective None = nat_le time effective && nat_le (effective - time) (86_400 * 30) && ((effective - time) % 86_400 == 0)
 
--- its days, readers and moment are right, with the tenant's offset, after this trail
-abbrev pub right_values : ℤ → List Entry → ℕ → Deed → Bool
-right_values offset trail time (deeds.Submitted ack_due answers context expires feedback_due form mark readers receipt received version) =
-    let today = day_of time offset in
-    int_eq received today && int_eq ack_due (terms.ack_due today) && int_eq feedback_due (terms.feedback_due today None) && is_within today 1 3_650 expires && are_readers readers
-right_values offset trail time (deeds.Acknowledged day feedback_due) = int_eq day (day_of time offset) && int_eq feedback_due (terms.feedback_due (received trail) (Some day))
-right_values offset trail time (deeds.Transferred context readers) = are_readers readers
-right_values offset trail time (deeds.Postponed new) = not (int_lt new (expires trail)) && (int_eq new (expires trail) || not (int_lt (terms.expiry (day_of time offset) 3_650) new))
-right_values offset trail time (deeds.Granted effective reason request withheld) = is_effective time effective withheld
-right_values offset trail time deed = true
+-- how a tenant reckons days: its offset from UTC, and its calendar
+pub record Reckoning : Type 0 where
+  pub offset : ℤ
+  pub calendar : Calendar
+
+abbrev pub reckoning : TenantItem → Reckoning
+reckoning settings = record { offset = settings.offset; calendar = settings.calendar }
+
+-- its days, readers and moment are right, as the tenant reckons days, after this trail
+abbrev pub right_values : Reckoning → List Entry → ℕ → Deed → Bool
+right_values days trail time (deeds.Submitted ack_due answers context expires feedback_due form mark readers receipt received version) =
+    let today = day_of time days.offset in
+    int_eq received today && int_eq ack_due (terms.ack_due today days.calendar) && int_eq feedback_due (terms.feedback_due today None false days.calendar) && is_within today 1 3_650 expires && are_readers readers
+right_values days trail time (deeds.Acknowledged day feedback_due) = int_eq day (day_of time days.offset) && int_eq feedback_due (terms.feedback_due (received trail) (Some day) (is_extended trail) days.calendar)
+right_values days trail time (deeds.Transferred context readers) = are_readers readers
+right_values days trail time (deeds.Postponed new) = not (int_lt new (expires trail)) && (int_eq new (expires trail) || not (int_lt (terms.expiry (day_of time days.offset) 3_650) new))
+right_values days trail time (deeds.Extended feedback_due reason) = int_eq feedback_due (terms.feedback_due (received trail) (acknowledged trail) true days.calendar)
+right_values days trail time (deeds.Granted effective reason request withheld) = is_effective time effective withheld
+right_values days trail time deed = true
 
 -- ---- the whole
 
 -- a trail begins with a submission
-abbrev pub is_first : ℤ → Entry → Bool
-is_first offset e = is_some (submission_in e.deed) && right_actor e.deed e.by && right_values offset [] e.at e.deed
+abbrev pub is_first : Reckoning → Entry → Bool
+is_first days e = is_some (submission_in e.deed) && right_actor e.deed e.by && right_values days [] e.at e.deed
 
 -- an entry after a trail whose last entry is of this moment
-abbrev pub is_next : ℤ → ℕ → List Entry → Entry → Bool
-is_next offset time trail e = nat_le time e.at && right_actor e.deed e.by && right_values offset trail e.at e.deed && is_free trail (user_by e.by) (done trail e.deed)
+abbrev pub is_next : Reckoning → ℕ → List Entry → Entry → Bool
+is_next days time trail e = nat_le time e.at && right_actor e.deed e.by && right_values days trail e.at e.deed && is_free trail (user_by e.by) (done trail e.deed)
 
-abbrev pub legal_from : ℤ → ℕ → List Entry → List Entry → Bool
-legal_from offset time before [] = true
-legal_from offset time before (e ∷ es) = is_next offset time before e && legal_from offset e.at (before ++ e ∷ []) es
+abbrev pub legal_from : Reckoning → ℕ → List Entry → List Entry → Bool
+legal_from days time before [] = true
+legal_from days time before (e ∷ es) = is_next days time before e && legal_from days e.at (before ++ e ∷ []) es
 
--- a trail of a tenant with this offset is legal
-abbrev pub is_legal : ℤ → List Entry → Bool
-is_legal offset [] = false
-is_legal offset (e ∷ es) = is_first offset e && legal_from offset e.at (e ∷ []) es
+-- a trail of a tenant that reckons days so is legal
+abbrev pub is_legal : Reckoning → List Entry → Bool
+is_legal days [] = false
+is_legal days (e ∷ es) = is_first days e && legal_from days e.at (e ∷ []) es
 
 -- the moment of the last entry, or this one where there is none
 abbrev pub last_at : ℕ → List Entry → ℕ
@@ -119,14 +131,14 @@ last_at time (e ∷ es) = last_at e.at es
 
 -- ---- what an act, a move and a submission ask of their values (the conditions of the calls that plan them)
 
-abbrev pub AsksRightly : ℤ → ℕ → Actor → Doing → Type 0
-AsksRightly offset time by (Acts acts.Identity) = is_reporter by ≡ true
-AsksRightly offset time by (Acts (acts.Comment internal text)) = Unit {0}
-AsksRightly offset time by (Acts (acts.Acknowledge today)) = (is_reporter by ≡ false) × (today ≡ day_of time offset)
-AsksRightly offset time by (Acts (acts.Transfer context is_open readers)) = (is_reporter by ≡ false) × (are_readers readers ≡ true)
-AsksRightly offset time by (Acts (acts.Postpone today retention)) = (is_reporter by ≡ false) × (today ≡ day_of time offset) × (retention ≤ 3_650)
-AsksRightly offset time by (Moves (moves.Grant request stamp notice_days reason withheld)) = (is_reporter by ≡ false) × (notice_days ≤ 30)
-AsksRightly offset time by d = is_reporter by ≡ false
+abbrev pub AsksRightly : Reckoning → ℕ → Actor → Doing → Type 0
+AsksRightly days time by (Acts acts.Identity) = is_reporter by ≡ true
+AsksRightly days time by (Acts (acts.Comment internal text)) = Unit {0}
+AsksRightly days time by (Acts (acts.Acknowledge today)) = (is_reporter by ≡ false) × (today ≡ day_of time days.offset)
+AsksRightly days time by (Acts (acts.Transfer context is_open readers)) = (is_reporter by ≡ false) × (are_readers readers ≡ true)
+AsksRightly days time by (Acts (acts.Postpone today retention)) = (is_reporter by ≡ false) × (today ≡ day_of time days.offset) × (retention ≤ 3_650)
+AsksRightly days time by (Moves (moves.Grant request stamp notice_days reason withheld)) = (is_reporter by ≡ false) × (notice_days ≤ 30)
+AsksRightly days time by d = is_reporter by ≡ false
 
 -- a registry in its ranges, as far as trails hang on it: the days of notice, and each context's retention and recipients
 abbrev pub AreSound : List ContextItem → Type 0
@@ -138,9 +150,9 @@ pub record IsSound (g : Registry) : Type 0 where
   pub contexts : AreSound g.contexts
 
 -- a report's trail is legal and of no moment to come
-abbrev pub LegalCase : ℤ → ℕ → Case → Type 0
-LegalCase offset time c = (is_legal offset c.trail ≡ true) × (last_at 0 c.trail ≤ time)
+abbrev pub LegalCase : Reckoning → ℕ → Case → Type 0
+LegalCase days time c = (is_legal days c.trail ≡ true) × (last_at 0 c.trail ≤ time)
 
-abbrev pub AreLegal : ℤ → ℕ → List Case → Type 0
-AreLegal offset time [] = Unit {0}
-AreLegal offset time (c ∷ cs) = LegalCase offset time c × AreLegal offset time cs
+abbrev pub AreLegal : Reckoning → ℕ → List Case → Type 0
+AreLegal days time [] = Unit {0}
+AreLegal days time (c ∷ cs) = LegalCase days time c × AreLegal days time cs

@@ -28,12 +28,15 @@ pub mod Rules
 pub mod Host
 pub mod Alike
 pub mod Tenants
+pub mod Refused
 pub mod Drawn
 pub mod Legal
 pub mod Opened
 pub mod Past
 pub mod PastTurns
 pub mod Pasts
+pub mod Ordered
+pub mod AnswerRanges
 pub mod Fits
 pub mod SetUps
 pub mod Openings
@@ -52,5 +55,8 @@ pub mod Reopened
 pub mod ScriptsAlike
 pub mod Playing
 pub mod Absence
+pub mod OtherOpenings
 pub mod Rows
 pub mod Counts
+pub mod Readable
+pub mod LeftLists

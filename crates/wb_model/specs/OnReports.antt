@@ -11,11 +11,11 @@ use Rattle.wb_model.specs.Refusing.{refuses_where}
 use Rattle.wb_model.specs.Requests.{Outcome}
 use Rattle.wb_model.specs.ShortViews.{done_view}
 use Rattle.wb_model.specs.Views.{recipient_view}
-use Rattle.wb_model.specs.Changes.{At, Change, Nothing, Notes, LogsIn, LogsOut, Answer, Says, Shows_own, Shows_identity}
+use Rattle.wb_model.specs.Changes.{At, Change, Nothing, Notes, Deletes, LogsIn, LogsOut, Answer, Says, Shows_own, Shows_identity}
 use Rattle.wb_model.specs.Submissions.{outcome_refusal}
 use Rattle.wb_model.specs.Logins.{new_session, welcome}
 use Rattle.wb_model.specs.Doings.{doing_fault, doing_entry, doing_told, actor_of}
-use Rattle.wb_model.specs.Effects.{ToReader, ToReporter, TheIdentity, Effect, Misses, Looks, Reads, Writes, Submits, Comes, Goes, Sets}
+use Rattle.wb_model.specs.Effects.{ToReader, ToReporter, TheIdentity, Effect, Misses, Looks, Reads, Writes, Erases, Submits, Comes, Goes, Sets}
 
 -- the user's grant on the report is in force
 abbrev pub has_grant : ℕ → Registry → Who → Case → Bool
@@ -29,6 +29,7 @@ refusal_on at g who case o (Reads ToReader) = None
 refusal_on at g who case o (Reads ToReporter) = None
 refusal_on at g who case o (Reads TheIdentity) = refuses_where (not (has_grant at.time g who case)) not_found
 refusal_on at g who case o (Writes doing) = option_or (outcome_refusal o) (doing_fault case.trail (user_by (actor_of who)) doing)
+refusal_on at g who case o Erases = None
 refusal_on at g who case o (Comes role) = None
 refusal_on at g who case o (Goes turn) = None
 refusal_on at g who case o Misses = Some not_found
@@ -36,10 +37,11 @@ refusal_on at g who case o (Looks view) = Some not_found
 refusal_on at g who case o (Submits c form) = Some not_found
 refusal_on at g who case o (Sets t proposal) = Some not_found
 
--- ---- what it changes: one more entry on that report, or a session of its reporter
+-- ---- what it changes: one more entry on that report, a session of its reporter, or the report goes
 
 abbrev pub change_on : At → Registry → Who → ℕ → List Entry → Effect → Change
-change_on at g who n trail (Writes doing) = Notes n (doing_entry at.time who trail doing)
+change_on at g who n trail (Writes doing) = Notes n (doing_entry g.settings.calendar at.time who trail doing)
+change_on at g who n trail Erases = Deletes n
 change_on at g who n trail (Comes role) = LogsIn (new_session at g role (TheReporter n))
 change_on at g who n trail (Goes turn) = LogsOut turn (TheReporter n)
 change_on at g who n trail Misses = Nothing
@@ -60,6 +62,7 @@ answer_on at g who case (Reads ToReader) = Says (read_by at g case who)
 answer_on at g who case (Reads ToReporter) = Shows_own case
 answer_on at g who case (Reads TheIdentity) = Shows_identity case.number
 answer_on at g who case (Writes doing) = Says (doing_told case.trail doing)
+answer_on at g who case Erases = Says (told 200 done_view)
 answer_on at g who case (Comes role) = Says (welcome at role)
 answer_on at g who case (Goes turn) = Says (told 200 done_view)
 answer_on at g who case Misses = Says not_found

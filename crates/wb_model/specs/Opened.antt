@@ -9,7 +9,7 @@ use Rattle.wb_model.specs.Trails.{has_identity}
 use Rattle.wb_model.specs.Tables.{Registry, has_receipt, Case, Session, Who, TheUser, TheReporter, report}
 use Rattle.wb_model.specs.Requests.{form_of_trail}
 use Rattle.wb_model.specs.Settings.{form_key}
-use Rattle.wb_model.specs.Legal.{ascends, IsSound, AreLegal}
+use Rattle.wb_model.specs.Legal.{ascends, IsSound, AreLegal, reckoning}
 use Rattle.wb_model.specs.Host.{Tables}
 
 -- the reports' numbers ascend from above this one
@@ -89,7 +89,7 @@ pub record AreOpened (at : ℕ) (t : Tables) : Type 0 where
   pub most : AtMost t.plain.numbering.last t.plain.cases
   pub begun : AreBegunBy t.plain.numbering.at t.plain.cases
   -- each trail is legal, of no moment to come, and of a form that is there
-  pub legal : AreLegal t.plain.registry.settings.offset at t.plain.cases
+  pub legal : AreLegal (reckoning t.plain.registry.settings) at t.plain.cases
   pub forms : HaveForms t.plain.registry.forms t.plain.cases
   -- no two reports have one receipt
   pub receipts : Apart has_receipt t.plain.cases

@@ -1,5 +1,6 @@
 -- The opening that lists of tenants make: no report, no number drawn, no session.
-use Rattle.std.specs.Prelude.{ℕ, ◌==◌, [], find, filter, unwrap_or, None, pos}
+use Rattle.std.specs.Prelude.{ℕ, ◌==◌, [], find, filter, unwrap_or, None, pos, false}
+use Rattle.wb_base.specs.Calendars.{plain}
 use Rattle.wb_model.specs.declared.registry.Lists.{Lists}
 use Rattle.wb_model.specs.declared.registry.TenantItem.{TenantItem}
 use Rattle.wb_model.specs.Tables.{Registry}
@@ -7,7 +8,7 @@ use Rattle.wb_model.specs.Host.{Tables}
 
 -- settings of a tenant that is not there, which no reply shows
 abbrev pub no_settings : ℕ → TenantItem
-no_settings t = record { tenant = t; name = []; notice_days = 0; offset = pos 0; quota = 0; salt = record { 0 = [] } }
+no_settings t = record { tenant = t; external = false; calendar = plain; name = []; notice_days = 0; offset = pos 0; quota = 0; salt = record { 0 = [] } }
 
 -- a tenant's part of the lists
 abbrev pub registry_of : Lists → ℕ → Registry

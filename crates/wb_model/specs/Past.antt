@@ -1,6 +1,7 @@
 -- One tenant's host as the list of its past turns, the newest outermost: every fact is a filter of it, or the last of its kind.
 use Rattle.std.specs.Prelude.{ℕ, ◌+◌, ◌==◌, ◌&&◌, ◌||◌, nat_le, not, max, Bool, true, false, if◌then◌else◌, List, [], ◌∷◌, ◌++◌, map, filter, Option, Some, None, option_map, ℤ}
 use Rattle.std.specs.Ordering.{int_eq}
+use Rattle.std.specs.List.{list_any}
 use Rattle.wb_base.specs.declared.callers.Principal.{Principal}
 use Rattle.wb_base.specs.declared.callers.Principal.TheVariants as principals
 use Rattle.wb_base.specs.AnswerList.{Answered}
@@ -15,7 +16,7 @@ use Rattle.wb_model.specs.declared.numbering.Numbering.{Numbering}
 use Rattle.wb_model.specs.Tables.{Registry, Plain, Case, Session, Who, TheUser, TheReporter, report, is_live, is_there, lasts, drawn_on}
 use Rattle.wb_model.specs.Commands.{Need, Names, need}
 use Rattle.wb_model.specs.Requests.{outline, outcome, secret_of}
-use Rattle.wb_model.specs.Changes.{At, Change, Nothing, Draws, Begins, Notes}
+use Rattle.wb_model.specs.Changes.{At, Change, Nothing, Draws, Begins, Notes, Deletes}
 use Rattle.wb_model.specs.Effects.{effect_of}
 use Rattle.wb_model.specs.OnReports.{change_on}
 use Rattle.wb_model.specs.Rules.{change_alone}
@@ -132,21 +133,12 @@ numbering past = record { at = drawn_at past; drawn = drawn past (day past (draw
 
 -- ---- facts of a report
 
-abbrev pub numbers_after : Change → ℕ → List ℕ → List ℕ
-numbers_after (Begins entry) last numbers = numbers ++ (last + 1) ∷ []
-numbers_after _ last numbers = numbers
-
--- the numbers of all reports, in the order in which they were drawn
-abbrev pub numbers : Past Opened → List ℕ
-numbers (Opening o) = map (λ c. c.number) o.tables.plain.cases
-numbers (Turn e past) = numbers_after (alone_at past e) (last past) (numbers past)
-
 -- the trail of the report that an event was on
 abbrev pub trail_of : Option ℕ → (ℕ → List Entry) → List Entry
 trail_of None trails = []
 trail_of (Some n) trails = trails n
 
--- r's trail after a change: an entry on r counts while r is live
+-- r's trail after a change: an entry on r counts before r's expiry
 abbrev pub grown : Change → ℕ → ℕ → Bool → List Entry → List Entry
 grown (Begins entry) last r lives trail = if last + 1 == r then entry ∷ [] else trail
 grown (Notes n entry) last r lives trail = if (n == r) && lives then trail ++ entry ∷ [] else trail
@@ -155,8 +147,8 @@ grown _ last r lives trail = trail
 abbrev pub lives_at : Registry → ℕ → ℕ → List Entry → Bool
 lives_at g time r trail = is_live g.settings time (record { number = r; trail = trail })
 
--- r's trail: one entry for each accepted command on r; what is accepted is on a live report, and what else a list of events may have on r counts for
--- nothing where r is not live
+-- r's trail: one entry for each accepted command on r but its deletion; what is accepted is on a live report, and what else a list of events may have
+-- on r counts for nothing after r's expiry
 abbrev pub trail : Past Opened → ℕ → List Entry
 trail (Opening o) r = entries_of (report r o.tables.plain.cases)
 trail (Turn e past) r = let at = at_of past e in
@@ -166,9 +158,23 @@ trail (Turn e past) r = let at = at_of past e in
 abbrev pub change_at : Past Opened → Event → Change
 change_at past e = change_in e.what (at_of past e) (registry past) (trail_of (about e.what) (trail past))
 
--- r is live at a moment
+abbrev pub numbers_after : Change → ℕ → List ℕ → List ℕ
+numbers_after (Begins entry) last numbers = numbers ++ (last + 1) ∷ []
+numbers_after (Deletes n) last numbers = filter (λ k. not (k == n)) numbers
+numbers_after _ last numbers = numbers
+
+-- the numbers of all reports that were not deleted, in the order in which they were drawn
+abbrev pub numbers : Past Opened → List ℕ
+numbers (Opening o) = map (λ c. c.number) o.tables.plain.cases
+numbers (Turn e past) = numbers_after (change_at past e) (last past) (numbers past)
+
+-- r was submitted, and no accepted deletion of it followed
+abbrev pub has_report : Past Opened → ℕ → Bool
+has_report past r = list_any (λ n. n == r) (numbers past)
+
+-- r is live at a moment: it was not deleted, and the tenant's day is before its expiry
 abbrev pub live : Past Opened → ℕ → ℕ → Bool
-live past r time = lives_at (registry past) time r (trail past r)
+live past r time = has_report past r && lives_at (registry past) time r (trail past r)
 
 abbrev pub newer : Option Answered → Option Answered → Option Answered
 newer None before = before
@@ -179,10 +185,10 @@ given (Begins entry) last r lives secret before = if last + 1 == r then secret e
 given (Notes n entry) last r lives secret before = if (n == r) && lives then newer secret before else before
 given _ last r lives secret before = before
 
--- the identity answers that were given last for r, while it was live
+-- the identity answers that were given last for r, before its expiry
 abbrev pub sealed : Past Opened → ℕ → Option Answered
 sealed (Opening o) r = o.tables.sealed r
-sealed (Turn e past) r = given (change_at past e) (last past) r (live past r (at_of past e).time) (secret_in e.what (registry past)) (sealed past r)
+sealed (Turn e past) r = given (change_at past e) (last past) r (lives_at (registry past) (at_of past e).time r (trail past r)) (secret_in e.what (registry past)) (sealed past r)
 
 -- ---- the tables
 

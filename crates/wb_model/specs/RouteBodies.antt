@@ -5,7 +5,7 @@ use Rattle.wb_model.specs.declared.command.Command.{Command}
 use Rattle.wb_model.specs.declared.command.Command.TheVariants as commands
 use Rattle.wb_model.specs.declared.route.Route.{Route}
 use Rattle.wb_model.specs.declared.route.Route.TheVariants as routes
-use Rattle.wb_model.specs.Bodies.{login, submission, own_comment, identity, comment, label, new_status, feedback, share, transfer, ask, decide, settings_set, user_set, context_set, new_form}
+use Rattle.wb_model.specs.Bodies.{login, submission, own_comment, identity, comment, label, new_status, feedback, share, transfer, extend, ask, decide, settings_set, user_set, context_set, new_form}
 
 -- the numbers of a path, by the names that they stand for
 abbrev pub Numbers : Type 0
@@ -24,6 +24,7 @@ bare routes.ReadReport at = Some (commands.ReadReport (at (codes "{t}")) (at (co
 bare routes.Acknowledge at = Some (commands.Acknowledge (at (codes "{t}")) (at (codes "{n}")))
 bare routes.Unshare at = Some (commands.Unshare (at (codes "{t}")) (at (codes "{n}")) (at (codes "{u}")))
 bare routes.Postpone at = Some (commands.Postpone (at (codes "{t}")) (at (codes "{n}")))
+bare routes.Delete at = Some (commands.Delete (at (codes "{t}")) (at (codes "{n}")))
 bare routes.ReadIdentity at = Some (commands.ReadIdentity (at (codes "{t}")) (at (codes "{n}")))
 bare routes.Requests at = Some (commands.Requests (at (codes "{t}")))
 bare routes.Admin at = Some (commands.Admin (at (codes "{t}")))
@@ -41,6 +42,7 @@ shaped routes.SetStatus at d = new_status (at (codes "{t}")) (at (codes "{n}")) 
 shaped routes.Feedback at d = feedback (at (codes "{t}")) (at (codes "{n}")) d
 shaped routes.Share at d = share (at (codes "{t}")) (at (codes "{n}")) d
 shaped routes.Transfer at d = transfer (at (codes "{t}")) (at (codes "{n}")) d
+shaped routes.Extend at d = extend (at (codes "{t}")) (at (codes "{n}")) d
 shaped routes.Ask at d = ask (at (codes "{t}")) (at (codes "{n}")) d
 shaped routes.Decide at d = decide (at (codes "{t}")) (at (codes "{n}")) (at (codes "{k}")) d
 shaped routes.SetSettings at d = option_map (λ next. commands.SetSettings (at (codes "{t}")) next) (settings_set d)

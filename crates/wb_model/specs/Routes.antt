@@ -54,7 +54,7 @@ paths =
     path (codes "/t/{t}/report/comments") (posts routes.OwnComment ∷ []) ∷
     path (codes "/t/{t}/report/identity") (puts routes.GiveIdentity ∷ []) ∷
     path (codes "/t/{t}/due") (gets routes.DueList ∷ []) ∷
-    path (codes "/t/{t}/reports/{n}") (gets routes.ReadReport ∷ []) ∷
+    path (codes "/t/{t}/reports/{n}") (gets routes.ReadReport ∷ deletes routes.Delete ∷ []) ∷
     path (codes "/t/{t}/reports/{n}/comments") (posts routes.Comment ∷ []) ∷
     path (codes "/t/{t}/reports/{n}/label") (puts routes.Label ∷ []) ∷
     path (codes "/t/{t}/reports/{n}/status") (puts routes.SetStatus ∷ []) ∷
@@ -73,6 +73,7 @@ paths =
     path (codes "/t/{t}/admin/users/{u}") (puts routes.SetUser ∷ []) ∷
     path (codes "/t/{t}/admin/contexts/{c}") (puts routes.SetContext ∷ []) ∷
     path (codes "/t/{t}/admin/forms/{f}") (puts routes.SetForm ∷ []) ∷
+    path (codes "/t/{t}/reports/{n}/extension") (posts routes.Extend ∷ []) ∷
     []
 
 -- ---- routes
@@ -109,6 +110,8 @@ route_number routes.SetSettings = 27
 route_number routes.SetUser = 28
 route_number routes.SetContext = 29
 route_number routes.SetForm = 30
+route_number routes.Extend = 31
+route_number routes.Delete = 32
 
 abbrev pub same_route : Route → Route → Bool
 same_route a b = route_number a == route_number b

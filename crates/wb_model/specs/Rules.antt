@@ -18,7 +18,7 @@ use Rattle.wb_model.specs.Settings.{proposal_refusal, proposal_told, setting_of}
 use Rattle.wb_model.specs.Changes.{At, Change, Nothing, Begins, LogsIn, LogsOut, Configures, Answer, Says, Verdict, Refused, judged}
 use Rattle.wb_model.specs.Submissions.{Drawing, drawing, submission_refusal, submission_entry}
 use Rattle.wb_model.specs.Logins.{new_session, welcome}
-use Rattle.wb_model.specs.Effects.{View, OfHealth, OfTenant, OfContext, OfReports, OfDues, OfRequests, OfConfiguration, Effect, Misses, Looks, Reads, Writes, Submits, Comes, Goes, Sets, caller, effect_of}
+use Rattle.wb_model.specs.Effects.{View, OfHealth, OfTenant, OfContext, OfReports, OfDues, OfRequests, OfConfiguration, Effect, Misses, Looks, Reads, Writes, Erases, Submits, Comes, Goes, Sets, caller, effect_of}
 use Rattle.wb_model.specs.OnReports.{refusal_on, change_on, answer_on}
 
 -- ---- requests on no report: what refuses one
@@ -32,6 +32,7 @@ refusal_alone g n o (Sets t proposal) = proposal_refusal g proposal
 refusal_alone g n o Misses = Some not_found
 refusal_alone g n o (Reads part) = Some not_found
 refusal_alone g n o (Writes doing) = Some not_found
+refusal_alone g n o Erases = Some not_found
 
 -- ---- what it changes: a report begins, a session of the user who asks begins or ends, or a setting is put in
 
@@ -44,6 +45,7 @@ change_alone at g who o Misses = Nothing
 change_alone at g who o (Looks view) = Nothing
 change_alone at g who o (Reads part) = Nothing
 change_alone at g who o (Writes doing) = Nothing
+change_alone at g who o Erases = Nothing
 
 -- ---- what is answered
 
@@ -65,6 +67,7 @@ answer_alone at p who (Sets t proposal) = Says (proposal_told p.registry proposa
 answer_alone at p who Misses = Says not_found
 answer_alone at p who (Reads part) = Says not_found
 answer_alone at p who (Writes doing) = Says not_found
+answer_alone at p who Erases = Says not_found
 
 -- ---- the verdict
 

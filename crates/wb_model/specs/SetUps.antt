@@ -12,7 +12,9 @@ use Rattle.wb_model.specs.declared.registry.FormItem.{FormItem}
 use Rattle.wb_model.specs.declared.registry.ContextItem.{ContextItem}
 use Rattle.wb_model.specs.Targets.{same_role}
 use Rattle.wb_model.specs.Fits.{is_between, has_bytes, is_staff_role}
+use Rattle.wb_model.specs.Ordered.{are_ordered}
 use Rattle.wb_model.specs.Settings.{form_key}
+use Rattle.wb_base.specs.Calendars.{are_holidays}
 use Rattle.wb_model.specs.Legal.{are_readers, ascends}
 
 -- ---- ranges
@@ -22,7 +24,7 @@ abbrev pub is_offset : ℤ → Bool
 is_offset minutes = int_le (neg_ℤ (pos 720)) minutes && int_le minutes (pos 840)
 
 abbrev pub is_tenant_item : TenantItem → Bool
-is_tenant_item x = is_between 1 64 x.tenant && has_bytes 1 128 x.name && nat_le x.notice_days 30 && is_offset x.offset && is_between 1 100_000 x.quota
+is_tenant_item x = is_between 1 64 x.tenant && has_bytes 1 128 x.name && nat_le x.notice_days 30 && is_offset x.offset && is_between 1 100_000 x.quota && are_holidays x.calendar.holidays
 
 abbrev pub is_user_item : UserItem → Bool
 is_user_item x = is_between 1 256 x.id && has_bytes 1 64 x.name && is_staff_role x.role && nat_le x.disabled 10_000
@@ -40,11 +42,6 @@ is_context_item x = is_between 1 64 x.id && has_bytes 1 128 x.name && is_between
 abbrev pub are_apart : {X : Type 0} → (X → X → Bool) → List X → Bool
 are_apart same [] = true
 are_apart same (x ∷ xs) = not (list_any (same x) xs) && are_apart same xs
-
--- each of a list comes before all that follow it
-abbrev pub are_ordered : {X : Type 0} → (X → X → Bool) → List X → Bool
-are_ordered is_before [] = true
-are_ordered is_before (x ∷ xs) = list_all (is_before x) xs && are_ordered is_before xs
 
 abbrev pub tenant_ids : Lists → List ℕ
 tenant_ids lists = map (λ x. x.tenant) lists.tenants

@@ -56,5 +56,5 @@ unfoldable pub submission_entry : At → Registry → Outcome → ContextItem �
 submission_entry at g o c form = let received = day_of at.time g.settings.offset in record {
   at = at.time;
   by = actors.Reporter;
-  deed = deeds.Submitted (terms.ack_due received) (answers_in o) c.id (terms.expiry received c.retention) (terms.feedback_due received None) form.id (mark_in o) c.recipients (digest g.settings.salt (receipt_text at.words)) received form.version;
+  deed = deeds.Submitted (terms.ack_due received g.settings.calendar) (answers_in o) c.id (terms.expiry received c.retention) (terms.feedback_due received None false g.settings.calendar) form.id (mark_in o) c.recipients (digest g.settings.salt (receipt_text at.words)) received form.version;
 }

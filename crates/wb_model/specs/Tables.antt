@@ -1,5 +1,5 @@
 -- One tenant's tables but for identity answers, and their look-ups.
-use Rattle.std.specs.Prelude.{ℕ, ◌+◌, ◌==◌, ◌&&◌, nat_lt, not, Bool, true, false, if◌then◌else◌, List, length, find, fold, Option, Some, None, ℤ, int_lt}
+use Rattle.std.specs.Prelude.{ℕ, ◌+◌, ◌==◌, ◌&&◌, nat_lt, not, Bool, true, false, if◌then◌else◌, List, length, filter, find, fold, Option, Some, None, ℤ, int_lt}
 use Rattle.std.specs.Ordering.{int_eq}
 use Rattle.std.specs.List.{list_any}
 use Rattle.std.specs.Option.{option_map_or}
@@ -105,6 +105,17 @@ abbrev pub session : Salt → Presented → List Session → Option Session
 session salt presented.None ss = None
 session salt presented.Bad ss = None
 session salt (presented.Token turn secret) ss = find (λ s. (s.turn == turn) && same_digest s.digest (digest salt secret)) ss
+
+-- ---- without a report
+
+abbrev pub others : ℕ → List Case → List Case
+others r cases = filter (λ c. not (has_number r c)) cases
+
+abbrev pub is_reporter_of : ℕ → Who → Bool
+is_reporter_of r who = same_who who (TheReporter r)
+
+abbrev pub sessions_but : ℕ → List Session → List Session
+sessions_but r ss = filter (λ s. not (is_reporter_of r s.who)) ss
 
 -- ---- the whole
 

@@ -109,8 +109,20 @@ acknowledged_in _ = None
 abbrev pub acknowledged : List Entry → Option ℤ
 acknowledged trail = last_said acknowledged_in None trail
 
+abbrev pub extension_in : Deed → Option (Option ℤ)
+extension_in (deeds.Extended feedback_due reason) = Some (Some feedback_due)
+extension_in _ = None
+
+-- the feedback day of the extension
+abbrev pub extension : List Entry → Option ℤ
+extension trail = last_said extension_in None trail
+
+abbrev pub is_extended : List Entry → Bool
+is_extended trail = is_some (extension trail)
+
 abbrev pub feedback_due_in : Deed → Option ℤ
 feedback_due_in (deeds.Acknowledged day feedback_due) = Some feedback_due
+feedback_due_in (deeds.Extended feedback_due reason) = Some feedback_due
 feedback_due_in deed = option_map (λ (s : Submission). s.feedback_due) (submission_in deed)
 
 abbrev pub feedback_due : List Entry → ℤ
@@ -190,7 +202,7 @@ abbrev pub some_user : Actor → Option ℕ
 some_user Reporter = None
 some_user (User u) = Some u
 
--- the remark that an entry is: a comment, an acknowledgement, a feedback, or the notice of a grant that was not withheld
+-- the remark that an entry is: a comment, an acknowledgement, a feedback, an extension, or the notice of a grant that was not withheld
 abbrev pub remark_of : Entry → Option Remark
 remark_of entry = by_deed entry.deed
   where
@@ -198,6 +210,7 @@ remark_of entry = by_deed entry.deed
     by_deed (deeds.Comment internal text) = Some (record { at = entry.at; from = commenter entry.by; kind = codes "comment"; text = text; internal = internal; user = some_user entry.by })
     by_deed (deeds.Acknowledged day feedback_due) = Some (record { at = entry.at; from = codes "recipient"; kind = codes "acknowledgement"; text = []; internal = false; user = some_user entry.by })
     by_deed (deeds.Feedback text) = Some (record { at = entry.at; from = codes "recipient"; kind = codes "feedback"; text = text; internal = false; user = some_user entry.by })
+    by_deed (deeds.Extended feedback_due reason) = Some (record { at = entry.at; from = codes "recipient"; kind = codes "extension"; text = reason; internal = false; user = some_user entry.by })
     by_deed (deeds.Granted effective reason request None) = Some (record { at = entry.at; from = codes "custodian"; kind = codes "notice"; text = reason; internal = false; user = some_user entry.by })
     by_deed _ = None
 

@@ -1,5 +1,7 @@
 //! Laws of the definitions, each a function with no body.
 ghost use Rattle.std.specs.Prelude.{◌≡◌, ◌+◌, ◌≤◌, ◌<◌, if◌then◌else◌, filter, map, ℕ, List, false, true, Some, option_and_then};
+ghost use Rattle.serde_json.specs.Data.{Data};
+ghost use Rattle.serde_json.specs.Find.{get};
 ghost use Rattle.serde_json.specs.Read.{read};
 ghost use Rattle.std.specs.Prelude.{Bool, is_some, length, ℤ, None, ◌++◌, ◌∷◌, []};
 ghost use Rattle.wb_model.specs.declared.entry.Actor.{Actor};
@@ -7,13 +9,22 @@ ghost use Rattle.wb_model.specs.declared.entry.Entry.{Entry};
 ghost use Rattle.wb_model.specs.declared.registry.ContextItem.{ContextItem};
 ghost use Rattle.wb_model.specs.declared.registry.FormItem.{FormItem};
 ghost use Rattle.wb_model.specs.Access.{user_by};
-ghost use Rattle.wb_model.specs.Changes.{At};
+ghost use Rattle.wb_model.specs.Alike.{is_refused};
+ghost use Rattle.wb_model.specs.Changes.{At, Refused};
+ghost use Rattle.wb_model.specs.Refused.{host_unchanged, hosts_unchanged};
+ghost use Rattle.wb_model.specs.declared.body.Told.{Told};
+ghost use Rattle.wb_model.specs.Host.{ruling_at};
+ghost use Rattle.wb_model.specs.Tenants.{tenant_at, one, has_id, refused_in, OnTenant};
+ghost use Rattle.wb_model.specs.Scripts.{purges};
+ghost use Rattle.std.specs.Prelude.{find, max};
 ghost use Rattle.wb_model.specs.Tables.{Registry};
 ghost use Rattle.wb_model.specs.Requests.{Outcome};
+ghost use Rattle.wb_model.specs.AnswerRanges.{are_answers};
+ghost use Rattle.wb_model.specs.Bodies.{answers};
 ghost use Rattle.wb_model.specs.Fits.{fits_command};
 ghost use Rattle.wb_model.specs.Submissions.{submission_entry};
 ghost use Rattle.wb_model.specs.Doings.{Doing, doing_fault, doing_deed};
-ghost use Rattle.wb_model.specs.Legal.{ascends, are_readers, is_first, is_next, is_legal, last_at, AsksRightly, IsSound, AreLegal};
+ghost use Rattle.wb_model.specs.Legal.{Reckoning, reckoning, ascends, are_readers, is_first, is_next, is_legal, last_at, AsksRightly, IsSound, AreLegal};
 ghost use Rattle.wb_model.specs.declared.command.Asked.{Asked};
 ghost use Rattle.wb_model.specs.Host.{Tables};
 ghost use Rattle.wb_model.specs.Opened.{Ascend};
@@ -26,28 +37,34 @@ ghost use Rattle.wb_base.specs.FormFaults.{is_good};
 ghost use Rattle.wb_base.specs.FormShape.{form_of};
 ghost use Rattle.wb_model.specs.Requests.{Frame};
 ghost use Rattle.wb_model.specs.Host.{Host, purge_at, reply_to, host_after, tables_after};
-ghost use Rattle.wb_model.specs.Tenants.{Hosts, AllHostsAlike, OneLaterAlike, is_report_reader, hosts_reply, hosts_after, hosts_lost};
+ghost use Rattle.wb_model.specs.Tenants.{Tenancy, Hosts, AllHostsAlike, OneLaterAlike, is_report_reader, hosts_reply, hosts_after, hosts_lost};
 ghost use Rattle.wb_model.specs.declared.event.Event.{Event};
-ghost use Rattle.wb_model.specs.Absence.{begins_here, AreApart, DrawOthersAfter, without, gapped, all_gapped, first_last, BeginsAt, replies, past_with, without_place, replies_without, replies_after, is_purged_after};
+ghost use Rattle.wb_model.specs.Absence.{begins_here, AreApart, AllDrawAnother, DrawOthersAfter, later_replies, is_purged, replies_purged, without, gapped, all_gapped, first_last, BeginsAt, replies, past_with, without_place, replies_without, replies_after, is_purged_after, holds, NoneIsLost, HoldsLive};
 ghost use Rattle.wb_model.specs.Past.{registry, numbering, held, sealed, trail, last, live, is_lost, Past, Opening, Turn, now, live_reports, recent, standing_sessions, tables};
 ghost use Rattle.wb_model.specs.PastTurns.{verdict_at, reply_at, at_frame, what_at};
 ghost use Rattle.wb_model.specs.Opened.{is_numbering, AreOrdered, AreOpened, Opened};
+ghost use Rattle.std.specs.List.{list_all};
+ghost use Rattle.wb_model.specs.Readable.{AreReadable, OpensReadable, AreRanged, AreTimely, are_stored, is_count, is_stored_case};
 ghost use Rattle.wb_model.specs.Tables.{lasts};
-ghost use Rattle.wb_model.specs.Pasts.{AllOpened, part, tenants, time, standing_hosts, reply_in, with_turn, with_loss};
+ghost use Rattle.wb_model.specs.Pasts.{AllOpened, part, tenants, has_tenant, time, standing_hosts, reply_in, with_turn, with_loss};
 ghost use Rattle.wb_model.specs.Alike.{HostsAlike, LaterAlike, SubmissionsAlike, is_reader};
-ghost use Rattle.wb_model.specs.Rows.{rows, rows_but};
+ghost use Rattle.std.specs.List.Sorted.{IsStrictlySortedBy};
+ghost use Rattle.wb_base.specs.KeptRows.{key_cmp, key_of, all_changed};
+ghost use Rattle.wb_base.specs.declared.form.Format.{Format};
+ghost use Rattle.wb_model.specs.Rows.{rows, rows_but, rows_in, rows_of, converted};
 ghost use Rattle.wb_model.specs.declared.wire.ScriptFrame.{ScriptFrame};
 ghost use Rattle.wb_model.specs.Playing.{ArePlacesOf, AreLossesTold};
 ghost use Rattle.wb_model.specs.Drawn.{numbers_of, is_accepted};
 ghost use Rattle.wb_model.specs.Refusals.{turns_spent, is_turns_spent};
 ghost use Rattle.wb_model.specs.Scripts.{play, play_asked, Loss, Place, ArePossible, script_replies, past_after};
 ghost use Rattle.wb_model.specs.declared.registry.Lists.{Lists};
-ghost use Rattle.wb_model.specs.SetUps.{AreSetUp, tenant_ids};
+ghost use Rattle.wb_model.specs.SetUps.{AreSetUp, tenant_ids, has_tenant as has_tenant_in};
 ghost use Rattle.wb_model.specs.KeptRules.{AreKept};
 ghost use Rattle.wb_model.specs.Openings.{registry_of, empty_tables};
 ghost use Rattle.wb_model.specs.ByVerdicts.{AreByVerdicts, AskInRange};
-ghost use Rattle.wb_model.specs.Reopened.{left_time, left_tables, left_hosts, reopening};
-ghost use Rattle.wb_model.specs.ScriptsAlike.{PlacesAlike, hidden_replies};
+ghost use Rattle.wb_model.specs.ScriptsAlike.{PlacesAlike, AllPlacesAlike, hidden_replies};
+ghost use Rattle.wb_model.specs.OtherOpenings.{OpeningsAlike, IsOpenedWithout, StartTogether, rows_without};
+ghost use Rattle.wb_model.specs.Reopened.{left_time, left_tables, left_hosts, reopening, without_sessions};
 
 /// A turn does not tell two hosts apart that differ in the identity answers of report r alone.
 ///
@@ -71,6 +88,22 @@ pub fn a_submission_makes_hosts_alike()
     ensures host { (h : Host) (a b : Frame) → SubmissionsAlike (purge_at h a).plain a b → HostsAlike (h.tables.plain.numbering.last + 1) (host_after h a) (host_after h b) }
 {}
 
+/// A refused request leaves the host as it was but for its time, its turn number and what fell due. Its reply is the refusal.
+///
+/// So it is of the hosts that stand for a past (`past`); and where no report falls due at the turn, the rows are as they were (`rows`).
+pub fn a_refusal_changes_nothing_else()
+    ensures reply { (h : Host) (f : Frame) (told : Told) → ruling_at h f ≡ Refused told → reply_to h f ≡ told }
+    ensures host { (h : Host) (f : Frame) (told : Told) → ruling_at h f ≡ Refused told → host_after h f ≡ host_unchanged h f }
+    ensures hosts { (h : Hosts) (f : Frame) → OnTenant (tenant_at f) h.list (λ x. is_refused (ruling_at (one h.turns h.now x) f) ≡ true) → hosts_after h f ≡ hosts_unchanged h f }
+    ensures past { (past : Past AllOpened) (f : Frame) → refused_in (standing_hosts past) f (find (has_id (tenant_at f)) (standing_hosts past).list) ≡ true → standing_hosts (with_turn past f) ≡ hosts_unchanged (standing_hosts past) f }
+    ensures rows { (past : Past AllOpened) (f : Frame) → refused_in (standing_hosts past) f (find (has_id (tenant_at f)) (standing_hosts past).list) ≡ true → purges past (max (time past) f.moment) ≡ false → rows (with_turn past f) ≡ rows past }
+{}
+
+/// An opening is told by its moment, its tenants and their tables: two that have the same are one.
+pub fn an_opening_is_told_by_its_tables()
+    ensures { (o p : AllOpened) → o.at ≡ p.at → o.tenants ≡ p.tenants → ((t : ℕ) → o.tables t ≡ p.tables t) → o ≡ p }
+{}
+
 /// Scripts that differ in one report's valid identity answers alone get the same replies, but at the places where one of
 /// that report's readers asks.
 ///
@@ -81,6 +114,26 @@ pub fn alike_scripts_get_the_same_replies()
     ensures hosts { (i t r : ℕ) (past : Past AllOpened) (places others : List Place) → PlacesAlike i t r past places others → AllHostsAlike t r (standing_hosts (past_after past places)) (standing_hosts (past_after past others)) }
     ensures rows { (i t r : ℕ) (past : Past AllOpened) (places others : List Place) → PlacesAlike i t r past places others → rows_but t r (rows (past_after past places)) ≡ rows_but t r (rows (past_after past others)) }
     ensures replies { (i t r : ℕ) (past : Past AllOpened) (places others : List Place) → PlacesAlike i t r past places others → hidden_replies t r past places (script_replies past places) ≡ hidden_replies t r past places (script_replies past others) }
+{}
+
+/// Hosts that differ in one report's valid identity answers alone, whenever that report was submitted, get the same replies to scripts
+/// that are the same but for the identities that its reporter gives later: but at the places where one of that report's readers asks.
+///
+/// So do two openings that differ in those answers alone, of which both have some or neither has; and so it is of one script over both
+/// (`same`). At the end the hosts differ in those answers alone, and so do their rows, and the openings that are made of what they leave:
+/// so it holds over each later start too.
+///
+/// This holds wherever turns are lost at the same places of both scripts.
+pub fn alike_openings_get_the_same_replies()
+    ensures openings { (t r : ℕ) (o p : AllOpened) → OpeningsAlike t r o p → AllHostsAlike t r (standing_hosts (Opening o)) (standing_hosts (Opening p)) }
+    ensures marks { (t r : ℕ) (o p : AllOpened) → OpeningsAlike t r o p → is_some ((o.tables t).sealed r) ≡ is_some ((p.tables t).sealed r) }
+    ensures replies { (t r : ℕ) (past other : Past AllOpened) (places others : List Place) → AllHostsAlike t r (standing_hosts past) (standing_hosts other) → AllPlacesAlike t r past places others → hidden_replies t r past places (script_replies past places) ≡ hidden_replies t r past places (script_replies other others) }
+    ensures same { (t r : ℕ) (past other : Past AllOpened) (places : List Place) → AllHostsAlike t r (standing_hosts past) (standing_hosts other) → hidden_replies t r past places (script_replies past places) ≡ hidden_replies t r past places (script_replies other places) }
+    ensures hosts { (t r : ℕ) (past other : Past AllOpened) (places others : List Place) → AllHostsAlike t r (standing_hosts past) (standing_hosts other) → AllPlacesAlike t r past places others → AllHostsAlike t r (standing_hosts (past_after past places)) (standing_hosts (past_after other others)) }
+    ensures rows { (t r : ℕ) (past other : Past AllOpened) → AllHostsAlike t r (standing_hosts past) (standing_hosts other) → rows_but t r (rows past) ≡ rows_but t r (rows other) }
+    ensures reopened { (t r : ℕ) (past other : Past AllOpened) → AllHostsAlike t r (standing_hosts past) (standing_hosts other) →
+        (ids : ascends (tenants past) ≡ true) (sound : (u : ℕ) → AreOpened (left_time past) (left_tables past u)) (other_ids : ascends (tenants other) ≡ true) (other_sound : (u : ℕ) → AreOpened (left_time other) (left_tables other u)) →
+        OpeningsAlike t r (reopening past ids sound) (reopening other other_ids other_sound) }
 {}
 
 /// The hosts that stand for a past answer as the past says, and then stand for the past with that turn, made or lost.
@@ -107,15 +160,15 @@ pub fn sessions_stand_turn_by_turn()
 /// What is done on a report, and is not refused, is a legal entry after its trail, whatever the trail is; and so is the
 /// entry with which a submission begins its trail. A legal trail stays legal with such an entry.
 pub fn what_is_not_refused_is_legal()
-    ensures doing { (offset : ℤ) (last time : ℕ) (es : List Entry) (by : Actor) (d : Doing) → last ≤ time → AsksRightly offset time by d → doing_fault es (user_by by) d ≡ None → is_next offset last es (record { at = time; by = by; deed = doing_deed time es d }) ≡ true }
-    ensures submission { (at : At) (g : Registry) (o : Outcome) (c : ContextItem) (form : FormItem) → 1 ≤ c.retention → c.retention ≤ 3_650 → are_readers c.recipients ≡ true → is_first g.settings.offset (submission_entry at g o c form) ≡ true }
-    ensures more { (offset : ℤ) (es : List Entry) (e : Entry) → is_legal offset es ≡ true → is_next offset (last_at 0 es) es e ≡ true → is_legal offset (es ++ e ∷ []) ≡ true }
+    ensures doing { (days : Reckoning) (last time : ℕ) (es : List Entry) (by : Actor) (d : Doing) → last ≤ time → AsksRightly days time by d → doing_fault es (user_by by) d ≡ None → is_next days last es (record { at = time; by = by; deed = doing_deed days.calendar time es d }) ≡ true }
+    ensures submission { (at : At) (g : Registry) (o : Outcome) (c : ContextItem) (form : FormItem) → 1 ≤ c.retention → c.retention ≤ 3_650 → are_readers c.recipients ≡ true → is_first (reckoning g.settings) (submission_entry at g o c form) ≡ true }
+    ensures more { (days : Reckoning) (es : List Entry) (e : Entry) → is_legal days es ≡ true → is_next days (last_at 0 es) es e ≡ true → is_legal days (es ++ e ∷ []) ≡ true }
 {}
 
 /// A turn over purged tables, whose registry is in its ranges, keeps the trails of all reports legal, and the registry in
 /// its ranges.
 pub fn a_turn_keeps_trails_legal()
-    ensures trails { (t : Tables) (at : At) (a : Asked) → fits_command a.command ≡ true → IsSound t.plain.registry → Ascend 0 t.plain.cases → AreLegal t.plain.registry.settings.offset at.time t.plain.cases → AreLegal t.plain.registry.settings.offset at.time (tables_after t at a).plain.cases }
+    ensures trails { (t : Tables) (at : At) (a : Asked) → fits_command a.command ≡ true → IsSound t.plain.registry → Ascend 0 t.plain.cases → AreLegal (reckoning t.plain.registry.settings) at.time t.plain.cases → AreLegal (reckoning t.plain.registry.settings) at.time (tables_after t at a).plain.cases }
     ensures registry { (t : Tables) (at : At) (a : Asked) → fits_command a.command ≡ true → IsSound t.plain.registry → IsSound (tables_after t at a).plain.registry }
 {}
 
@@ -154,10 +207,32 @@ pub fn a_numbering_is_left_by_draws()
 ///
 /// A script whose requests are in their ranges makes such a past from such a past, and an opening is one.
 pub fn verdicts_keep_trails_legal()
-    ensures live { (t time : ℕ) (past : Past Opened) → AreByVerdicts t past → now past ≤ time → AreLegal (registry past).settings.offset time (live_reports past time) }
-    ensures held { (t : ℕ) (past : Past Opened) → AreByVerdicts t past → AreLegal (registry past).settings.offset (now past) (held past).plain.cases }
+    ensures live { (t time : ℕ) (past : Past Opened) → AreByVerdicts t past → now past ≤ time → AreLegal (reckoning (registry past).settings) time (live_reports past time) }
+    ensures held { (t : ℕ) (past : Past Opened) → AreByVerdicts t past → AreLegal (reckoning (registry past).settings) (now past) (held past).plain.cases }
     ensures registry { (t : ℕ) (past : Past Opened) → AreByVerdicts t past → IsSound (registry past) }
     ensures scripts { (t : ℕ) (past : Past AllOpened) (places : List Place) → AskInRange places → AreByVerdicts t (part t past) → AreByVerdicts t (part t (past_after past places)) }
+{}
+
+/// What the host of each past that verdicts made holds is such that its rows are read back, where what it was opened with was:
+/// what is set up and what trails name, answers, and the ranges of all that is stored.
+///
+/// So are setups, and kept rows whose texts and counts are in their ranges. A script makes such a past from such a past, and
+/// ends at a moment that a request may have where its requests and the past's time are at such.
+pub fn hosts_hold_what_is_read_back()
+    ensures held { (t : ℕ) (past : Past Opened) → OpensReadable t past → AreByVerdicts t past → AreRanged t past → AreReadable t (held past) }
+    ensures left { (t : ℕ) (past : Past Opened) → OpensReadable t past → AreByVerdicts t past → AreRanged t past → AreReadable t (without_sessions (held past)) }
+    ensures scripts { (t : ℕ) (past : Past AllOpened) (places : List Place) → AreRanged t (part t past) → AreRanged t (part t (past_after past places)) }
+    ensures moments { (past : Past AllOpened) (places : List Place) → AreTimely places → time past ≤ 99_999_999_999 → time (past_after past places) ≤ 99_999_999_999 }
+    ensures openings { (t : ℕ) (past : Past AllOpened) (places : List Place) → OpensReadable t (part t past) → OpensReadable t (part t (past_after past places)) }
+    ensures setups { (lists : Lists) (t : ℕ) → AreSetUp lists → are_stored lists ≡ true → has_tenant_in lists t ≡ true → AreReadable t (empty_tables (registry_of lists t)) }
+    ensures kept_rows { (at : ℕ) (lists : Lists) (t : ℕ) (x : Tables) → AreKept at lists t x → are_stored lists ≡ true → has_tenant_in lists t ≡ true → is_count x.plain.numbering.last ≡ true → list_all (is_stored_case x.sealed) x.plain.cases ≡ true → AreReadable t x }
+{}
+
+/// Answers in JSON that was read stand in byte order of their fields' ids, each in its range: those that a whole value is, and
+/// those under one of its keys.
+pub fn answers_that_are_read_stand_in_order()
+    ensures whole { (text : List ℕ) (value : Data) (a : Answered) → read text ≡ Some value → answers value ≡ Some a → are_answers a ≡ true }
+    ensures member { (text key : List ℕ) (value under : Data) (a : Answered) → read text ≡ Some value → get key value ≡ Some under → answers under ≡ Some a → are_answers a ≡ true }
 {}
 
 /// A report has identity answers exactly where its trail says that some were given, with it or later.
@@ -196,7 +271,8 @@ pub fn a_submission_begins_a_report()
 
 /// Where place i of a script is an accepted submission to tenant t that draws the number r, the replies are those of the
 /// script in which it only drew a number, but at the later places where the report is live. From the place on at which the
-/// report is purged all replies are, and then the hosts at the end are the same.
+/// report is purged all replies are. Where the hosts at the end do not hold the report, they are the same; so it is once it is
+/// purged, and where no place is lost and the report, expired or deleted, is not live at the end.
 ///
 /// This holds over every past whose live reports have different receipts, as those of an opening do, and wherever turns are
 /// lost at the same places of both scripts. No later submission to the tenant draws the report's receipt while it is live.
@@ -204,7 +280,53 @@ pub fn absence_over_scripts()
     ensures opening { (t : ℕ) (o : AllOpened) → AreApart t (Opening o) }
     ensures live { (i t r : ℕ) (past : Past AllOpened) (places : List Place) → AreApart t past → BeginsAt i t r past places → DrawOthersAfter i t r past places → replies_without i t r past places (map Some (script_replies past places)) ≡ replies_without i t r past places (replies past (without_place i t places)) }
     ensures replies { (i t r : ℕ) (past : Past AllOpened) (places : List Place) → AreApart t past → BeginsAt i t r past places → DrawOthersAfter i t r past places → replies_after i t r past places (map Some (script_replies past places)) ≡ replies_after i t r past places (replies past (without_place i t places)) }
-    ensures hosts { (i t r : ℕ) (past : Past AllOpened) (places : List Place) → AreApart t past → BeginsAt i t r past places → DrawOthersAfter i t r past places → is_purged_after i t r past places ≡ true → standing_hosts (past_with past (without_place i t places)) ≡ standing_hosts (past_after past places) }
+    ensures hosts { (i t r : ℕ) (past : Past AllOpened) (places : List Place) → AreApart t past → BeginsAt i t r past places → DrawOthersAfter i t r past places → holds t r (past_after past places) ≡ false → standing_hosts (past_with past (without_place i t places)) ≡ standing_hosts (past_after past places) }
+    ensures purged { (i t r : ℕ) (past : Past AllOpened) (places : List Place) → AreApart t past → BeginsAt i t r past places → DrawOthersAfter i t r past places → is_purged_after i t r past places ≡ true → holds t r (past_after past places) ≡ false }
+    ensures gone { (i t r : ℕ) (past : Past AllOpened) (places : List Place) → BeginsAt i t r past places → NoneIsLost places → live (part t (past_after past places)) r (time (past_after past places)) ≡ false → holds t r (past_after past places) ≡ false }
+{}
+
+/// A report that a host holds when it is opened, however it came there: where a script draws its receipt for no later submission to its
+/// tenant while it is live, the replies are those over the opening without it, but at the places where it is live. From the place on at
+/// which it is purged all replies are, and then the hosts at the end are the same. Where the hosts at the end do not hold it, what they hold
+/// is the same; and where nothing is lost, they hold no report that is not live, if those at the start did not.
+///
+/// Each opening has one without the report (`there`). What is left by the two hosts are two such openings again, whether the report is
+/// purged by then or not (`again`), and so are what is left by a script in which the report is submitted, and by the script in which that
+/// submission only drew a number (`first`): so absence holds over any number of starts. The rows that the second keeps are those of the
+/// first without the report's (`rows`, `first_rows`).
+///
+/// This holds wherever turns are lost at the same places, and where both are opened at one moment or the script is not before either.
+pub fn absence_over_openings()
+    ensures there { (t r : ℕ) (o : AllOpened) → r ≤ (o.tables t).plain.numbering.last → (p : AllOpened) × IsOpenedWithout t r o p }
+    ensures live { (t r : ℕ) (o p : AllOpened) (places : List Place) → IsOpenedWithout t r o p → StartTogether o p places → AllDrawAnother t r (Opening o) places →
+        later_replies t r (Opening o) places (map Some (script_replies (Opening o) places)) ≡ later_replies t r (Opening o) places (map Some (script_replies (Opening p) places)) }
+    ensures replies { (t r : ℕ) (o p : AllOpened) (places : List Place) → IsOpenedWithout t r o p → StartTogether o p places → AllDrawAnother t r (Opening o) places →
+        replies_purged t r (Opening o) places (map Some (script_replies (Opening o) places)) ≡ replies_purged t r (Opening o) places (map Some (script_replies (Opening p) places)) }
+    ensures hosts { (t r : ℕ) (o p : AllOpened) (places : List Place) → IsOpenedWithout t r o p → StartTogether o p places → AllDrawAnother t r (Opening o) places → is_purged t r (Opening o) places ≡ true →
+        standing_hosts (past_after (Opening p) places) ≡ standing_hosts (past_after (Opening o) places) }
+    ensures tables { (t r : ℕ) (o p : AllOpened) (places : List Place) → IsOpenedWithout t r o p → StartTogether o p places → AllDrawAnother t r (Opening o) places → holds t r (past_after (Opening o) places) ≡ false →
+        (standing_hosts (past_after (Opening p) places)).list ≡ (standing_hosts (past_after (Opening o) places)).list }
+    ensures purged { (t r : ℕ) (o p : AllOpened) (places : List Place) → IsOpenedWithout t r o p → AllDrawAnother t r (Opening o) places → is_purged t r (Opening o) places ≡ true → holds t r (past_after (Opening o) places) ≡ false }
+    ensures gone { (t r : ℕ) (past : Past AllOpened) (places : List Place) → HoldsLive t r past → NoneIsLost places → HoldsLive t r (past_after past places) }
+    ensures rows { (t r : ℕ) (o p : AllOpened) (places : List Place) → IsOpenedWithout t r o p → StartTogether o p places → AllDrawAnother t r (Opening o) places →
+        rows (past_after (Opening p) places) ≡ rows_without t r (rows (past_after (Opening o) places)) }
+    ensures first_rows { (i t r : ℕ) (past : Past AllOpened) (places : List Place) → AreApart t past → BeginsAt i t r past places → DrawOthersAfter i t r past places →
+        rows (past_with past (without_place i t places)) ≡ rows_without t r (rows (past_after past places)) }
+    ensures again { (t r : ℕ) (o p : AllOpened) (places : List Place) → has_tenant (Opening o) t ≡ true → IsOpenedWithout t r o p → StartTogether o p places → AllDrawAnother t r (Opening o) places →
+        (ids : ascends (tenants (past_after (Opening o) places)) ≡ true) (sound : (u : ℕ) → AreOpened (left_time (past_after (Opening o) places)) (left_tables (past_after (Opening o) places) u)) →
+        (other_ids : ascends (tenants (past_after (Opening p) places)) ≡ true) (other_sound : (u : ℕ) → AreOpened (left_time (past_after (Opening p) places)) (left_tables (past_after (Opening p) places) u)) →
+        IsOpenedWithout t r (reopening (past_after (Opening o) places) ids sound) (reopening (past_after (Opening p) places) other_ids other_sound) }
+    ensures first { (i t r : ℕ) (past : Past AllOpened) (places : List Place) → AreApart t past → BeginsAt i t r past places → DrawOthersAfter i t r past places →
+        (ids : ascends (tenants (past_after past places)) ≡ true) (sound : (u : ℕ) → AreOpened (left_time (past_after past places)) (left_tables (past_after past places) u)) →
+        (other_ids : ascends (tenants (past_with past (without_place i t places))) ≡ true)
+        (other_sound : (u : ℕ) → AreOpened (left_time (past_with past (without_place i t places))) (left_tables (past_with past (without_place i t places)) u)) →
+        IsOpenedWithout t r (reopening (past_after past places) ids sound) (reopening (past_with past (without_place i t places)) other_ids other_sound) }
+{}
+
+/// Pasts for which one host stands answer each script alike, and one host stands for them at its end.
+pub fn a_host_is_all_that_is_told_of_its_past()
+    ensures replies { (past other : Past AllOpened) (places : List Place) → standing_hosts past ≡ standing_hosts other → script_replies past places ≡ script_replies other places }
+    ensures hosts { (past other : Past AllOpened) (places : List Place) → standing_hosts past ≡ standing_hosts other → standing_hosts (past_after past places) ≡ standing_hosts (past_after other places) }
 {}
 
 /// The dialogue of a trail is what its entries say at the places that are kept of it; one more entry is one more place
@@ -228,4 +350,9 @@ pub fn an_accepted_submission_draws_a_number()
 pub fn a_turn_is_not_answered_as_spent()
     ensures told { is_turns_spent turns_spent ≡ true }
     ensures others { (past : Past AllOpened) (f : Frame) (loss : Loss) → is_turns_spent (play_asked past f loss).reply.told ≡ false }
+{}
+
+/// Rows of a format become those of format 2: the row of the format is put, and all rows of forms anew. Rows stand in the order of their keys.
+pub fn rows_become_those_of_format_2()
+    ensures { (format : Format) (xs : List Tenancy) → IsStrictlySortedBy key_cmp (map key_of (rows_in format xs)) → all_changed (rows_in format xs) (converted format xs) ≡ rows_of xs }
 {}

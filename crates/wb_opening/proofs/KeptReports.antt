@@ -1,19 +1,19 @@
 -- Reports that are added to their tenants one after another.
-use Rattle.std.proofs.Common.{◌≡◌, ◌≢◌, ◌⊎◌, inl, inr, ℕ, zero, suc, ◌<◌, ◌≤◌, Bool, true, false, cond, List, [], ◌∷◌, ◌++◌, append_assoc, length, map, find, set, get_or, Some, None, Result, Ok, Err, refl, sym, ap, ◌∙◌, subst, arith, eq-eqb, ne_eqb, ℤ}
+use Rattle.std.proofs.Common.{◌≡◌, ◌≢◌, ◌⊎◌, inl, inr, ℕ, zero, suc, ◌<◌, ◌≤◌, Bool, true, false, cond, List, [], ◌∷◌, ◌++◌, append_assoc, length, map, find, set, get_or, Some, None, Result, Ok, Err, refl, sym, ap, ◌∙◌, subst, arith, eq-eqb, ne_eqb}
 use Rattle.std.specs.Prelude.{◌==◌, ◌&&◌, ◌||◌, is_some, nat_lt, if◌then◌else◌, OnOk}
 use Rattle.std.specs.List.{AllByRecursion, list_all}
 use Rattle.std.proofs.lemmas.Bool.{and_parts, cases_eq}
 use Rattle.std.proofs.lemmas.List.{append-nil}
 use Rattle.wb_model.specs.declared.registry.Lists.{Lists}
 use Rattle.wb_model.specs.declared.entry.Entry.{Entry}
-use Rattle.wb_model.specs.Legal.{ascends_from, is_first, is_legal, legal_from, right_actor, right_values}
+use Rattle.wb_model.specs.Legal.{Reckoning, ascends_from, is_first, is_legal, legal_from, right_actor, right_values}
 use Rattle.wb_model.specs.Opened.{Apart, AtMost}
 use Rattle.wb_model.specs.Tables.{Case, has_receipt}
 use Rattle.wb_model.specs.Trails.{submission_in}
 use Rattle.wb_row_rules.specs.Reports.{Report}
 use Rattle.wb_rows.specs.Held.{Held}
 use Rattle.wb_rows.specs.Openings.{case_of, cases_of}
-use Rattle.wb_row_rules.specs.TrailRule.{is_legal_report, offset}
+use Rattle.wb_row_rules.specs.TrailRule.{is_legal_report, days}
 use Rattle.wb_tables.specs.declared.tenancy.Tenancy.{Tenancy as KeptTenancy}
 use Rattle.wb_tables.specs.Kept.{PlainTenancy, place_of}
 use Rattle.wb_tables.specs.Places.{is_tenant}
@@ -214,9 +214,9 @@ pub held_reports : (h : Held) (ts : List ℕ) → map (with_reports h.reports) (
 held_reports h [] = refl
 held_reports h (t ∷ ts) = λ i. adds_cases h.reports (held_place (bare h.lists h.numberings) t) i ∷ held_reports h ts i
 
--- a legal report's trail is legal at an offset
-pub legal_at : (lists : Lists) (r : Report) (rs : List Report) → list_all (is_legal_report lists) (r ∷ rs) ≡ true → (offset : ℤ) × (is_legal offset r.trail ≡ true)
-legal_at lists r rs all = (offset lists r.tenant, (and_parts (is_legal_report lists r) (list_all (is_legal_report lists) rs) all).0)
+-- a legal report's trail is legal as a tenant reckons days
+pub legal_at : (lists : Lists) (r : Report) (rs : List Report) → list_all (is_legal_report lists) (r ∷ rs) ≡ true → (own : Reckoning) × (is_legal own r.trail ≡ true)
+legal_at lists r rs all = (days lists r.tenant, (and_parts (is_legal_report lists r) (list_all (is_legal_report lists) rs) all).0)
 
 pub legal_left : (lists : Lists) (r : Report) (rs : List Report) → list_all (is_legal_report lists) (r ∷ rs) ≡ true → list_all (is_legal_report lists) rs ≡ true
 legal_left lists r rs all = (and_parts (is_legal_report lists r) (list_all (is_legal_report lists) rs) all).1
@@ -231,7 +231,7 @@ held_ids h [] = refl
 held_ids h (t ∷ ts) = ap (λ l. t ∷ l) (held_ids h ts)
 
 -- so it begins with a submission
-pub legal_submitted : (o : ℤ) (trail : List Entry) → is_legal o trail ≡ true → is_submitted trail ≡ true
+pub legal_submitted : (o : Reckoning) (trail : List Entry) → is_legal o trail ≡ true → is_submitted trail ≡ true
 legal_submitted o [] legal = absurd (grind (arith, legal))
 legal_submitted o (e ∷ es) legal =
     let begins : is_first o e ≡ true = (and_parts (is_first o e) (legal_from o e.at (e ∷ []) es) legal).0 in

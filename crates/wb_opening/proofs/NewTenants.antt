@@ -11,6 +11,8 @@ use Rattle.std.proofs.lemmas.List.{append-nil}
 use Rattle.std.proofs.lemmas.List.Elements.{All-from_recursion}
 use Rattle.wb_list.specs.Keyed.{insert_item}
 use Rattle.wb_base.specs.KeptRows.{all_changed, IsGoodChange}
+use Rattle.wb_base.specs.declared.form.Format.{Format}
+use Rattle.wb_base.specs.declared.form.Format.TheVariants.{Plain, Weighed}
 use Rattle.wb_base.specs.declared.rows.Row.{Row}
 use Rattle.wb_base.specs.declared.rows.Change.TheVariants.{Put}
 use Rattle.wb_model.specs.declared.registry.ContextItem.{ContextItem}
@@ -18,19 +20,22 @@ use Rattle.wb_model.specs.declared.registry.FormItem.{FormItem}
 use Rattle.wb_model.specs.declared.registry.Lists.{Lists}
 use Rattle.wb_model.specs.declared.registry.TenantItem.{TenantItem}
 use Rattle.wb_model.specs.declared.registry.UserItem.{UserItem}
-use Rattle.wb_base.specs.FormJson.{form_data}
+use Rattle.wb_base.specs.FormJson.{kept_data}
 use Rattle.wb_model.specs.Opened.{AreOrdered, AreVersions}
 use Rattle.wb_model.specs.Openings.{registry_of, empty_tables}
-use Rattle.wb_model.specs.Rows.{kinds, of_kinds, rows_of, row, user_data, context_data}
+use Rattle.wb_model.specs.Rows.{kinds, of_kinds, of_tenants, converted, form_rows, format_row, rows_in, rows_of, tenants_rows, row, user_data, context_data}
 use Rattle.wb_model.specs.SetUps.{has_tenant, tenant_ids}
+use Rattle.wb_model.specs.Host.{Tables}
+use Rattle.wb_model.specs.Tables.{Registry}
 use Rattle.wb_model.specs.Tenants.{Tenancy}
+use Rattle.wb_model.proofs.TurnRows.{changed_append}
 use Rattle.wb_rows.specs.Held.{Held}
 use Rattle.wb_rows.specs.Openings.{tables_of, tenancies_of, with_setup}
 use Rattle.wb_rows.specs.Openings as held
 use Rattle.wb_rows.specs.Puts.{tenant_put, tenant_puts}
 use Rattle.wb_setup.specs.Joined.{joined}
 use Rattle.wb_setup.specs.Keys.{tenant_key}
-use Rattle.wb_opening.specs.HeldPlaces.{new_puts, new_tenancy, setup_puts}
+use Rattle.wb_opening.specs.HeldPlaces.{HoldNoOthers, new_puts, new_tenancy, setup_puts}
 
 -- ---- filters
 
@@ -141,10 +146,19 @@ module _ (setup : Lists) (h : Held)
     new_in_order = All-from_recursion IsNew (tenancies_of whole) (all_new (tenant_ids whole.lists))
 
   -- what the rows that are put make of those that were loaded, by the law of new tenants
-  pub rows_after : (rows : List Row) → rows_of (tenancies_of h) ≡ rows
+  rows_after : all_changed (rows_of (filter is_old (tenancies_of whole))) (tenant_puts (filter (λ x. not (is_old x)) (tenancies_of whole))) ≡ rows_of (tenancies_of whole)
+      → all_changed (rows_of (tenancies_of h)) (setup_puts setup h.lists) ≡ rows_of (tenancies_of whole)
+  rows_after law = (λ i. all_changed (rows_of (sym old_tenancies i)) (tenant_puts (sym new_tenancies i))) ∙ law
+
+  -- the same of rows of any format, which become those of format 2 first
+  pub rows_begun : (format : Format) (rows : List Row) → rows_in format (tenancies_of h) ≡ rows
+      → all_changed (rows_in format (tenancies_of h)) (converted format (tenancies_of h)) ≡ rows_of (tenancies_of h)
       → all_changed (rows_of (filter is_old (tenancies_of whole))) (tenant_puts (filter (λ x. not (is_old x)) (tenancies_of whole))) ≡ rows_of (tenancies_of whole)
-      → all_changed rows (setup_puts setup h.lists) ≡ rows_of (tenancies_of whole)
-  rows_after rows loaded law = (λ i. all_changed ((sym loaded ∙ ap rows_of (sym old_tenancies)) i) (tenant_puts (sym new_tenancies i))) ∙ law
+      → all_changed rows (converted format (tenancies_of h) ++ setup_puts setup h.lists) ≡ rows_of (tenancies_of whole)
+  rows_begun format rows loaded becomes law =
+      ap (λ rs. all_changed rs (converted format (tenancies_of h) ++ setup_puts setup h.lists)) (sym loaded)
+      ∙ (changed_append (rows_in format (tenancies_of h)) (converted format (tenancies_of h)) (setup_puts setup h.lists)
+      ∙ (ap (λ rs. all_changed rs (setup_puts setup h.lists)) becomes ∙ rows_after law))
 
 pub tenancy_ids : (h : Held) (ts : List ℕ) → map (λ (x : Tenancy). x.id) (map (held.tenancy_of h) ts) ≡ ts
 tenancy_ids h [] = refl
@@ -181,7 +195,7 @@ kinds_set : (some : List (Tenancy → List Row)) (x : Tenancy) → AreKindsSet s
 kinds_set [] x set = tt
 kinds_set (kind ∷ more) x set = all_append (λ (r : Row). r.key.kind ≤ 5) (kind x ++ []) (of_kinds more (x ∷ [])) (all_append (λ (r : Row). r.key.kind ≤ 5) (kind x) [] set.0 tt) (kinds_set more x set.1)
 
-new_rows_set : (lists : Lists) (t : ℕ) → AreSet (rows_of (new_tenancy lists t ∷ []))
+new_rows_set : (lists : Lists) (t : ℕ) → AreSet (tenants_rows (new_tenancy lists t ∷ []))
 new_rows_set lists t =
     let g = registry_of lists t in
     kinds_set kinds (new_tenancy lists t) (
@@ -191,7 +205,7 @@ new_rows_set lists t =
         (
           all_map (λ (u : UserItem). row 3 t u.id 0 (user_data u)) (λ (r : Row). r.key.kind ≤ 5) (λ u. omega arith) g.users,
           (
-            all_map (λ (f : FormItem). row 4 t f.id f.version (form_data f.form)) (λ (r : Row). r.key.kind ≤ 5) (λ f. omega arith) g.forms,
+            all_map (λ (f : FormItem). row 4 t f.id f.version (kept_data f.form)) (λ (r : Row). r.key.kind ≤ 5) (λ f. omega arith) g.forms,
             (all_map (λ (c : ContextItem). row 5 t c.id 0 (context_data c)) (λ (r : Row). r.key.kind ≤ 5) (λ c. omega arith) g.contexts, (tt, (tt, tt))),
           ),
         ),
@@ -204,10 +218,20 @@ all_good (r ∷ rs) set = ((omega (arith, set.0), (λ e. omega (arith, e, set.0)
 
 puts_good : (lists : Lists) (ts : List ℕ) → AllByRecursion IsGoodChange (tenant_puts (map (new_tenancy lists) ts))
 puts_good lists [] = tt
-puts_good lists (t ∷ ts) = all_append IsGoodChange (tenant_put (new_tenancy lists t)) (tenant_puts (map (new_tenancy lists) ts)) (all_good (rows_of (new_tenancy lists t ∷ [])) (new_rows_set lists t)) (puts_good lists ts)
+puts_good lists (t ∷ ts) = all_append IsGoodChange (tenant_put (new_tenancy lists t)) (tenant_puts (map (new_tenancy lists) ts)) (all_good (tenants_rows (new_tenancy lists t ∷ [])) (new_rows_set lists t)) (puts_good lists ts)
 
-pub setup_puts_good : (setup kept : Lists) → All IsGoodChange (setup_puts setup kept)
-setup_puts_good setup kept = All-from_recursion IsGoodChange (setup_puts setup kept) (puts_good (joined setup kept) (filter (λ t. not (has_tenant kept t)) (tenant_ids (joined setup kept))))
+forms_set : (xs : List Tenancy) → AreSet (of_tenants form_rows xs)
+forms_set [] = tt
+forms_set (x ∷ xs) = all_append (λ (r : Row). r.key.kind ≤ 5) (form_rows x) (of_tenants form_rows xs)
+    (all_map (λ (f : FormItem). row 4 x.id f.id f.version (kept_data f.form)) (λ (r : Row). r.key.kind ≤ 5) (λ f. omega arith) x.tables.plain.registry.forms) (forms_set xs)
+
+converted_good : (format : Format) (xs : List Tenancy) → AllByRecursion IsGoodChange (converted format xs)
+converted_good Plain xs = all_good (format_row ∷ of_tenants form_rows xs) (omega arith, forms_set xs)
+converted_good Weighed xs = tt
+
+pub batch_good : (format : Format) (xs : List Tenancy) (setup kept : Lists) → All IsGoodChange (converted format xs ++ setup_puts setup kept)
+batch_good format xs setup kept = All-from_recursion IsGoodChange (converted format xs ++ setup_puts setup kept)
+    (all_append IsGoodChange (converted format xs) (setup_puts setup kept) (converted_good format xs) (puts_good (joined setup kept) (filter (λ t. not (has_tenant kept t)) (tenant_ids (joined setup kept)))))
 
 -- ---- one after another
 
@@ -218,3 +242,16 @@ puts_step lists p t ts = by (p t)
     by : (b : Bool) → tenant_puts (map (new_tenancy lists) (cond (not b) (t ∷ filter (λ u. not (p u)) ts) (filter (λ u. not (p u)) ts))) ≡ tenant_puts (map (new_tenancy lists) (cond (not b) (t ∷ []) [])) ++ new_puts lists p ts
     by true = refl
     by false = ap (λ l. l ++ new_puts lists p ts) (sym (append-nil (tenant_put (new_tenancy lists t))))
+
+-- ---- what is known of the tables of both
+
+-- tables with another registry
+abbrev with_registry : Registry → Tables → Tables
+with_registry g t = record { plain = record t.plain { registry = g }; sealed = t.sealed }
+
+module _ (setup : Lists) (h : Held) where
+  pub old-tables : ((t : ℕ) → has_tenant h.lists t ≡ true → registry_of (joined setup h.lists) t ≡ registry_of h.lists t) → (t : ℕ) → has_tenant h.lists t ≡ true → tables_of (with_setup setup h) t ≡ tables_of h t
+  old-tables stays t there = ap (λ (g : Registry). with_registry g (tables_of h t)) (stays t there)
+
+  pub new-tables : HoldNoOthers h → (t : ℕ) → has_tenant h.lists t ≡ false → tables_of (with_setup setup h) t ≡ empty_tables (registry_of (joined setup h.lists) t)
+  new-tables alone t none = ap (with_registry (registry_of (joined setup h.lists) t)) (alone t none)

@@ -6,6 +6,7 @@ use Rattle.std.proofs.lemmas.Bool.{and_parts, and_from}
 use Rattle.std.proofs.lemmas.Bool.Decides.{nat_tests}
 use Rattle.std.proofs.lemmas.Int.{ints}
 use Rattle.std.proofs.lemmas.List.Sums.{sum_by-cons}
+use Rattle.wb_base.specs.Calendars.{are_holidays}
 use Rattle.wb_base.specs.Days.{IsOffset}
 use Rattle.wb_base.specs.FormFaults.{is_good}
 use Rattle.wb_model.specs.declared.registry.FormItem.{FormItem}
@@ -31,12 +32,12 @@ below a b e = grind (arith, nat_tests, e)
 at_most_int : (a b : ℤ) → int_le a b ≡ true → a ≤ℤ b
 at_most_int a b e = grind (arith, ints, e)
 
--- the first and the fourth of five
-outer_of : (a b c d e : Bool) → (a && b && c && d && e) ≡ true → (a ≡ true) × (d ≡ true)
-outer_of a b c d e is = let four = and_parts (a && b && c) d (and_parts (a && b && c && d) e is).0 in ((and_parts a b (and_parts (a && b) c four.0).0).0, four.1)
+-- the first and the fourth of six
+outer_of : (a b c d e f : Bool) → (a && b && c && d && e && f) ≡ true → (a ≡ true) × (d ≡ true)
+outer_of a b c d e f is = let four = and_parts (a && b && c) d (and_parts (a && b && c && d) e (and_parts (a && b && c && d && e) f is).0).0 in ((and_parts a b (and_parts (a && b) c four.0).0).0, four.1)
 
 in_ranges : (x : TenantItem) → is_tenant_item x ≡ true → (is_between 1 64 x.tenant ≡ true) × (is_offset x.offset ≡ true)
-in_ranges x e = outer_of (is_between 1 64 x.tenant) (has_bytes 1 128 x.name) (nat_le x.notice_days 30) (is_offset x.offset) (is_between 1 100_000 x.quota) e
+in_ranges x e = outer_of (is_between 1 64 x.tenant) (has_bytes 1 128 x.name) (nat_le x.notice_days 30) (is_offset x.offset) (is_between 1 100_000 x.quota) (are_holidays x.calendar.holidays) e
 
 id_in : (x : TenantItem) → is_tenant_item x ≡ true → (1 ≤ x.tenant) × (x.tenant ≤ 64)
 id_in x e = let sides = and_parts (nat_le 1 x.tenant) (nat_le x.tenant 64) (in_ranges x e).0 in (at_most 1 x.tenant sides.0, at_most x.tenant 64 sides.1)

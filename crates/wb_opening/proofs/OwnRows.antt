@@ -3,7 +3,8 @@ use Rattle.std.proofs.Common.{◌≡◌, ◌⊎◌, inl, inr, ℕ, ◌≤◌, tr
 use Rattle.std.specs.Prelude.{◌==◌, nat_lt, is_some, unwrap_or}
 use Rattle.std.proofs.lemmas.Bool.{and_parts, cases_eq, false≢true}
 use Rattle.std.proofs.lemmas.List.{append-nil}
-use Rattle.wb_base.specs.FormJson.{form_data}
+use Rattle.wb_base.specs.FormJson.{kept_data}
+use Rattle.wb_base.specs.declared.form.Format.TheVariants.{Weighed}
 use Rattle.wb_custody.specs.SealedAnswers.{answers_of}
 use Rattle.wb_kinds.specs.declared.item.NumberingItem.{NumberingItem}
 use Rattle.wb_model.specs.declared.registry.ContextItem.{ContextItem}
@@ -13,12 +14,12 @@ use Rattle.wb_model.specs.declared.registry.TenantItem.{TenantItem}
 use Rattle.wb_model.specs.declared.registry.UserItem.{UserItem}
 use Rattle.wb_model.specs.Legal.{ascends, ascends_from}
 use Rattle.wb_model.specs.Openings.{no_settings}
-use Rattle.wb_model.specs.Rows.{row, rows_of, settings_data, user_data, context_data}
+use Rattle.wb_model.specs.Rows.{row, tenants_rows, settings_data, user_data, context_data}
 use Rattle.wb_model.specs.SetUps.{tenant_ids}
 use Rattle.wb_rows.specs.declared.tables.Tables.{Tables}
 use Rattle.wb_row_rules.specs.Reports.{case_report}
 use Rattle.wb_rows.specs.Held.{held_by}
-use Rattle.wb_rows.specs.HeldRows.{settings_row, numbering_row, user_row, form_row, context_row, list_rows, trail_rows, sealed_rows, rows_of as rows_held}
+use Rattle.wb_rows.specs.HeldRows.{settings_row, numbering_row, user_row, form_row, context_row, list_rows, trail_rows, sealed_rows, own_rows as own_held}
 use Rattle.wb_tenants.specs.Owned.{own_lists}
 use Rattle.wb_tenants.specs.Sets.{HasTenant, is_tenant}
 use Rattle.wb_opening.specs.HeldPlaces.{new_tenancy}
@@ -58,22 +59,22 @@ module _ (t : ℕ) (lists : Lists) (up : ascends (tenant_ids lists) ≡ true) (t
   users : map user_row (filter (λ (x : UserItem). x.tenant == t) lists.users) ≡ map (λ (u : UserItem). row 3 t u.id 0 (user_data u)) (filter (λ (x : UserItem). x.tenant == t) lists.users)
   users = same_on (λ (x : UserItem). x.tenant == t) user_row (λ (u : UserItem). row 3 t u.id 0 (user_data u)) (λ x is. ap (λ n. row 3 n x.id 0 (user_data x)) (eqb-true x.tenant t is)) lists.users
 
-  forms : map form_row (filter (λ (x : FormItem). x.tenant == t) lists.forms) ≡ map (λ (f : FormItem). row 4 t f.id f.version (form_data f.form)) (filter (λ (x : FormItem). x.tenant == t) lists.forms)
-  forms = same_on (λ (x : FormItem). x.tenant == t) form_row (λ (f : FormItem). row 4 t f.id f.version (form_data f.form)) (λ x is. ap (λ n. row 4 n x.id x.version (form_data x.form)) (eqb-true x.tenant t is)) lists.forms
+  forms : map (form_row Weighed) (filter (λ (x : FormItem). x.tenant == t) lists.forms) ≡ map (λ (f : FormItem). row 4 t f.id f.version (kept_data f.form)) (filter (λ (x : FormItem). x.tenant == t) lists.forms)
+  forms = same_on (λ (x : FormItem). x.tenant == t) (form_row Weighed) (λ (f : FormItem). row 4 t f.id f.version (kept_data f.form)) (λ x is. ap (λ n. row 4 n x.id x.version (kept_data x.form)) (eqb-true x.tenant t is)) lists.forms
 
   contexts : map context_row (filter (λ (x : ContextItem). x.tenant == t) lists.contexts) ≡ map (λ (c : ContextItem). row 5 t c.id 0 (context_data c)) (filter (λ (x : ContextItem). x.tenant == t) lists.contexts)
   contexts = same_on (λ (x : ContextItem). x.tenant == t) context_row (λ (c : ContextItem). row 5 t c.id 0 (context_data c)) (λ x is. ap (λ n. row 5 n x.id 0 (context_data x)) (eqb-true x.tenant t is)) lists.contexts
 
-  own_rows : list_rows (own_lists t lists) (undrawn t ∷ []) ≡ rows_of (new_tenancy lists t ∷ [])
+  own_rows : list_rows Weighed (own_lists t lists) (undrawn t ∷ []) ≡ tenants_rows (new_tenancy lists t ∷ [])
   own_rows =
       let settings = settings_alone t lists.tenants up there in
       λ i. settings i ++ (numbering_row (undrawn t) ∷ ((users ∙ sym (append-nil (map (λ (u : UserItem). row 3 t u.id 0 (user_data u)) (filter (λ (x : UserItem). x.tenant == t) lists.users)))) i
-      ++ ((forms ∙ sym (append-nil (map (λ (f : FormItem). row 4 t f.id f.version (form_data f.form)) (filter (λ (x : FormItem). x.tenant == t) lists.forms)))) i
+      ++ ((forms ∙ sym (append-nil (map (λ (f : FormItem). row 4 t f.id f.version (kept_data f.form)) (filter (λ (x : FormItem). x.tenant == t) lists.forms)))) i
       ++ (contexts ∙ (sym (append-nil (map (λ (c : ContextItem). row 5 t c.id 0 (context_data c)) (filter (λ (x : ContextItem). x.tenant == t) lists.contexts)))
       ∙ sym (append-nil (map (λ (c : ContextItem). row 5 t c.id 0 (context_data c)) (filter (λ (x : ContextItem). x.tenant == t) lists.contexts) ++ [])))) i)))
 
   -- the rows of tables that have nothing else
-  pub new_rows : (tables : Tables) → tables.registry.lists ≡ own_lists t lists → tables.numberings ≡ undrawn t ∷ [] → tables.cases ≡ [] → rows_held (held_by tables) ≡ rows_of (new_tenancy lists t ∷ [])
+  pub new_rows : (tables : Tables) → tables.registry.lists ≡ own_lists t lists → tables.numberings ≡ undrawn t ∷ [] → tables.cases ≡ [] → own_held Weighed (held_by tables) ≡ tenants_rows (new_tenancy lists t ∷ [])
   new_rows tables own drawn none =
-      (λ i. list_rows (own i) (drawn i) ++ (trail_rows (map case_report (none i)) ++ sealed_rows (answers_of tables.sealed.items) (map case_report (none i))))
-      ∙ (append-nil (list_rows (own_lists t lists) (undrawn t ∷ [])) ∙ own_rows)
+      (λ i. list_rows Weighed (own i) (drawn i) ++ (trail_rows (map case_report (none i)) ++ sealed_rows (answers_of tables.sealed.items) (map case_report (none i))))
+      ∙ (append-nil (list_rows Weighed (own_lists t lists) (undrawn t ∷ [])) ∙ own_rows)

@@ -1,5 +1,5 @@
 -- What a host begins with that is opened over what is kept and a setup: its tenants, and the rows of those that the setup adds.
-use Rattle.std.specs.Prelude.{◌≡◌, ℕ, ◌==◌, Bool, true, if◌then◌else◌, List, [], ◌∷◌, ◌++◌, map, not, filter, None}
+use Rattle.std.specs.Prelude.{◌≡◌, ℕ, ◌==◌, Bool, true, false, if◌then◌else◌, List, [], ◌∷◌, ◌++◌, map, not, filter, None}
 use Rattle.wb_base.specs.declared.rows.Change.{Change}
 use Rattle.wb_kinds.specs.declared.item.NumberingItem.{NumberingItem}
 use Rattle.wb_model.specs.declared.registry.Lists.{Lists}
@@ -46,6 +46,10 @@ with_reports (r ∷ rs) x = with_reports rs (with_report r x)
 pub record AreToCome (rs : List Report) (x : PlainTenancy) : Type 0 where
   pub numbers : ascends_from 0 (map (λ (c : Case). c.number) (x.plain.cases ++ cases_of rs x.id)) ≡ true
   pub receipts : Apart has_receipt (x.plain.cases ++ cases_of rs x.id)
+
+-- nothing is held of a tenant that is not there
+abbrev pub HoldNoOthers : Held → Type 0
+HoldNoOthers h = (t : ℕ) → has_tenant h.lists t ≡ false → tables_of h t ≡ empty_tables (registry_of h.lists t)
 
 -- ---- the rows
 

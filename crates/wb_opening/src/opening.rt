@@ -1,35 +1,41 @@
 //! What a host begins with: what is kept, and what a setup adds of other tenants.
-ghost use Rattle.std.specs.Prelude.{◌≡◌, ◌==◌, ◌++◌, ◌∷◌, [], ℕ, true, find, map, List, IfOk, OnOk};
+ghost use Rattle.std.specs.Prelude.{◌≡◌, ◌==◌, ◌++◌, ◌∷◌, [], ℕ, true, find, map, All, List, IfOk, OnOk};
 ghost use Rattle.std.specs.List.{list_all, list_any};
+ghost use Rattle.std.specs.List.Sorted.{IsStrictlySortedBy};
 ghost use Rattle.std.specs.Option.{option_copied};
+ghost use Rattle.wb_base.specs.KeptRows.{all_changed, key_cmp, key_of, IsGoodChange};
+ghost use Rattle.wb_base.specs.declared.rows.Row.{Row as RowData};
 ghost use Rattle.wb_base.specs.declared.rows.Change.TheVariants.{Put};
 ghost use Rattle.wb_model.specs.Legal.{ascends_from};
 ghost use Rattle.wb_model.specs.Opened.{Apart};
 ghost use Rattle.wb_model.specs.Openings.{empty_tables, registry_of};
+ghost use Rattle.wb_model.specs.Rows.{converted, rows_in, rows_of};
 ghost use Rattle.wb_model.specs.SetUps.{AreSetUp, has_tenant, tenant_ids};
 ghost use Rattle.wb_model.specs.Tables.{Case, has_receipt};
 ghost use Rattle.wb_row_rules.specs.Reports.{case_report};
 ghost use Rattle.wb_rows.specs.Held.{held_by};
-ghost use Rattle.wb_rows.specs.Openings.{cases_of, numbering_of as numbering_at, time_of, with_setup};
+ghost use Rattle.wb_rows.specs.Openings.{cases_of, numbering_of as numbering_at, tenancies_of, time_of, with_setup};
 ghost use Rattle.wb_rows.specs.Puts.{tenant_put};
 ghost use Rattle.wb_row_rules.specs.ReportRules.{is_numbering_of};
 ghost use Rattle.wb_row_rules.specs.TrailRule.{is_legal_report};
 ghost use Rattle.wb_tables.specs.Kept.{place_of};
 ghost use Rattle.wb_setup.specs.Keys.{AreInOrder};
 ghost use Rattle.wb_tenants.specs.Sets.{HasTenant};
-ghost use Rattle.wb_opening.specs.HeldPlaces.{bare, held_places, new_puts, new_tenancy, setup_puts};
+ghost use Rattle.wb_opening.specs.HeldPlaces.{bare, HoldNoOthers, held_places, new_puts, new_tenancy, setup_puts};
 
 use crate::moments::{first_moment, latest_kept};
 use crate::reports::add_reports;
 use std::alloc::Global;
-use wb_base::{Change, Memory, Moment, Row, Tenant};
+use wb_base::{Change, Format, Memory, Moment, Row, Tenant};
 use wb_custody::SealedTable;
 use wb_list::Items;
-use wb_model::{Numbering, TenantItem};
-use wb_rows::{NumberingItem, Tables, write};
+use wb_model::{
+    Numbering, TenantItem, rows_become_those_of_format_2, setups_and_kept_rows_make_openings,
+};
+use wb_rows::{NumberingItem, Tables, convert, new_tenants_put_their_rows, write_own};
 use wb_setup::kept_rows_and_a_setup_make_an_opening;
 use wb_tables::{Cases, Configuration, Sessions, Tenancy};
-use wb_tenants::{Registry, Setup};
+use wb_tenants::{Registry, Setup, a_kept_tenant_stays_whole};
 
 // No number is drawn.
 fn nothing_drawn() -> Numbering
@@ -140,7 +146,7 @@ fn put_tenant(
 {
     let own = registry.part(tenant)?;
     let tables = new_tables(alloc, own, tenant)?;
-    put_rows(batch, write(alloc, &tables)?)
+    put_rows(batch, write_own(alloc, &tables)?)
 }
 
 // Whether a tenant is one of these.
@@ -169,14 +175,18 @@ fn put_new(
 }
 
 // The rows of the tenants of a registry that are none of those that are kept are to be put.
-fn put_all_new(alloc: Global, registry: &Registry, old: &[Tenant]) -> Result<Vec<Change>, Memory>
-    ensures { IfOk result (λ batch. batch.items ≡ new_puts registry.now.lists (λ t. list_any (λ u. u == t) old.now) (tenant_ids registry.now.lists)) }
+fn put_all_new(
+    alloc: Global,
+    batch: &mut Vec<Change>,
+    registry: &Registry,
+    old: &[Tenant],
+) -> Result<(), Memory>
+    ensures { OnOk result (batch.new.items ≡ batch.old.items ++ new_puts registry.now.lists (λ t. list_any (λ u. u == t) old.now) (tenant_ids registry.now.lists)) }
 {
-    let mut batch = Vec::new(alloc);
     for item in registry.lists().tenants.as_slice() {
-        put_new(alloc, &mut batch, registry, old, item.tenant)?;
+        put_new(alloc, batch, registry, old, item.tenant)?;
     }
-    Ok(batch)
+    Ok(())
 }
 
 // The ids of tenants.
@@ -193,7 +203,8 @@ fn ids_of(alloc: Global, tenants: &[TenantItem]) -> Result<Vec<Tenant>, Memory>
 // ---- the whole
 
 /// What a host begins with: its time, its tenants with their reports, the identity answers of these, and the rows that are
-/// to be put of the tenants that the setup adds.
+/// to be put: of rows that are not of format 2 that of the format and those of forms, and those of the tenants that the setup
+/// adds.
 #[derive(Drop)]
 pub struct Opened {
     pub time: Moment,
@@ -202,8 +213,8 @@ pub struct Opened {
     pub batch: Vec<Change>,
 }
 
-/// What a host over what is kept and a setup begins with.
-pub fn begin(alloc: Global, setup: &Setup, kept: Tables) -> Result<Opened, Memory>
+/// What a host over what is kept and a setup begins with. The rows that are kept are of a format.
+pub fn begin(alloc: Global, setup: &Setup, format: Format, kept: Tables) -> Result<Opened, Memory>
     requires setup { AreSetUp setup.now.lists }
     requires lists { AreSetUp kept.registry.lists }
     requires keys { (t : ℕ) → ascends_from 0 (map (λ (c : Case). c.number) (cases_of (map case_report kept.cases) t)) ≡ true }
@@ -212,11 +223,19 @@ pub fn begin(alloc: Global, setup: &Setup, kept: Tables) -> Result<Opened, Memor
     ensures time { IfOk result (λ x. x.time ≡ time_of (held_by kept)) }
     ensures places { IfOk result (λ x. map place_of x.tenancies.items ≡ held_places (with_setup setup.now.lists (held_by kept))) }
     ensures sealed { IfOk result (λ x. x.sealed ≡ kept.sealed) }
-    ensures batch { IfOk result (λ x. x.batch.items ≡ setup_puts setup.now.lists kept.registry.lists) }
+    ensures batch { IfOk result (λ x. x.batch.items ≡ converted format (tenancies_of (held_by kept)) ++ setup_puts setup.now.lists kept.registry.lists) }
+    ensures good { IfOk result (λ x. All IsGoodChange x.batch.items) }
+    // The rows that are kept become those of all tenants, in format 2. Nothing is held of a tenant that is not there.
+    ensures rows { IfOk result (λ x. HoldNoOthers (held_by kept) → (rows : List RowData) → IsStrictlySortedBy key_cmp (map key_of rows) → rows_in format (tenancies_of (held_by kept)) ≡ rows → all_changed rows x.batch.items ≡ rows_of (tenancies_of (with_setup setup.now.lists (held_by kept)))) }
 {
     kept_rows_and_a_setup_make_an_opening();
+    setups_and_kept_rows_make_openings();
+    a_kept_tenant_stays_whole();
+    new_tenants_put_their_rows();
+    rows_become_those_of_format_2();
     let time = latest_kept(&kept);
     let old = ids_of(alloc, kept.registry.lists().tenants.as_slice())?;
+    let mut batch = convert(alloc, format, &kept)?;
     let Tables {
         registry,
         numberings,
@@ -224,7 +243,7 @@ pub fn begin(alloc: Global, setup: &Setup, kept: Tables) -> Result<Opened, Memor
         sealed,
     } = kept;
     let registry = Registry::of(setup, registry)?;
-    let batch = put_all_new(alloc, &registry, old.as_slice())?;
+    put_all_new(alloc, &mut batch, &registry, old.as_slice())?;
     let mut tenancies = tenancies(alloc, &registry, numberings.as_slice())?;
     add_reports(alloc, &mut tenancies, cases)?;
     Ok(Opened {

@@ -1,8 +1,8 @@
 //! The reports that are kept, each under its tenant.
-ghost use Rattle.std.specs.Prelude.{◌≡◌, ◌<◌, ℕ, ℤ, true, find, map, Some, IfOk, IfErr, OnOk};
+ghost use Rattle.std.specs.Prelude.{◌≡◌, ◌<◌, ℕ, true, find, map, Some, IfOk, IfErr, OnOk};
 ghost use Rattle.std.specs.List.{AllByRecursion, list_all};
 ghost use Rattle.wb_model.specs.Access.{requests};
-ghost use Rattle.wb_model.specs.Legal.{ascends_from, is_legal};
+ghost use Rattle.wb_model.specs.Legal.{Reckoning, ascends_from, is_legal};
 ghost use Rattle.wb_model.specs.Opened.{AtMost};
 ghost use Rattle.wb_model.specs.declared.registry.Lists.{Lists};
 ghost use Rattle.wb_row_rules.specs.Reports.{case_report};
@@ -22,7 +22,7 @@ use wb_tables::{Filed, Report, Tenancy, place_at};
 
 // The requests for an identity that a legal trail tells.
 fn requests_of(alloc: Global, case: &Case) -> Result<AccessDesk, Memory>
-    requires { (offset : ℤ) × (is_legal offset case.now.items ≡ true) }
+    requires { (days : Reckoning) × (is_legal days case.now.items ≡ true) }
     ensures { IfOk result (λ desk. desk.items ≡ requests case.now.items) }
 {
     what_legal_trails_say_of_requests();
@@ -36,7 +36,7 @@ fn requests_of(alloc: Global, case: &Case) -> Result<AccessDesk, Memory>
 fn add_case(alloc: Global, tenancy: &mut Tenancy, item: CaseItem) -> Result<(), Memory>
     requires above { (last : ℕ) × (AtMost last (plain_of tenancy.old).cases × (last < item.number)) }
     requires own { HasOwnReceipt item.case.items (plain_of tenancy.old).cases }
-    requires legal { (offset : ℤ) × (is_legal offset item.case.items ≡ true) }
+    requires legal { (days : Reckoning) × (is_legal days item.case.items ≡ true) }
     ensures { OnOk result (place_of tenancy.new ≡ with_case (case_report item) (place_of tenancy.old)) }
 {
     let desk = requests_of(alloc, &item.case)?;
@@ -56,7 +56,7 @@ fn add_report(alloc: Global, tenancies: &mut [Tenancy], item: CaseItem) -> Resul
     requires ids { ascends_from 0 (map (λ (x : PlainTenancy). x.id) (map place_of tenancies.old)) ≡ true }
     requires above { (x : PlainTenancy) → find (is_tenant item.tenant) (map place_of tenancies.old) ≡ Some x → (last : ℕ) × (AtMost last x.plain.cases × (last < item.number)) }
     requires own { (x : PlainTenancy) → find (is_tenant item.tenant) (map place_of tenancies.old) ≡ Some x → HasOwnReceipt item.case.items x.plain.cases }
-    requires legal { (offset : ℤ) × (is_legal offset item.case.items ≡ true) }
+    requires legal { (days : Reckoning) × (is_legal days item.case.items ≡ true) }
     ensures { OnOk result (map place_of tenancies.new ≡ map (with_report (case_report item)) (map place_of tenancies.old)) }
 {
     match place_at(tenancies, item.tenant.id() as u32) {

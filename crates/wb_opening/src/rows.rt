@@ -6,10 +6,10 @@ ghost use Rattle.wb_tables.specs.Kept.{case_of, place_of, tenancy_of, sealed_of}
 ghost use Rattle.wb_opening.specs.RowKinds.{rows_by};
 
 use std::alloc::Global;
-use wb_base::{Memory, Number, Row, Tenant};
+use wb_base::{Format, Memory, Number, Row, Tenant};
 use wb_custody::SealedTable;
 use wb_model::{ContextItem, Entry, FormItem, TenantItem, UserItem};
-use wb_rows::{entry_row, numbering_row, sealed_row};
+use wb_rows::{entry_row, format_row, numbering_row, sealed_row};
 use wb_tables::{Configuration, Filed, Tenancy};
 use wb_tenants::{context_row, form_row, settings_row, user_row};
 
@@ -50,19 +50,26 @@ impl Owned for UserItem {
 }
 
 impl Owned for FormItem {
-    ghost use Rattle.wb_base.specs.FormJson.{form_data};
+    ghost use Rattle.wb_base.specs.FormJson.{kept_data};
     ghost use Rattle.wb_model.specs.Rows.{row};
 
     ghost owner_of = { λ x. x.tenant };
 
-    ghost row_of = { λ t x. row 4 t x.id x.version (form_data x.form) };
+    ghost row_of = { λ t x. row 4 t x.id x.version (kept_data x.form) };
 
     fn tenant(&self) -> Tenant {
         self.tenant
     }
 
     fn row(&self, alloc: Global) -> Result<Row, Memory> {
-        form_row(alloc, self.tenant, self.id, self.version, &self.form)
+        form_row(
+            alloc,
+            Format::Weighed,
+            self.tenant,
+            self.id,
+            self.version,
+            &self.form,
+        )
     }
 }
 
@@ -249,7 +256,7 @@ fn add_kind(
     Ok(())
 }
 
-/// The rows of what a host holds: by kind, and in a kind by tenant.
+/// The rows of what a host holds: that of their format, then by kind, and in a kind by tenant.
 pub fn held_rows(
     alloc: Global,
     tenancies: &[Tenancy],
@@ -258,6 +265,7 @@ pub fn held_rows(
     ensures { IfOk result (λ rows. rows.items ≡ rows_of (map (tenancy_of sealed.now.items) (map place_of tenancies.now))) }
 {
     let mut rows = Vec::new(alloc);
+    rows.push(format_row(alloc)?)?;
     add_kind(alloc, &mut rows, Kind::Settings, tenancies, sealed)?;
     add_kind(alloc, &mut rows, Kind::Numbering, tenancies, sealed)?;
     add_kind(alloc, &mut rows, Kind::Users, tenancies, sealed)?;

@@ -5,6 +5,7 @@ use Rattle.std.specs.Option.{option_map_or}
 use Rattle.std.proofs.lemmas.Bool.Decides.{nat_tests}
 use Rattle.wb_base.specs.AnswerFaults.{identity_fault}
 use Rattle.wb_base.specs.AnswerList.{Answered}
+use Rattle.wb_base.specs.Calendars.{Calendar}
 use Rattle.wb_base.specs.FormFaults.{is_good}
 use Rattle.wb_base.specs.declared.callers.Presented.{Presented}
 use Rattle.wb_base.specs.declared.callers.Presented.TheVariants as presented
@@ -24,7 +25,7 @@ use Rattle.wb_model.specs.declared.entry.Entry.{Entry}
 use Rattle.wb_model.specs.declared.registry.FormItem.{FormItem}
 use Rattle.wb_model.specs.declared.registry.UserItem.{UserItem}
 use Rattle.wb_model.specs.Access.{requests, in_force}
-use Rattle.wb_model.specs.Changes.{At, Verdict, Refused, Accepted, Nothing, LogsIn, LogsOut, Says, Shows_own, Shows_identity, judged}
+use Rattle.wb_model.specs.Changes.{At, Verdict, Refused, Accepted, Nothing, Deletes, LogsIn, LogsOut, Says, Shows_own, Shows_identity, judged}
 use Rattle.wb_model.specs.Commands.{need}
 use Rattle.wb_model.specs.Doings.{Acts, actor_of, doing_entry, doing_told}
 use Rattle.wb_model.specs.Faults.{admin_told, case_told}
@@ -60,7 +61,7 @@ use Rattle.wb_tables.proofs.Lookups.{find_kept, there-found, kept as kept_by}
 use Rattle.wb_plan.specs.Plans.{IsFit, IsFitAtOnce, IsLogin, IsPlan, PlansSubmission, Gives, change_of}
 use Rattle.wb_plan.specs.declared.step.Asks.{Asks}
 use Rattle.wb_plan.specs.declared.step.Asks.TheVariants as asked
-use Rattle.wb_plan.specs.Steps.{Alike, Answers, Enters, EntersAs, GivesBy, GivesIdentity, GivesUnder, IsFitStep, IsNote, IsProposed, IsSound, IsStep, IsTold, IsWriting, Leaves, WritesDown, WritesIn, doing_of}
+use Rattle.wb_plan.specs.Steps.{Alike, Answers, Enters, EntersAs, GivesBy, GivesIdentity, GivesUnder, IsErased, IsFitStep, IsNote, IsProposed, IsSound, IsStep, IsTold, IsWriting, Leaves, WritesDown, WritesIn, doing_of}
 use Rattle.wb_plan.specs.declared.plan.Plan.{Plan}
 use Rattle.wb_plan.specs.declared.plan.Planned.{Planned}
 use Rattle.wb_plan.specs.declared.plan.Planned.TheVariants as planned
@@ -147,7 +148,7 @@ written_identity id t at a r tenant answers item (steps.Writes w) e there f none
   checked = ap (λ c. outcome_refusal (outcome t.plain.registry r.case.items c)) e ∙ (ap (λ o. outcome_refusal (identity_outcome o r.case.items answers)) f ∙ right r answers item none);
   given = is.given_is ∙ sym (ap (secret_of t.plain.registry) e);
   told = is.told_is;
-  sound = subst (λ x. IsSound (actor_of (who_seen x)) w.doing) (sym is.who_is) (subst (IsSound actors.Reporter) (sym is.doing_is) (tt, λ trail. refl));
+  sound = subst (λ x. IsSound (actor_of (who_seen x)) w.doing) (sym is.who_is) (subst (IsSound actors.Reporter) (sym is.doing_is) ((λ trail early. tt), λ calendar trail. refl));
 }
 
 pub given_step : (id : ℕ) (t : Tables) (at : At) (a : Asked) (r : Report) (tenant : ℕ) (answers : Answered) (step : Step) → a.command ≡ commands.GiveIdentity tenant answers → report r.number t.plain.cases ≡ Some (case_of r) → GivesIdentity t.plain.registry r answers step
@@ -162,6 +163,27 @@ given_step id t at a r tenant answers step e there gives = under (form_of_trail 
     under None f g = refused_step id t at a (On (TheReporter r.number) (case_of r)) not_found step (given_verdict t.plain at a r tenant answers None e f) g
     under (Some item) f g = by item f (identity_fault item.form (trails.answers r.case.items) answers) refl g
 
+-- ---- a report that goes
+
+erase_plan : (id : ℕ) (g : Registry) (sealed : Sealed) (v : Verdict) (secret : Option Answered) (n : ℕ) (r : Told) (plan : Plan) → v ≡ Accepted (Deletes n) (Says r) → plan.told ≡ r → plan.change ≡ planned.Deletes n → IsPlan id g sealed v secret plan
+erase_plan id g sealed v secret n r plan e t is = subst (λ w. IsPlan id g sealed w secret plan) (sym e) (record {
+  reply = sym t;
+  change = sym (ap (change_of id g) is);
+  given = subst (λ c. Gives c secret) (sym is) tt;
+})
+
+pub erased_step : (id : ℕ) (t : Tables) (at : At) (a : Asked) (who : Who) (r : Report) (tenant n : ℕ) (step : Step) → a.command ≡ commands.Delete tenant n → IsErased r step → IsStep id t at a (On who (case_of r)) step
+erased_step id t at a who r tenant n (steps.Done plan) e is =
+    erase_plan id t.plain.registry t.sealed (verdict_at t.plain at a (On who (case_of r))) (sealed_part t.plain a) r.number (told 200 done_view) plan
+    (ap (λ c. verdict_by t.plain at who (case_of r) (outcome t.plain.registry r.case.items c) (effect_of at t.plain.registry (Some who) a.session r.case.items (outline c))) e) is.0 is.1
+erased_step id t at a who r tenant n (steps.Writes w) e is = absurd is
+erased_step id t at a who r tenant n (steps.Sets s) e is = absurd is
+
+pub erased_fit : (x : KeptTenancy) (r : Report) (step : Step) → IsErased r step → IsFitStep x step
+erased_fit x r (steps.Done plan) is = subst (IsFitAtOnce x) (sym is.1) tt
+erased_fit x r (steps.Writes w) is = absurd is
+erased_fit x r (steps.Sets s) is = absurd is
+
 -- ---- logins and logouts
 
 login_plan : (id : ℕ) (g : Registry) (sealed : Sealed) (v : Verdict) (secret : Option Answered) (s : Session) (r : Told) (plan : Plan) → v ≡ Accepted (LogsIn s) (Says r) → plan.told ≡ r → IsLogin plan.change s → IsPlan id g sealed v secret plan
@@ -173,19 +195,11 @@ login_plan id g sealed v secret s r plan e t is = subst (λ w. IsPlan id g seale
   where
     change : (c : Planned) → IsLogin c s → change_of id g c ≡ LogsIn s
     change (planned.LogsIn l) e = ap LogsIn e
-    change planned.Nothing e = absurd e
-    change (planned.Begins o) e = absurd e
-    change (planned.Notes n) e = absurd e
-    change (planned.LogsOut turn who) e = absurd e
-    change (planned.Configures c) e = absurd e
+    change _ e = absurd e
 
     gives : (c : Planned) → IsLogin c s → Gives c secret
     gives (planned.LogsIn l) e = tt
-    gives planned.Nothing e = absurd e
-    gives (planned.Begins o) e = absurd e
-    gives (planned.Notes n) e = absurd e
-    gives (planned.LogsOut turn who) e = absurd e
-    gives (planned.Configures c) e = absurd e
+    gives _ e = absurd e
 
 enters_step : (id : ℕ) (t : Tables) (at : At) (a : Asked) (to : Target) (role : Role) (who : Who) (step : Step) → verdict_at t.plain at a to ≡ Accepted (LogsIn (new_session at t.plain.registry role who)) (Says (welcome at role)) → Enters at t.plain.registry role who step → IsStep id t at a to step
 enters_step id t at a to role who (steps.Done plan) v is = login_plan id t.plain.registry t.sealed (verdict_at t.plain at a to) (sealed_part t.plain a) (new_session at t.plain.registry role who) (welcome at role) plan v is.0 is.1
@@ -315,11 +329,7 @@ answers_fit x who r (asked.Does doing) step is = by step is
 
 login_fit : (x : KeptTenancy) (turn : ℕ) (s : Session) (c : Planned) → s.turn ≡ turn → AreEarlier turn (map session_of x.sessions.items) → IsLogin c s → IsFitAtOnce x c
 login_fit x turn s (planned.LogsIn l) e all is = subst (λ n. AreEarlier n (map session_of x.sessions.items)) (sym (ap (λ (y : Session). y.turn) is ∙ e)) all
-login_fit x turn s planned.Nothing e all is = absurd is
-login_fit x turn s (planned.Begins o) e all is = absurd is
-login_fit x turn s (planned.Notes n) e all is = absurd is
-login_fit x turn s (planned.LogsOut m who) e all is = absurd is
-login_fit x turn s (planned.Configures c) e all is = absurd is
+login_fit x turn s _ e all is = absurd is
 
 pub enters_fit : (x : KeptTenancy) (at : At) (g : Registry) (role : Role) (who : Who) (step : Step) → AreEarlier at.turn (map session_of x.sessions.items) → Enters at g role who step → IsFitStep x step
 enters_fit x at g role who (steps.Done plan) all is = login_fit x at.turn (new_session at g role who) plan.change refl all is.1
@@ -336,17 +346,13 @@ proposed_fit x g next (steps.Sets s) is = tt
 proposed_fit x g next (steps.Writes w) is = absurd is
 
 -- an entry comes to a report that is there
-pub written_fit : (time : ℕ) (x : KeptTenancy) (trail : List Entry) (at : ℕ) (w : Writing) (plan : Plan) → is_there w.number (live_plain time (plain_of x)).cases ≡ true → WritesIn trail at w plan → IsFit time x plan.change
-written_fit time x trail at w plan there (inr is) = subst (IsFit time x) (sym is.0) tt
-written_fit time x trail at w plan there (inl is) = by plan.change is.2
+pub written_fit : (time : ℕ) (x : KeptTenancy) (calendar : Calendar) (trail : List Entry) (at : ℕ) (w : Writing) (plan : Plan) → is_there w.number (live_plain time (plain_of x)).cases ≡ true → WritesIn calendar trail at w plan → IsFit time x plan.change
+written_fit time x calendar trail at w plan there (inr is) = subst (IsFit time x) (sym is.0) tt
+written_fit time x calendar trail at w plan there (inl is) = by plan.change is.2
   where
-    by : (c : Planned) → IsNote c w.number (doing_entry at (who_seen w.who) trail (doing_of w.doing)) w.given → IsFit time x c
+    by : (c : Planned) → IsNote c w.number (doing_entry calendar at (who_seen w.who) trail (doing_of w.doing)) w.given → IsFit time x c
     by (planned.Notes n) e = ap (λ m. is_there m (live_plain time (plain_of x)).cases) e.0 ∙ there
-    by planned.Nothing e = absurd e
-    by (planned.Begins o) e = absurd e
-    by (planned.LogsIn l) e = absurd e
-    by (planned.LogsOut turn who) e = absurd e
-    by (planned.Configures c) e = absurd e
+    by _ e = absurd e
 
 -- ---- lists
 

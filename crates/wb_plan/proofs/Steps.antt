@@ -10,7 +10,7 @@ use Rattle.wb_model.specs.declared.entry.Entry.{Entry}
 use Rattle.wb_model.specs.Access.{user_by}
 use Rattle.wb_model.specs.Changes.{At, Verdict, Refused, Accepted, Nothing, Notes, Configures, Answer, Says, judged}
 use Rattle.wb_model.specs.Doings.{Doing, Acts, Moves, doing_fault, doing_entry, doing_told, actor_of}
-use Rattle.wb_model.specs.Effects.{Effect, Misses, Looks, Reads, Writes, Submits, Comes, Goes, Sets, effect_of}
+use Rattle.wb_model.specs.Effects.{Effect, Misses, Looks, Writes, effect_of}
 use Rattle.wb_model.specs.Faults.{case_told, admin_told}
 use Rattle.wb_model.specs.Host.{Sealed, Tables, said, reply_by, change_of as verdict_change}
 use Rattle.wb_model.specs.OnReports.{refusal_on, change_on, answer_on}
@@ -94,7 +94,7 @@ pub record IsUnanswered (g : Registry) (trail : List Entry) (a : Asked) : Type 0
   pub secret_is : secret_of g a.command ≡ None
 
 pub alike_self : (trail : List Entry) (d : Doing) → Alike trail d d
-alike_self trail d = record { fault = λ user. refl; deed = λ time. refl; told = refl }
+alike_self trail d = record { fault = λ user. refl; deed = λ calendar time. refl; told = refl }
 
 -- what is asked of a report, and answered, is a step
 pub asked_step : (id : ℕ) (t : Tables) (at : At) (a : Asked) (who : KeptWho) (r : Report) (asks : Asks) (step : Step) → IsUnanswered t.plain.registry r.case.items a → report r.number t.plain.cases ≡ Some (case_of r)
@@ -112,13 +112,7 @@ asked_step id t at a who r (asks.Bars fault) step u there asked sound told =
     bars : (e : Effect) → Bars r.case.items fault e → verdict_by t.plain at (who_seen who) (case_of r) Unchecked e ≡ Refused (case_told fault)
     bars (Writes (Acts act)) is = rw is refl
     bars (Writes (Moves move)) is = absurd is
-    bars Misses is = absurd is
-    bars (Looks view) is = absurd is
-    bars (Reads part) is = absurd is
-    bars (Submits c form) is = absurd is
-    bars (Comes role) is = absurd is
-    bars (Goes turn) is = absurd is
-    bars (Sets t proposal) is = absurd is
+    bars _ is = absurd is
 asked_step id t at a who r (asks.Does doing) step u there asked sound told = by step told (effect_of at t.plain.registry (Some (who_seen who)) a.session r.case.items a.command) refl asked
   where
     by : (s : Step) → WritesDown who r doing None (doing_told r.case.items (doing_of doing)) s → (e : Effect) → effect_of at t.plain.registry (Some (who_seen who)) a.session r.case.items a.command ≡ e → DoesLike r.case.items e (doing_of doing) → IsStep id t at a (On (who_seen who) (case_of r)) s
@@ -137,52 +131,38 @@ asked_step id t at a who r (asks.Does doing) step u there asked sound told = by 
       told = is-written.told_is ∙ sym like.told;
       sound = subst (λ x. IsSound (actor_of (who_seen x)) w.doing) (sym is-written.who_is) (subst (IsSound (actor_of (who_seen who))) (sym is-written.doing_is) sound);
     }
-    by (steps.Writes w) is-written Misses is like = absurd like
-    by (steps.Writes w) is-written (Looks view) is like = absurd like
-    by (steps.Writes w) is-written (Reads part) is like = absurd like
-    by (steps.Writes w) is-written (Submits c form) is like = absurd like
-    by (steps.Writes w) is-written (Comes role) is like = absurd like
-    by (steps.Writes w) is-written (Goes turn) is like = absurd like
-    by (steps.Writes w) is-written (Sets n proposal) is like = absurd like
+    by (steps.Writes w) is-written _ is like = absurd like
 
 -- ---- plans of what is written
 
 -- the verdict on what is written
-written_verdict : (p : Plain) (at : At) (a : Asked) (to : Target) (w : Writing) (h : IsWriting p at a to w) → verdict_at p at a to ≡ judged (barred h.case.trail w) (Notes w.number (doing_entry at.time (who_seen w.who) h.case.trail (doing_of w.doing))) (Says w.told)
+written_verdict : (p : Plain) (at : At) (a : Asked) (to : Target) (w : Writing) (h : IsWriting p at a to w) → verdict_at p at a to ≡ judged (barred h.case.trail w) (Notes w.number (doing_entry p.registry.settings.calendar at.time (who_seen w.who) h.case.trail (doing_of w.doing))) (Says w.told)
 written_verdict p at a to w h =
     ap (verdict_at p at a) h.on
     ∙ (ap (verdict_by p at (who_seen w.who) h.case (outcome p.registry h.case.trail a.command)) h.effect
-    ∙ (ap (λ o. judged (option_or o (doing_fault h.case.trail (user_by (actor_of (who_seen w.who))) h.does)) (Notes h.case.number (doing_entry at.time (who_seen w.who) h.case.trail h.does)) (Says (doing_told h.case.trail h.does))) h.checked
-    ∙ (λ i. judged (h.alike.fault (user_by (actor_of (who_seen w.who))) i) (Notes (h.number i) (record { at = at.time; by = actor_of (who_seen w.who); deed = h.alike.deed at.time i })) (Says (sym h.told i)))))
+    ∙ (ap (λ o. judged (option_or o (doing_fault h.case.trail (user_by (actor_of (who_seen w.who))) h.does)) (Notes h.case.number (doing_entry p.registry.settings.calendar at.time (who_seen w.who) h.case.trail h.does)) (Says (doing_told h.case.trail h.does))) h.checked
+    ∙ (λ i. judged (h.alike.fault (user_by (actor_of (who_seen w.who))) i) (Notes (h.number i) (record { at = at.time; by = actor_of (who_seen w.who); deed = h.alike.deed p.registry.settings.calendar at.time i })) (Says (sym h.told i)))))
 
-pub written_plan : (id : ℕ) (t : Tables) (at : At) (a : Asked) (to : Target) (w : Writing) (plan : Plan) (h : IsWriting t.plain at a to w) → WritesIn h.case.trail at.time w plan → PlansOn id t at a to plan
+pub written_plan : (id : ℕ) (t : Tables) (at : At) (a : Asked) (to : Target) (w : Writing) (plan : Plan) (h : IsWriting t.plain at a to w) → WritesIn t.plain.registry.settings.calendar h.case.trail at.time w plan → PlansOn id t at a to plan
 written_plan id t at a to w plan h (inl is) = record {
   reply = ap (λ v. reply_by v t.sealed) verdict ∙ sym is.1;
   change = ap verdict_change verdict ∙ sym (noted plan.change is.2);
   given = gives plan.change is.2;
 }
   where
-    verdict : verdict_at t.plain at a to ≡ Accepted (Notes w.number (doing_entry at.time (who_seen w.who) h.case.trail (doing_of w.doing))) (Says w.told)
-    verdict = written_verdict t.plain at a to w h ∙ ap (λ o. judged o (Notes w.number (doing_entry at.time (who_seen w.who) h.case.trail (doing_of w.doing))) (Says w.told)) is.0
+    verdict : verdict_at t.plain at a to ≡ Accepted (Notes w.number (doing_entry t.plain.registry.settings.calendar at.time (who_seen w.who) h.case.trail (doing_of w.doing))) (Says w.told)
+    verdict = written_verdict t.plain at a to w h ∙ ap (λ o. judged o (Notes w.number (doing_entry t.plain.registry.settings.calendar at.time (who_seen w.who) h.case.trail (doing_of w.doing))) (Says w.told)) is.0
 
-    noted : (c : Planned) → IsNote c w.number (doing_entry at.time (who_seen w.who) h.case.trail (doing_of w.doing)) w.given → change_of id t.plain.registry c ≡ Notes w.number (doing_entry at.time (who_seen w.who) h.case.trail (doing_of w.doing))
+    noted : (c : Planned) → IsNote c w.number (doing_entry t.plain.registry.settings.calendar at.time (who_seen w.who) h.case.trail (doing_of w.doing)) w.given → change_of id t.plain.registry c ≡ Notes w.number (doing_entry t.plain.registry.settings.calendar at.time (who_seen w.who) h.case.trail (doing_of w.doing))
     noted (planned.Notes n) e = λ i. Notes (e.0 i) (e.1 i)
-    noted planned.Nothing e = absurd e
-    noted (planned.Begins o) e = absurd e
-    noted (planned.LogsIn l) e = absurd e
-    noted (planned.LogsOut turn who) e = absurd e
-    noted (planned.Configures c) e = absurd e
+    noted _ e = absurd e
 
-    gives : (c : Planned) → IsNote c w.number (doing_entry at.time (who_seen w.who) h.case.trail (doing_of w.doing)) w.given → Gives c (sealed_part t.plain a)
+    gives : (c : Planned) → IsNote c w.number (doing_entry t.plain.registry.settings.calendar at.time (who_seen w.who) h.case.trail (doing_of w.doing)) w.given → Gives c (sealed_part t.plain a)
     gives (planned.Notes n) e = e.2 ∙ h.given
-    gives planned.Nothing e = absurd e
-    gives (planned.Begins o) e = absurd e
-    gives (planned.LogsIn l) e = absurd e
-    gives (planned.LogsOut turn who) e = absurd e
-    gives (planned.Configures c) e = absurd e
+    gives _ e = absurd e
 written_plan id t at a to w plan h (inr is) =
     refused_plan id t.plain.registry t.sealed (verdict_at t.plain at a to) (sealed_part t.plain a) plan.told plan
-    (written_verdict t.plain at a to w h ∙ ap (λ o. judged o (Notes w.number (doing_entry at.time (who_seen w.who) h.case.trail (doing_of w.doing))) (Says w.told)) is.1) refl is.0
+    (written_verdict t.plain at a to w h ∙ ap (λ o. judged o (Notes w.number (doing_entry t.plain.registry.settings.calendar at.time (who_seen w.who) h.case.trail (doing_of w.doing))) (Says w.told)) is.1) refl is.0
 
 -- ---- plans of what is set
 
@@ -217,19 +197,11 @@ set_plan id t at a to s plan h (inl is) = record {
 
     put : (c : Planned) → IsPutIn id t.plain.registry s.proposal c → change_of id t.plain.registry c ≡ Configures (setting_of id t.plain.registry s.proposal)
     put (planned.Configures c) e = ap (λ x. Configures (setting_of id t.plain.registry x)) e.0
-    put planned.Nothing e = absurd e
-    put (planned.Begins o) e = absurd e
-    put (planned.Notes n) e = absurd e
-    put (planned.LogsIn l) e = absurd e
-    put (planned.LogsOut turn who) e = absurd e
+    put _ e = absurd e
 
     gives : (c : Planned) → IsPutIn id t.plain.registry s.proposal c → Gives c (sealed_part t.plain a)
     gives (planned.Configures c) e = tt
-    gives planned.Nothing e = absurd e
-    gives (planned.Begins o) e = absurd e
-    gives (planned.Notes n) e = absurd e
-    gives (planned.LogsIn l) e = absurd e
-    gives (planned.LogsOut turn who) e = absurd e
+    gives _ e = absurd e
 set_plan id t at a to s plan h (inr is) =
     refused_plan id t.plain.registry t.sealed (verdict_at t.plain at a to) (sealed_part t.plain a) plan.told plan
     (set_verdict id t.plain at a to s h ∙ ap (λ o. judged o (Configures (setting_of id t.plain.registry s.proposal)) (Says s.told)) is.1) refl is.0

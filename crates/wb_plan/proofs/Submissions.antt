@@ -97,28 +97,16 @@ number_left quota n e = by (nat_le 4_294_967_295 n.last) refl e
 
 begins_it : (id : ℕ) (g : Registry) (c : Planned) (e : Entry) (given : Option Answered) → IsBegun c e given → change_of id g c ≡ Begins e
 begins_it id g (planned.Begins o) e given is = ap begins is.0
-begins_it id g planned.Nothing e given is = absurd is
-begins_it id g (planned.Notes n) e given is = absurd is
-begins_it id g (planned.LogsIn l) e given is = absurd is
-begins_it id g (planned.LogsOut turn who) e given is = absurd is
-begins_it id g (planned.Configures c) e given is = absurd is
+begins_it id g _ e given is = absurd is
 
 gives_it : (c : Planned) (e : Entry) (given secret : Option Answered) → IsBegun c e given → given ≡ secret → Gives c secret
 gives_it (planned.Begins o) e given secret is same = is.1 ∙ same
-gives_it planned.Nothing e given secret is same = absurd is
-gives_it (planned.Notes n) e given secret is same = absurd is
-gives_it (planned.LogsIn l) e given secret is same = absurd is
-gives_it (planned.LogsOut turn who) e given secret is same = absurd is
-gives_it (planned.Configures c) e given secret is same = absurd is
+gives_it _ e given secret is same = absurd is
 
 -- a report has a number where nothing stands in the way of a draw
 pub fit_begun : (x : KeptTenancy) (c : Planned) (e : Entry) (given : Option Answered) → x.numbering.last < 4_294_967_295 → requests (e ∷ []) ≡ [] → is_submitted (e ∷ []) ≡ true → IsBegun c e given → IsFitAtOnce x c
 fit_begun x (planned.Begins o) e given lt none first is = (lt, (e, is.0), ap requests is.0 ∙ none, ap is_submitted is.0 ∙ first)
-fit_begun x planned.Nothing e given lt none first is = absurd is
-fit_begun x (planned.Notes n) e given lt none first is = absurd is
-fit_begun x (planned.LogsIn l) e given lt none first is = absurd is
-fit_begun x (planned.LogsOut turn who) e given lt none first is = absurd is
-fit_begun x (planned.Configures c) e given lt none first is = absurd is
+fit_begun x _ e given lt none first is = absurd is
 
 pub asks_none : (at : At) (g : Registry) (o : Outcome) (c : ContextItem) (item : FormItem) → requests (submission_entry at g o c item ∷ []) ≡ []
 unfolding submission_entry

@@ -11,7 +11,7 @@ use Rattle.wb_model.specs.declared.entry.Entry.{Entry}
 use Rattle.wb_model.specs.declared.registry.ContextItem.{ContextItem}
 use Rattle.wb_model.specs.declared.registry.FormItem.{FormItem}
 use Rattle.wb_model.specs.Access.{requests}
-use Rattle.wb_model.specs.Changes.{At, Change, Nothing, Begins, Notes, LogsIn, LogsOut, Configures, Verdict, judged}
+use Rattle.wb_model.specs.Changes.{At, Change, Nothing, Begins, Notes, Deletes, LogsIn, LogsOut, Configures, Verdict, judged}
 use Rattle.wb_model.specs.Effects.{Submits, in_open}
 use Rattle.wb_model.specs.Host.{Sealed, Tables, ruling, reply_by, change_of as verdict_change}
 use Rattle.wb_model.specs.Refusals.{numbers_spent, quota_spent, receipt_taken}
@@ -41,6 +41,7 @@ abbrev pub change_of : ℕ → Registry → Planned → Change
 change_of t g planned.Nothing = Nothing
 change_of t g (planned.Begins o) = begins o.case.items
 change_of t g (planned.Notes n) = Notes n.number n.entry
+change_of t g (planned.Deletes n) = Deletes n
 change_of t g (planned.LogsIn login) = LogsIn (login_of login)
 change_of t g (planned.LogsOut turn who) = LogsOut turn (who_seen who)
 change_of t g (planned.Configures c) = Configures (setting_of t g c.proposal)
@@ -49,67 +50,48 @@ change_of t g (planned.Configures c) = Configures (setting_of t g c.proposal)
 abbrev pub given_of : Planned → Option Answered
 given_of (planned.Begins o) = o.secret
 given_of (planned.Notes n) = n.secret
-given_of planned.Nothing = None
-given_of (planned.LogsIn login) = None
-given_of (planned.LogsOut turn who) = None
-given_of (planned.Configures c) = None
+given_of _ = None
 
 -- a change that takes identity answers has these
 abbrev pub Gives : Planned → Option Answered → Type 0
 Gives (planned.Begins o) given = o.secret ≡ given
 Gives (planned.Notes n) given = n.secret ≡ given
-Gives planned.Nothing given = Unit {0}
-Gives (planned.LogsIn login) given = Unit {0}
-Gives (planned.LogsOut turn who) given = Unit {0}
-Gives (planned.Configures c) given = Unit {0}
+Gives _ given = Unit {0}
 
 -- a report begins with this entry, and these identity answers
 abbrev pub IsBegun : Planned → Entry → Option Answered → Type 0
 IsBegun (planned.Begins o) entry secret = (o.case.items ≡ entry ∷ []) × (o.secret ≡ secret)
-IsBegun planned.Nothing entry secret = ⊥
-IsBegun (planned.Notes n) entry secret = ⊥
-IsBegun (planned.LogsIn login) entry secret = ⊥
-IsBegun (planned.LogsOut turn who) entry secret = ⊥
-IsBegun (planned.Configures c) entry secret = ⊥
+IsBegun _ entry secret = ⊥
 
 -- this session begins
 abbrev pub IsLogin : Planned → Session → Type 0
 IsLogin (planned.LogsIn login) session = login_of login ≡ session
-IsLogin planned.Nothing session = ⊥
-IsLogin (planned.Begins o) session = ⊥
-IsLogin (planned.Notes n) session = ⊥
-IsLogin (planned.LogsOut turn who) session = ⊥
-IsLogin (planned.Configures c) session = ⊥
+IsLogin _ session = ⊥
 
 -- ---- room
 
 -- what a change that is planned at once asks of a tenant's tables but for room: a report that begins has a number and one entry, a
 -- submission, which asks for no identity; and a login is made at a later turn than all others
 abbrev pub IsFitAtOnce : KeptTenancy → Planned → Type 0
-IsFitAtOnce x planned.Nothing = Unit {0}
 IsFitAtOnce x (planned.Begins o) = (x.numbering.last < 4_294_967_295) × ((e : Entry) × (o.case.items ≡ e ∷ [])) × (requests o.case.items ≡ []) × (is_submitted o.case.items ≡ true)
 IsFitAtOnce x (planned.LogsIn login) = AreEarlier login.turn (map session_of x.sessions.items)
-IsFitAtOnce x (planned.LogsOut turn who) = Unit {0}
 IsFitAtOnce x (planned.Notes n) = ⊥
 IsFitAtOnce x (planned.Configures c) = ⊥
+IsFitAtOnce x _ = Unit {0}
 
 -- and so of each: an entry comes to a live report, and a setting comes with its row
 abbrev pub IsFit : ℕ → KeptTenancy → Planned → Type 0
 IsFit time x (planned.Notes n) = is_there n.number (live_plain time (plain_of x)).cases ≡ true
 IsFit time x (planned.Configures c) = c.row ≡ row_of x.configuration.tenant x.configuration.registry c.proposal
-IsFit time x planned.Nothing = Unit {0}
-IsFit time x (planned.Begins o) = IsFitAtOnce x (planned.Begins o)
-IsFit time x (planned.LogsIn login) = IsFitAtOnce x (planned.LogsIn login)
-IsFit time x (planned.LogsOut turn who) = Unit {0}
+IsFit time x change = IsFitAtOnce x change
 
--- so much room for identity answers, and what there is in a tenant's tables, is enough for a change
+-- so much room for identity answers, and what there is in a tenant's tables, is enough for a change; what only goes needs none
 abbrev pub HasRoom : KeptTenancy → ℕ → Planned → Type 0
-HasRoom x sealed planned.Nothing = Unit {0}
 HasRoom x sealed (planned.Begins o) = (0 < x.cases.spare) × (0 < sealed)
 HasRoom x sealed (planned.Notes n) = IsReady n.number n.entry x.cases.items × (0 < x.cases.spare) × (0 < sealed)
 HasRoom x sealed (planned.LogsIn login) = 0 < x.sessions.spare
-HasRoom x sealed (planned.LogsOut turn who) = Unit {0}
 HasRoom x sealed (planned.Configures c) = IsReadyToSet x.configuration c.proposal
+HasRoom x sealed _ = Unit {0}
 
 -- a tenant's tables, and the identity answers, have all that a change takes
 pub record IsRoomy (time : ℕ) (x : KeptTenancy) (sealed : ℕ) (change : Planned) : Type 0 where

@@ -2,6 +2,7 @@
 use Rattle.std.specs.Prelude.{◌≡◌, ◌⊎◌, ℕ, true, false, List, [], Option, Some, None, option_map}
 use Rattle.wb_base.specs.AnswerFaults.{identity_fault}
 use Rattle.wb_base.specs.AnswerList.{Answered}
+use Rattle.wb_base.specs.Calendars.{Calendar}
 use Rattle.wb_base.specs.declared.callers.Presented.TheVariants as presented
 use Rattle.wb_base.specs.declared.callers.Role.{Role}
 use Rattle.wb_base.specs.declared.faults.AnswerFault.{AnswerFault}
@@ -28,7 +29,7 @@ use Rattle.wb_model.specs.ShortViews.{done_view}
 use Rattle.wb_model.specs.Trails as trails
 use Rattle.wb_model.specs.Access.{user_by}
 use Rattle.wb_model.specs.Effects as effects
-use Rattle.wb_model.specs.Effects.{Effect, View, effect_of}
+use Rattle.wb_model.specs.Effects.{Effect, effect_of}
 use Rattle.wb_model.specs.Host.{Sealed, Tables}
 use Rattle.wb_model.specs.Legal.{is_reporter, right_actor}
 use Rattle.wb_model.specs.Refusals.{not_found, faulty}
@@ -44,6 +45,7 @@ use Rattle.wb_tables.specs.declared.tenancy.Who.TheVariants as kept
 use Rattle.wb_tables.specs.declared.proposal.Proposal.{Proposal as KeptProposal}
 use Rattle.wb_tables.specs.declared.proposal.Proposal.TheVariants as proposals
 use Rattle.wb_tables.specs.Configured.{IsSound as IsSoundProposal, fault_of, proposal_of, row_of}
+use Rattle.wb_tables.specs.Lives.{HasEarlyDays}
 use Rattle.wb_tables.specs.Logins.{who_seen}
 use Rattle.wb_tables.specs.Noted.{IsReady}
 use Rattle.wb_looks.specs.declared.turn.At.{At as KeptAt}
@@ -70,27 +72,21 @@ abbrev pub doing_of : Doing → model.Doing
 doing_of (doings.Acts act) = model.Acts act
 doing_of (doings.Moves move) = model.Moves move
 
--- an act is in its ranges, and by whom it may be; a move is a user's
+-- an act is in its ranges on any trail of early days, and by whom it may be; a move is a user's
 abbrev pub IsSound : Actor → Doing → Type 0
-IsSound by (doings.Acts act) = IsInRange act × ((trail : List Entry) → right_actor (act_deed trail act) by ≡ true)
+IsSound by (doings.Acts act) = ((trail : List Entry) → HasEarlyDays trail → IsInRange trail act) × ((calendar : Calendar) (trail : List Entry) → right_actor (act_deed calendar trail act) by ≡ true)
 IsSound by (doings.Moves move) = is_reporter by ≡ false
 
 -- two doings are the same on a report of this trail
 pub record Alike (trail : List Entry) (d e : model.Doing) : Type 0 where
   pub fault : (user : ℕ) → doing_fault trail user d ≡ doing_fault trail user e
-  pub deed : (time : ℕ) → doing_deed time trail d ≡ doing_deed time trail e
+  pub deed : (calendar : Calendar) (time : ℕ) → doing_deed calendar time trail d ≡ doing_deed calendar time trail e
   pub told : doing_told trail d ≡ doing_told trail e
 
 -- the request writes that
 abbrev pub DoesLike : List Entry → Effect → model.Doing → Type 0
 DoesLike trail (effects.Writes d) e = Alike trail d e
-DoesLike trail effects.Misses e = ⊥
-DoesLike trail (effects.Looks view) e = ⊥
-DoesLike trail (effects.Reads part) e = ⊥
-DoesLike trail (effects.Submits c form) e = ⊥
-DoesLike trail (effects.Comes role) e = ⊥
-DoesLike trail (effects.Goes turn) e = ⊥
-DoesLike trail (effects.Sets t proposal) e = ⊥
+DoesLike trail _ e = ⊥
 
 -- an act that this fault refuses on a report of this trail
 abbrev pub Bars : List Entry → CaseFault → Effect → Type 0
@@ -159,6 +155,12 @@ IsTold told (steps.Sets s) = ⊥
 
 -- ---- steps by what was asked
 
+-- the report goes
+abbrev pub IsErased : Report → Step → Type 0
+IsErased report (steps.Done plan) = (plan.told ≡ told 200 done_view) × (plan.change ≡ planned.Deletes report.number)
+IsErased report (steps.Writes w) = ⊥
+IsErased report (steps.Sets s) = ⊥
+
 -- this is going to be written on a report
 pub record IsWritten (who : KeptWho) (report : Report) (doing : Doing) (given : Option Answered) (told : Told) (w : Writing) : Type 0 where
   pub who_is : w.who ≡ who
@@ -222,9 +224,9 @@ IsProposed g proposal (steps.Writes w) = ⊥
 -- ---- the rules of the report
 
 -- the entry of what is done, or what refuses it
-abbrev pub IsJudged : List Entry → ℕ → Who → Doing → Judged → Type 0
-IsJudged trail time who doing (judged.Noted entry) = (doing_fault trail (user_by (actor_of who)) (doing_of doing) ≡ None) × (entry ≡ doing_entry time who trail (doing_of doing))
-IsJudged trail time who doing (judged.Barred why) = doing_fault trail (user_by (actor_of who)) (doing_of doing) ≡ Some (told_of why)
+abbrev pub IsJudged : Calendar → List Entry → ℕ → Who → Doing → Judged → Type 0
+IsJudged calendar trail time who doing (judged.Noted entry) = (doing_fault trail (user_by (actor_of who)) (doing_of doing) ≡ None) × (entry ≡ doing_entry calendar time who trail (doing_of doing))
+IsJudged calendar trail time who doing (judged.Barred why) = doing_fault trail (user_by (actor_of who)) (doing_of doing) ≡ Some (told_of why)
 
 -- there is room for the entry on its report
 abbrev pub IsReadyFor : ℕ → List Report → Judged → Type 0
@@ -236,20 +238,16 @@ IsReadyFor n reports (judged.Barred why) = Unit {0}
 -- a report gets this entry, and these identity answers
 abbrev pub IsNote : Planned → ℕ → Entry → Option Answered → Type 0
 IsNote (planned.Notes n) number entry given = (n.number ≡ number) × (n.entry ≡ entry) × (n.secret ≡ given)
-IsNote planned.Nothing number entry given = ⊥
-IsNote (planned.Begins o) number entry given = ⊥
-IsNote (planned.LogsIn login) number entry given = ⊥
-IsNote (planned.LogsOut turn who) number entry given = ⊥
-IsNote (planned.Configures c) number entry given = ⊥
+IsNote _ number entry given = ⊥
 
 -- what bars a writing on a report of this trail
 abbrev pub barred : List Entry → Writing → Option Told
 barred trail w = doing_fault trail (user_by (actor_of (who_seen w.who))) (doing_of w.doing)
 
 -- what is written on a report of this trail, or that it is barred
-abbrev pub WritesIn : List Entry → ℕ → Writing → Plan → Type 0
-WritesIn trail time w plan =
-    ((barred trail w ≡ None) × (plan.told ≡ w.told) × IsNote plan.change w.number (doing_entry time (who_seen w.who) trail (doing_of w.doing)) w.given)
+abbrev pub WritesIn : Calendar → List Entry → ℕ → Writing → Plan → Type 0
+WritesIn calendar trail time w plan =
+    ((barred trail w ≡ None) × (plan.told ≡ w.told) × IsNote plan.change w.number (doing_entry calendar time (who_seen w.who) trail (doing_of w.doing)) w.given)
     ⊎ ((plan.change ≡ planned.Nothing) × (barred trail w ≡ Some plan.told))
 
 -- how many there may be of what is set
@@ -262,11 +260,7 @@ most_of (proposals.ToContext c next) = 0
 -- this is put in, with its row
 abbrev pub IsPutIn : ℕ → Registry → KeptProposal → Planned → Type 0
 IsPutIn t g next (planned.Configures c) = (c.proposal ≡ next) × (c.row ≡ row_of t g next)
-IsPutIn t g next planned.Nothing = ⊥
-IsPutIn t g next (planned.Begins o) = ⊥
-IsPutIn t g next (planned.Notes n) = ⊥
-IsPutIn t g next (planned.LogsIn login) = ⊥
-IsPutIn t g next (planned.LogsOut turn who) = ⊥
+IsPutIn t g next _ = ⊥
 
 -- what is set, or that it is barred
 abbrev pub SetsIn : ℕ → Registry → Setting → Plan → Type 0

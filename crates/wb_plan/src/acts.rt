@@ -136,7 +136,19 @@ fn postpone(tenancy: &Tenancy, at: &At, report: &Report) -> Asks
     })
 }
 
-/// What a user asks to do on a report that the user finds, but for reads and for requests for the identity.
+// The act that an extension is: the tenant is an external channel or not.
+fn extend(tenancy: &Tenancy, reason: &Text) -> Result<Asks, Memory>
+    ensures asked { IfOk result (λ asks. (at : Turn) (user : ℕ) (s : Presented) (trail : List Entry) (t n : ℕ) → IsAsked at tenancy.now.configuration.registry (Some (TheUser user)) s trail (commands.Extend t n reason.now) asks) }
+    ensures sound { IfOk result (λ asks. (user : ℕ) → IsSoundAsk (actors.User user) asks) }
+{
+    let reason = reason.try_clone()?;
+    Ok(does(Act::Extend {
+        reason,
+        external: tenancy.configuration.settings().external,
+    }))
+}
+
+/// What a user asks to do on a report that the user finds, but for reads, for a deletion and for requests for the identity.
 pub fn acting(
     tenancy: &Tenancy,
     at: &At,
@@ -164,6 +176,7 @@ pub fn acting(
         Command::Unshare { u, .. } => Ok(unshare(report, *u)),
         Command::Transfer { context, .. } => transfer(tenancy, *context),
         Command::Postpone { .. } => Ok(postpone(tenancy, at, report)),
+        Command::Extend { reason, .. } => extend(tenancy, reason),
         _ => unreachable!(),
     }
 }

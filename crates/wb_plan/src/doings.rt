@@ -5,8 +5,9 @@ ghost use Rattle.wb_model.specs.Doings.{doing_told as doing_reply};
 ghost use Rattle.wb_model.specs.Acts.{act_status as act_status_of};
 ghost use Rattle.wb_model.specs.Json.{told};
 ghost use Rattle.wb_model.specs.ShortViews.{request_view as request_data};
-ghost use Rattle.wb_plan.specs.Steps.{Answers, WritesDown, doing_of};
+ghost use Rattle.wb_plan.specs.Steps.{Answers, IsErased, WritesDown, doing_of};
 
+use crate::plan::{Plan, Planned};
 use crate::sessions::done;
 use crate::step::{Asks, Doing, Step, Writing, refusing};
 use std::alloc::Global;
@@ -27,7 +28,8 @@ fn act_status(act: &Act) -> u16
         | Act::Feedback(_)
         | Act::Share(_)
         | Act::Transfer { .. }
-        | Act::Postpone { .. } => 201,
+        | Act::Postpone { .. }
+        | Act::Extend { .. } => 201,
     }
 }
 
@@ -83,4 +85,14 @@ pub fn writing(alloc: Global, who: Who, report: &Report, asks: Asks) -> Result<S
         Asks::Bars(fault) => refusing(alloc, Refusal::OfAct(fault)),
         Asks::Does(doing) => write(alloc, who, report, doing),
     }
+}
+
+/// The step of a report's deletion, which is done at once. It takes no memory.
+pub fn erasing(report: &Report) -> Step
+    ensures { IsErased report.now result }
+{
+    Step::Done(Plan {
+        told: done(200),
+        change: Planned::Deletes(report.number),
+    })
 }

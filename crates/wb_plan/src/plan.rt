@@ -38,6 +38,8 @@ pub enum Planned {
     Begins(Opening),
     /// A report gets an entry.
     Notes(Noted),
+    /// The report of a number goes.
+    Deletes(Number),
     /// A session begins.
     LogsIn(Login),
     /// The session of a turn ends, which is of this caller.

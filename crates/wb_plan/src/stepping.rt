@@ -18,7 +18,7 @@ ghost use Rattle.wb_tables.specs.Places.{IsLookedUp};
 
 use crate::acts::{acting, commenting};
 use crate::custody::{asking, deciding};
-use crate::doings::writing;
+use crate::doings::{erasing, writing};
 use crate::identity::give_identity;
 use crate::sessions::{enter, leave};
 use crate::settings::{set_context, set_form, set_settings, set_user};
@@ -160,6 +160,7 @@ fn by_reader(
             let told = read_identity(alloc, tenancy, sealed, at, user, report)?;
             Ok(telling(told))
         }
+        Command::Delete { .. } => Ok(erasing(report)),
         Command::Ask { reason, .. } => writing(alloc, who, report, asking(tenancy, user, reason)?),
         Command::Decide {
             k,

@@ -117,11 +117,11 @@ fn first_entry(
         at: at.time,
         by: Actor::Reporter,
         deed: Deed::Submitted {
-            ack_due: ack_due(received),
+            ack_due: ack_due(received, &settings.calendar),
             answers: public,
             context: context.id,
             expires: expiry(received, context.retention),
-            feedback_due: feedback_due(received, None),
+            feedback_due: feedback_due(received, None, false, &settings.calendar),
             form: item.id,
             mark,
             readers: context.recipients.try_clone()?,

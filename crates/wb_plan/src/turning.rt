@@ -1,5 +1,6 @@
 //! The plan of a turn, with room for all that it changes.
 ghost use Rattle.std.specs.Prelude.{◌≡◌, ℕ, List, Some, true, map, IfOk, OnOk};
+ghost use Rattle.wb_base.specs.Calendars.{Calendar as CalendarValue};
 ghost use Rattle.wb_model.specs.Commands.{tenant_of as tenant_of_command};
 ghost use Rattle.wb_model.specs.Doings.{actor_of};
 ghost use Rattle.wb_model.specs.Fits.{fits};
@@ -12,6 +13,7 @@ ghost use Rattle.wb_plan.specs.Steps.{IsJudged, IsReadyFor, IsSound, SetsIn, Wri
 ghost use Rattle.wb_tables.specs.Configured.{IsSound as IsSoundProposal};
 ghost use Rattle.wb_tables.specs.Indexed.{AreFewRequests};
 ghost use Rattle.wb_tables.specs.Kept.{case_of, place_of, plain_of, tables_of};
+ghost use Rattle.wb_tables.specs.Lives.{AreEarly};
 ghost use Rattle.wb_tables.specs.Logins.{AreEarlier, session_of, who_seen};
 ghost use Rattle.wb_tables.specs.Places.{IsLookedUp};
 
@@ -19,7 +21,7 @@ use crate::plan::{Configuring, Noted, Plan, Planned, refused};
 use crate::step::{Doing, Judged, Setting, Step, Writing};
 use crate::stepping::step_of;
 use std::alloc::Global;
-use wb_base::{Memory, Moment, Number};
+use wb_base::{Calendar, Memory, Moment, Number};
 use wb_custody::SealedTable;
 use wb_looks::{At, Refusal};
 use wb_model::{Act, Actor, AdminFault, Asked, CaseFault, CustodyFault, Move};
@@ -43,7 +45,7 @@ fn make_room(
             sealed.reserve()
         }
         Planned::LogsIn(_) => tenancy.sessions.reserve(),
-        Planned::Nothing | Planned::LogsOut(..) => Ok(()),
+        Planned::Nothing | Planned::Deletes(_) | Planned::LogsOut(..) => Ok(()),
         Planned::Notes(_) | Planned::Configures(_) => unreachable!(),
     }
 }
@@ -61,19 +63,21 @@ fn actor(who: Who) -> Actor
 // Asks the rules of a report for an act on it.
 fn judge_act(
     cases: &mut Cases,
+    calendar: &Calendar,
     time: Moment,
     who: Who,
     number: Number,
     act: Act,
 ) -> Result<Judged, Memory>
     requires there { is_there number (map case_of cases.old.items) ≡ true }
+    requires early { AreEarly (map case_of cases.old.items) }
     requires sound { IsSound (actor_of (who_seen who)) (Doing.Acts act) }
     ensures tenant { cases.new.tenant ≡ cases.old.tenant }
     ensures cases { map case_of cases.new.items ≡ map case_of cases.old.items }
-    ensures judged { IfOk result (λ judged. (trail : List EntryValue) → report_by number (map case_of cases.old.items) ≡ Some (record { number = number; trail = trail }) → IsJudged trail time (who_seen who) (Doing.Acts act) judged) }
+    ensures judged { IfOk result (λ judged. (trail : List EntryValue) → report_by number (map case_of cases.old.items) ≡ Some (record { number = number; trail = trail }) → IsJudged calendar.now trail time (who_seen who) (Doing.Acts act) judged) }
     ensures ready { IfOk result (λ judged. (trail : List EntryValue) → report_by number (map case_of cases.old.items) ≡ Some (record { number = number; trail = trail }) → IsReadyFor number cases.new.items judged) }
 {
-    match cases.act(number, time, actor(who), act) {
+    match cases.act(number, time, actor(who), act, calendar) {
         Ok(entry) => Ok(Judged::Noted(entry)),
         Err(CaseFault::Memory) => Err(Memory),
         Err(fault) => Ok(Judged::Barred(Refusal::OfAct(fault))),
@@ -93,7 +97,7 @@ fn judge_move(
     requires sound { IsSound (actor_of (who_seen who)) (Doing.Moves move_) }
     ensures tenant { cases.new.tenant ≡ cases.old.tenant }
     ensures cases { map case_of cases.new.items ≡ map case_of cases.old.items }
-    ensures judged { IfOk result (λ judged. (trail : List EntryValue) → report_by number (map case_of cases.old.items) ≡ Some (record { number = number; trail = trail }) → IsJudged trail time (who_seen who) (Doing.Moves move_) judged) }
+    ensures judged { IfOk result (λ judged. (calendar : CalendarValue) (trail : List EntryValue) → report_by number (map case_of cases.old.items) ≡ Some (record { number = number; trail = trail }) → IsJudged calendar trail time (who_seen who) (Doing.Moves move_) judged) }
     ensures ready { IfOk result (IsReadyFor number cases.new.items) }
 {
     match cases.move_requests(number, time, actor(who), move_) {
@@ -103,9 +107,10 @@ fn judge_move(
     }
 }
 
-// Asks the rules of a report for what is to be done on it.
+// Asks the rules of a report for what is to be done on it, on the tenant's calendar.
 fn judge(
     cases: &mut Cases,
+    calendar: &Calendar,
     time: Moment,
     who: Who,
     number: Number,
@@ -113,14 +118,15 @@ fn judge(
 ) -> Result<Judged, Memory>
     requires there { is_there number (map case_of cases.old.items) ≡ true }
     requires few { AreFewRequests (map case_of cases.old.items) }
+    requires early { AreEarly (map case_of cases.old.items) }
     requires sound { IsSound (actor_of (who_seen who)) doing }
     ensures tenant { cases.new.tenant ≡ cases.old.tenant }
     ensures cases { map case_of cases.new.items ≡ map case_of cases.old.items }
-    ensures judged { IfOk result (λ judged. (trail : List EntryValue) → report_by number (map case_of cases.old.items) ≡ Some (record { number = number; trail = trail }) → IsJudged trail time (who_seen who) doing judged) }
+    ensures judged { IfOk result (λ judged. (trail : List EntryValue) → report_by number (map case_of cases.old.items) ≡ Some (record { number = number; trail = trail }) → IsJudged calendar.now trail time (who_seen who) doing judged) }
     ensures ready { IfOk result (λ judged. (trail : List EntryValue) → report_by number (map case_of cases.old.items) ≡ Some (record { number = number; trail = trail }) → IsReadyFor number cases.new.items judged) }
 {
     match doing {
-        Doing::Acts(act) => judge_act(cases, time, who, number, act),
+        Doing::Acts(act) => judge_act(cases, calendar, time, who, number, act),
         Doing::Moves(move_) => judge_move(cases, time, who, number, move_),
     }
 }
@@ -135,9 +141,10 @@ fn write_in(
 ) -> Result<Plan, Memory>
     requires place { IsLookedUp (plain_of tenancy.old) }
     requires few { AreFewRequests (map case_of tenancy.old.cases.items) }
+    requires early { AreEarly (map case_of tenancy.old.cases.items) }
     requires there { is_there writing.number (map case_of tenancy.old.cases.items) ≡ true }
     requires sound { IsSound (actor_of (who_seen writing.who)) writing.doing }
-    ensures plan { IfOk result (λ plan. (trail : List EntryValue) → report_by writing.number (map case_of tenancy.old.cases.items) ≡ Some (record { number = writing.number; trail = trail }) → WritesIn trail time writing plan) }
+    ensures plan { IfOk result (λ plan. (trail : List EntryValue) → report_by writing.number (map case_of tenancy.old.cases.items) ≡ Some (record { number = writing.number; trail = trail }) → WritesIn tenancy.old.configuration.registry.settings.calendar trail time writing plan) }
     ensures roomy { IfOk result (λ plan. (trail : List EntryValue) → report_by writing.number (map case_of tenancy.old.cases.items) ≡ Some (record { number = writing.number; trail = trail }) → HasRoom tenancy.new sealed.new.spare plan.change) }
     ensures place { place_of tenancy.new ≡ place_of tenancy.old }
     ensures sealed { sealed.new.items ≡ sealed.old.items }
@@ -149,7 +156,8 @@ fn write_in(
         given,
         told,
     } = writing;
-    match judge(&mut tenancy.cases, time, who, number, doing)? {
+    let calendar = &tenancy.configuration.settings().calendar;
+    match judge(&mut tenancy.cases, calendar, time, who, number, doing)? {
         Judged::Noted(entry) => {
             tenancy.cases.reserve()?;
             sealed.reserve()?;
@@ -205,6 +213,7 @@ pub fn plan_turn(
 ) -> Result<Plan, Memory>
     requires place { IsLookedUp (plain_of tenancy.old) }
     requires few { AreFewRequests (map case_of tenancy.old.cases.items) }
+    requires early { AreEarly (map case_of tenancy.old.cases.items) }
     requires earlier { AreEarlier at.now.turn (map session_of tenancy.old.sessions.items) }
     requires named { tenancy.old.configuration.tenant ≡ tenant_of_command asked.now.command }
     requires fits { fits asked.now ≡ true }

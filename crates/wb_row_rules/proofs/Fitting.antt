@@ -4,6 +4,7 @@ use Rattle.std.proofs.lemmas.Bool.{and_parts, and_from}
 use Rattle.std.proofs.lemmas.Int.{ints}
 use Rattle.std.specs.List.{list_all}
 use Rattle.std.specs.Prelude.{◌==◌, ◌&&◌, ◌≤ℤ◌, nat_le, neg_ℤ, int_le}
+use Rattle.wb_base.specs.Calendars.{are_holidays}
 use Rattle.wb_base.specs.Days.{IsOffset}
 use Rattle.wb_base.specs.FormFaults.{is_good}
 use Rattle.wb_model.specs.declared.registry.FormItem.{FormItem}
@@ -29,7 +30,8 @@ is_at_most a b e = grind (arith, ints, e)
 
 pub offset-fits : (x : TenantItem) → is_tenant_item x ≡ true → IsOffset x.offset
 offset-fits x e =
-    let most = (and_parts (is_between 1 64 x.tenant && has_bytes 1 128 x.name && nat_le x.notice_days 30 && is_offset x.offset) (is_between 1 100_000 x.quota) e).0 in
+    let listed = (and_parts (is_between 1 64 x.tenant && has_bytes 1 128 x.name && nat_le x.notice_days 30 && is_offset x.offset && is_between 1 100_000 x.quota) (are_holidays x.calendar.holidays) e).0 in
+    let most = (and_parts (is_between 1 64 x.tenant && has_bytes 1 128 x.name && nat_le x.notice_days 30 && is_offset x.offset) (is_between 1 100_000 x.quota) listed).0 in
     let own = (and_parts (is_between 1 64 x.tenant && has_bytes 1 128 x.name && nat_le x.notice_days 30) (is_offset x.offset) most).1 in
     let parts = and_parts (int_le (neg_ℤ (pos 720)) x.offset) (int_le x.offset (pos 840)) own in
     (is_at_most (neg_ℤ (pos 720)) x.offset parts.0, is_at_most x.offset (pos 840) parts.1)

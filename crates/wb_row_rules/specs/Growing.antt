@@ -8,7 +8,7 @@ use Rattle.wb_row_rules.specs.declared.faults.RowFault.TheVariants.{BadRow, BadS
 use Rattle.wb_row_rules.specs.declared.open.Open.{Open}
 use Rattle.wb_row_rules.specs.Reports.{Report}
 use Rattle.wb_row_rules.specs.OpenReports.{report_of, IsOpen}
-use Rattle.wb_row_rules.specs.TrailRule.{offset, reports_after, reports_of}
+use Rattle.wb_row_rules.specs.TrailRule.{days, reports_after, reports_of}
 
 -- the reports of the one that is read so far, where there is one, and of the entries that are left
 abbrev pub rest_of : Lists → Option Open → List EntryItem → Result (List Report) Key
@@ -22,7 +22,7 @@ with_all done (Err k) = Err k
 
 -- the report that is being read is legal
 abbrev pub IsOpenIn : Lists → Open → Type 0
-IsOpenIn lists o = IsOpen (offset lists o.tenant) o
+IsOpenIn lists o = IsOpen (days lists o.tenant) o
 
 abbrev pub AreReady : Lists → Option Open → Type 0
 AreReady lists None = Unit {0}

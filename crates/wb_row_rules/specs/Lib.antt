@@ -1,5 +1,6 @@
 pub mod Reports
 pub mod Places
+pub mod Reckoned
 pub mod Legality
 pub mod TrailRule
 pub mod OpenReports

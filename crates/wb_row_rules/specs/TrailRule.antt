@@ -1,16 +1,16 @@
 -- The rule of trails, rule 5: each runs from 1 without a gap, and each entry is legal after those before it.
-use Rattle.std.specs.Prelude.{ℕ, ◌+◌, ◌==◌, ◌&&◌, if◌then◌else◌, Bool, List, [], ◌∷◌, ◌++◌, length, Result, Ok, Err, ℤ}
+use Rattle.std.specs.Prelude.{ℕ, ◌+◌, ◌==◌, ◌&&◌, if◌then◌else◌, Bool, List, [], ◌∷◌, ◌++◌, length, Result, Ok, Err}
 use Rattle.wb_base.specs.declared.rows.Key.{Key}
 use Rattle.wb_kinds.specs.declared.item.EntryItem.{EntryItem}
 use Rattle.wb_model.specs.declared.registry.Lists.{Lists}
-use Rattle.wb_model.specs.Legal.{is_first, is_legal, is_next, last_at}
+use Rattle.wb_model.specs.Legal.{Reckoning, reckoning, is_first, is_legal, is_next, last_at}
 use Rattle.wb_model.specs.Openings.{registry_of}
 use Rattle.wb_row_rules.specs.Reports.{Report}
 use Rattle.wb_row_rules.specs.Places.{entry_key}
 
--- a tenant's offset from UTC, in minutes
-abbrev pub offset : Lists → ℕ → ℤ
-offset lists t = (registry_of lists t).settings.offset
+-- how a tenant reckons days
+abbrev pub days : Lists → ℕ → Reckoning
+days lists t = reckoning (registry_of lists t).settings
 
 -- a report that has one entry
 abbrev pub begun : EntryItem → Report
@@ -25,11 +25,11 @@ is_of r x = (r.tenant == x.tenant) && (r.number == x.number)
 
 -- an entry that begins a trail stands at its first place, and is legal there
 unfoldable pub begins : Lists → EntryItem → Bool
-begins lists x = (x.place == 1) && is_first (offset lists x.tenant) x.entry
+begins lists x = (x.place == 1) && is_first (days lists x.tenant) x.entry
 
 -- an entry that goes on with a trail stands at its next place, and is legal after it
 unfoldable pub goes_on : Lists → Report → EntryItem → Bool
-goes_on lists r x = (x.place == length r.trail + 1) && is_next (offset lists r.tenant) (last_at 0 r.trail) r.trail x.entry
+goes_on lists r x = (x.place == length r.trail + 1) && is_next (days lists r.tenant) (last_at 0 r.trail) r.trail x.entry
 
 -- a report before others
 abbrev pub with_report : Report → Result (List Report) Key → Result (List Report) Key
@@ -48,6 +48,6 @@ abbrev pub reports_of : Lists → List EntryItem → Result (List Report) Key
 reports_of lists [] = Ok []
 reports_of lists (x ∷ xs) = if begins lists x then reports_after lists (begun x) xs else Err (entry_key x)
 
--- a report's trail is legal at its tenant's offset
+-- a report's trail is legal as its tenant reckons days
 abbrev pub is_legal_report : Lists → Report → Bool
-is_legal_report lists r = is_legal (offset lists r.tenant) r.trail
+is_legal_report lists r = is_legal (days lists r.tenant) r.trail

@@ -37,6 +37,10 @@ pub fn act_of(alloc: Global, deed: &Deed) -> Option<Act>
             today: Day::new(0),
             retention: 0,
         }),
+        Deed::Extended { .. } => Some(Act::Extend {
+            reason: Text::empty(alloc),
+            external: true,
+        }),
         _ => None,
     }
 }

@@ -1,10 +1,15 @@
 //! Whether an entry's actor, days and readers are right.
-ghost use Rattle.std.specs.Prelude.{◌≡◌, true};
+ghost use Rattle.std.specs.Prelude.{◌≡◌, true, IfSome};
+ghost use Rattle.std.specs.Ordering.{int_eq};
 ghost use Rattle.wb_base.specs.Days.{IsOffset, IsEarlyDay};
+ghost use Rattle.wb_base.specs.Terms.{feedback_due as feedback_due_of};
 ghost use Rattle.wb_model.specs.Legal as legal;
+ghost use Rattle.wb_model.specs.Trails.{received, acknowledged};
+ghost use Rattle.wb_row_rules.specs.Reckoned.{reckoned};
 ghost use Rattle.wb_row_rules.specs.Legality.{is_fit_after, right_days as right_days_of, right_acknowledgement as right_acknowledgement_of, right_postponement as right_postponement_of};
 
-use wb_base::{Day, Moment, Text, UserId};
+use crate::days::Days;
+use wb_base::{Calendar, Day, Moment, Text, UserId};
 use wb_case::Case;
 use wb_model::{Actor, Deed, Entry};
 use wb_terms::{ack_due, day_of, expiry, feedback_due};
@@ -73,22 +78,45 @@ fn is_within(from: Day, until: Day) -> bool
 }
 
 // Whether the days of a submission are right.
-fn right_days(today: Day, received: Day, ack: Day, feedback: Day, until: Day) -> bool
+fn right_days(
+    calendar: &Calendar,
+    today: Day,
+    received: Day,
+    ack: Day,
+    feedback: Day,
+    until: Day,
+) -> bool
     requires { IsEarlyDay today }
-    ensures { result ≡ right_days_of today received ack feedback until }
+    ensures { result ≡ right_days_of calendar.now today received ack feedback until }
 {
     received == today
-        && ack == ack_due(today)
-        && feedback == feedback_due(today, None)
+        && ack == ack_due(today, calendar)
+        && feedback == feedback_due(today, None, false, calendar)
         && is_within(today, until)
 }
 
-// Whether the days of an acknowledgement are right.
-fn right_acknowledgement(today: Day, day: Day, feedback: Day) -> bool
+// Whether the days of an acknowledgement are right, where the time for feedback was extended or not.
+fn right_acknowledgement(
+    calendar: &Calendar,
+    extended: bool,
+    today: Day,
+    day: Day,
+    feedback: Day,
+) -> bool
     requires { IsEarlyDay today }
-    ensures { result ≡ right_acknowledgement_of today day feedback }
+    ensures { result ≡ right_acknowledgement_of calendar.now extended today day feedback }
 {
-    day == today && feedback == feedback_due(today, Some(day))
+    day == today && feedback == feedback_due(today, Some(day), extended, calendar)
+}
+
+// Whether the day of an extension is right after a trail.
+fn right_extension(calendar: &Calendar, case: &Case, feedback: Day) -> bool
+    requires received { IsEarlyDay (received case.now.items) }
+    requires acknowledged { IfSome (acknowledged case.now.items) IsEarlyDay }
+    ensures { result ≡ int_eq feedback (feedback_due_of (received case.now.items) (acknowledged case.now.items) true calendar.now) }
+{
+    let summary = case.summary();
+    feedback == feedback_due(summary.received, summary.acknowledged, true, calendar)
 }
 
 // Whether the day of a postponement is right, after the one before.
@@ -112,12 +140,14 @@ fn is_effective(at: Moment, effective: u64, withheld: &Option<Text>) -> bool
     }
 }
 
-/// Whether a deed's days, readers and moment are right after a trail, at an offset from UTC in minutes.
-pub fn right_values(offset: i32, case: &Case, at: Moment, deed: &Deed) -> bool
-    requires { IsOffset offset }
-    ensures { result ≡ legal.right_values offset case.now.items at deed.now }
+/// Whether a deed's days, readers and moment are right after a trail, as a tenant reckons days.
+pub fn right_values(days: &Days, case: &Case, at: Moment, deed: &Deed) -> bool
+    requires offset { IsOffset days.now.offset }
+    requires received { IsEarlyDay (received case.now.items) }
+    requires acknowledged { IfSome (acknowledged case.now.items) IsEarlyDay }
+    ensures { result ≡ legal.right_values (reckoned days.now) case.now.items at deed.now }
 {
-    let today = day_of(at, offset);
+    let today = day_of(at, days.offset);
     match deed {
         Deed::Submitted {
             ack_due,
@@ -127,16 +157,25 @@ pub fn right_values(offset: i32, case: &Case, at: Moment, deed: &Deed) -> bool
             received,
             ..
         } => {
-            right_days(today, *received, *ack_due, *feedback_due, *expires)
-                && are_readers(readers.as_slice())
+            right_days(
+                days.calendar,
+                today,
+                *received,
+                *ack_due,
+                *feedback_due,
+                *expires,
+            ) && are_readers(readers.as_slice())
         }
         Deed::Acknowledged { day, feedback_due } => right_acknowledgement(
+            days.calendar,
+            case.summary().extension.is_some(),
             today,
             *day,
             *feedback_due,
         ),
         Deed::Transferred { readers, .. } => are_readers(readers.as_slice()),
         Deed::Postponed { expires } => right_postponement(today, case.summary().expires, *expires),
+        Deed::Extended { feedback_due, .. } => right_extension(days.calendar, case, *feedback_due),
         Deed::Granted {
             effective,
             withheld,
@@ -147,9 +186,9 @@ pub fn right_values(offset: i32, case: &Case, at: Moment, deed: &Deed) -> bool
 }
 
 /// Whether an entry begins a trail: a submission by the reporter whose days and readers are right.
-pub fn is_first(offset: i32, entry: &Entry) -> bool
-    requires { IsOffset offset }
-    ensures { result ≡ legal.is_first offset entry.now }
+pub fn is_first(days: &Days, entry: &Entry) -> bool
+    requires { IsOffset days.now.offset }
+    ensures { result ≡ legal.is_first (reckoned days.now) entry.now }
 {
     match &entry.deed {
         Deed::Submitted {
@@ -163,21 +202,29 @@ pub fn is_first(offset: i32, entry: &Entry) -> bool
             if !is_reporter(entry.by) {
                 return false;
             }
-            let today = day_of(entry.at, offset);
-            right_days(today, *received, *ack_due, *feedback_due, *expires)
-                && are_readers(readers.as_slice())
+            let today = day_of(entry.at, days.offset);
+            right_days(
+                days.calendar,
+                today,
+                *received,
+                *ack_due,
+                *feedback_due,
+                *expires,
+            ) && are_readers(readers.as_slice())
         }
         _ => false,
     }
 }
 
 /// Whether an entry is not before a moment, is by whom it may be, and has right days and readers.
-pub fn is_fit(offset: i32, case: &Case, last: Moment, entry: &Entry) -> bool
-    requires { IsOffset offset }
-    ensures { result ≡ is_fit_after offset last case.now.items entry.now }
+pub fn is_fit(days: &Days, case: &Case, last: Moment, entry: &Entry) -> bool
+    requires offset { IsOffset days.now.offset }
+    requires received { IsEarlyDay (received case.now.items) }
+    requires acknowledged { IfSome (acknowledged case.now.items) IsEarlyDay }
+    ensures { result ≡ is_fit_after (reckoned days.now) last case.now.items entry.now }
 {
     if entry.at < last || !right_actor(&entry.deed, entry.by) {
         return false;
     }
-    right_values(offset, case, entry.at, &entry.deed)
+    right_values(days, case, entry.at, &entry.deed)
 }

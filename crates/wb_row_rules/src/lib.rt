@@ -2,6 +2,7 @@
 #![tactic(auto)]
 
 mod cases;
+mod days;
 mod done;
 mod faults;
 mod keys;

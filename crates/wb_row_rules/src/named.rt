@@ -3,7 +3,7 @@ ghost use Rattle.std.specs.Prelude.{◌≡◌, ◌&&◌, not, is_some, is_none, 
 ghost use Rattle.std.specs.List.{list_all};
 ghost use Rattle.std.specs.Option.{option_map_or};
 ghost use Rattle.wb_base.specs.FormFaults.{is_good};
-ghost use Rattle.wb_model.specs.KeptRules.{is_doer as is_doer_in, users_in, is_named as is_named_in};
+ghost use Rattle.wb_model.specs.KeptRules.{is_of_channel as is_of_channel_in, is_doer as is_doer_in, users_in, is_named as is_named_in};
 ghost use Rattle.wb_model.specs.Openings.{registry_of};
 ghost use Rattle.wb_model.specs.Requests.{submission_fault, mark};
 ghost use Rattle.wb_model.specs.SetUps.{is_form_item};
@@ -77,11 +77,24 @@ fn has_context(registry: &Registry, tenant: Tenant, deed: &Deed) -> bool
     }
 }
 
+// Whether a deed is one that stands in the tenant: an extension stands only in an external channel.
+fn is_of_channel(registry: &Registry, tenant: Tenant, deed: &Deed) -> bool
+    ensures { result ≡ is_of_channel_in (registry_of registry.now.lists tenant).settings.external deed.now }
+{
+    match deed {
+        Deed::Extended { .. } => match registry.tenant(tenant) {
+            Some(item) => item.external,
+            None => false,
+        },
+        _ => true,
+    }
+}
+
 // Whether whom and what an entry names is there.
 fn is_named(registry: &Registry, tenant: Tenant, entry: &Entry) -> bool
     ensures { result ≡ is_named_in (registry_of registry.now.lists tenant) entry.now }
 {
-    if !is_doer(registry, tenant, entry) {
+    if !is_of_channel(registry, tenant, &entry.deed) || !is_doer(registry, tenant, entry) {
         return false;
     }
     has_users(registry, tenant, &entry.deed) && has_context(registry, tenant, &entry.deed)

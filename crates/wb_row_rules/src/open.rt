@@ -8,12 +8,14 @@ ghost use Rattle.wb_model.specs.Legal.{is_reporter, is_next, is_first as is_firs
 ghost use Rattle.wb_model.specs.Moves.{custody_fault, move_deed};
 ghost use Rattle.wb_model.specs.Trails.{has_identity};
 ghost use Rattle.wb_row_rules.specs.OpenReports.{IsOpen, IsStill};
+ghost use Rattle.wb_row_rules.specs.Reckoned.{reckoned};
 
+use crate::days::Days;
 use crate::done::{act_of, move_of};
 use crate::legal::is_fit;
 use std::alloc::Global;
 use wb_base::{Memory, Moment, Number, Tenant};
-use wb_case::{Case, a_legal_entry_names_few_readers};
+use wb_case::{Case, a_legal_entry_names_few_readers, a_legal_trail_has_early_days};
 use wb_custody::{AccessDesk, what_legal_trails_say_of_requests};
 use wb_model::{Act, Actor, CustodyFault, Entry, Move};
 
@@ -31,16 +33,16 @@ impl Open {
     /// The report that begins with an entry.
     pub fn start(
         alloc: Global,
-        offset: i32,
+        days: &Days,
         tenant: Tenant,
         number: Number,
         entry: Entry,
     ) -> Result<Open, Memory>
-        requires { is_first_of offset entry ≡ true }
+        requires { is_first_of (reckoned days.now) entry ≡ true }
         ensures tenant { IfOk result (λ o. o.tenant ≡ tenant) }
         ensures number { IfOk result (λ o. o.number ≡ number) }
         ensures trail { IfOk result (λ o. o.case.items ≡ entry ∷ []) }
-        ensures open { IfOk result (IsOpen offset) }
+        ensures open { IfOk result (IsOpen (reckoned days.now)) }
     {
         let last = entry.at;
         match Case::start(alloc, entry) {
@@ -80,15 +82,17 @@ impl Open {
     }
 
     /// Whether an entry is legal after the trail. Then there is room for its request.
-    pub fn judge(&mut self, alloc: Global, offset: i32, entry: &Entry) -> Result<bool, Memory>
-        requires offset { IsOffset offset }
-        requires open { IsOpen offset self.old }
-        ensures next { IfOk result (λ is. is ≡ is_next offset self.old.last self.old.case.items entry.now) }
+    pub fn judge(&mut self, alloc: Global, days: &Days, entry: &Entry) -> Result<bool, Memory>
+        requires offset { IsOffset days.now.offset }
+        requires open { IsOpen (reckoned days.now) self.old }
+        ensures next { IfOk result (λ is. is ≡ is_next (reckoned days.now) self.old.last self.old.case.items entry.now) }
         ensures still { IsStill self.old self.new }
         ensures room { result ≡ Ok true → HasRoom self.new.desk entry.now.deed }
     {
         what_legal_trails_say_of_requests();
-        if !is_fit(offset, &self.case, self.last, entry) {
+        a_legal_trail_has_early_days();
+        let _moment = self.last.seconds();
+        if !is_fit(days, &self.case, self.last, entry) {
             return Ok(false);
         }
         if let Some(act) = act_of(alloc, &entry.deed) {
@@ -101,14 +105,14 @@ impl Open {
     }
 
     /// Puts an entry at the end that is legal after the trail and that there is room for.
-    pub fn put(&mut self, offset: i32, entry: Entry) -> Result<(), Memory>
-        requires open { IsOpen offset self.old }
-        requires next { is_next offset self.old.last self.old.case.items entry ≡ true }
+    pub fn put(&mut self, days: &Days, entry: Entry) -> Result<(), Memory>
+        requires open { IsOpen (reckoned days.now) self.old }
+        requires next { is_next (reckoned days.now) self.old.last self.old.case.items entry ≡ true }
         requires room { HasRoom self.old.desk entry.deed }
         ensures tenant { self.new.tenant ≡ self.old.tenant }
         ensures number { self.new.number ≡ self.old.number }
         ensures trail { OnOk result (self.new.case.items ≡ self.old.case.items ++ entry ∷ []) }
-        ensures open { OnOk result (IsOpen offset self.new) }
+        ensures open { OnOk result (IsOpen (reckoned days.now) self.new) }
     {
         a_legal_entry_names_few_readers();
         what_legal_trails_say_of_requests();

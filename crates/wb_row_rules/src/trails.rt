@@ -1,6 +1,7 @@
 //! The rule of trails: the reports of entries, each trail from 1 without a gap, each entry legal after those before it.
 ghost use Rattle.std.specs.Prelude.{◌≡◌, ◌+◌, ◌==◌, ◌∷◌, List, length, map, true, Ok, IfOk, IfErr, OnOk};
 ghost use Rattle.std.specs.List.{list_all};
+ghost use Rattle.wb_base.specs.Calendars.{plain as plain_one};
 ghost use Rattle.wb_base.specs.Days.{IsOffset};
 ghost use Rattle.wb_kinds.specs.declared.item.EntryItem.{EntryItem as EntryData};
 ghost use Rattle.wb_custody.specs.Desks.{HasRoom};
@@ -11,28 +12,37 @@ ghost use Rattle.wb_row_rules.specs.Growing.{rest_of, with_all, IsOpenIn, AreRea
 ghost use Rattle.wb_row_rules.specs.Reports.{case_report};
 ghost use Rattle.wb_row_rules.specs.OpenReports.{report_of, IsOpen, IsStill};
 ghost use Rattle.wb_row_rules.specs.Places.{entry_key as entry_key_of};
-ghost use Rattle.wb_row_rules.specs.TrailRule.{offset as offset_at, begun, continued, is_of as is_of_report, begins, goes_on, reports_after, reports_of};
+ghost use Rattle.wb_row_rules.specs.Reckoned.{reckoned};
+ghost use Rattle.wb_row_rules.specs.TrailRule.{days as days_at, begun, continued, is_of as is_of_report, begins, goes_on, reports_after, reports_of};
 
 use crate::cases::CaseItem;
+use crate::days::Days;
 use crate::faults::RowFault;
 use crate::keys::entry_key;
 use crate::legal::is_first;
 use crate::open::Open;
 use std::alloc::Global;
-use wb_base::{Memory, Tenant};
+use wb_base::{Calendar, Memory, Tenant};
 use wb_case::Case;
 use wb_kinds::EntryItem;
 use wb_tenants::Registry;
 
-// A tenant's offset from UTC in minutes, 0 where the tenant is not there.
-fn offset_of(registry: &Registry, tenant: Tenant) -> i32
-    requires { list_all is_tenant_item registry.now.lists.tenants ≡ true }
-    ensures offset { result ≡ offset_at registry.now.lists tenant }
-    ensures range { IsOffset result }
+// How a tenant reckons days: at UTC and on a plain calendar where the tenant is not there.
+fn days_of<'a>(registry: &'a Registry, plain: &'a Calendar, tenant: Tenant) -> Days<'a>
+    requires tenants { list_all is_tenant_item registry.now.lists.tenants ≡ true }
+    requires plain { plain.now ≡ plain_one }
+    ensures days { reckoned result ≡ days_at registry.now.lists tenant }
+    ensures range { IsOffset result.offset }
 {
     match registry.tenant(tenant) {
-        Some(item) => item.offset,
-        None => 0,
+        Some(item) => Days {
+            offset: item.offset,
+            calendar: &item.calendar,
+        },
+        None => Days {
+            offset: 0,
+            calendar: plain,
+        },
     }
 }
 
@@ -52,12 +62,12 @@ fn is_of(report: &Open, item: &EntryItem) -> bool
 
 // Whether an entry begins a trail.
 #[tactic(auto, unfolding(crate::specs::TrailRule::begins))]
-fn may_begin(offset: i32, item: &EntryItem) -> bool
-    requires { IsOffset offset }
-    ensures begins { (lists : Lists) → offset_at lists item.now.tenant ≡ offset → result ≡ begins lists item.now }
-    ensures first { result ≡ true → is_first_of offset item.now.entry ≡ true }
+fn may_begin(days: &Days, item: &EntryItem) -> bool
+    requires { IsOffset days.now.offset }
+    ensures begins { (lists : Lists) → days_at lists item.now.tenant ≡ reckoned days.now → result ≡ begins lists item.now }
+    ensures first { result ≡ true → is_first_of (reckoned days.now) item.now.entry ≡ true }
 {
-    item.place == 1 && is_first(offset, &item.entry)
+    item.place == 1 && is_first(days, &item.entry)
 }
 
 // The report that an entry begins.
@@ -68,11 +78,12 @@ fn begin(alloc: Global, registry: &Registry, item: EntryItem) -> Result<Open, Ro
     ensures ready { IfOk result (IsOpenIn registry.now.lists) }
     ensures err { IfErr result (IsBlame (begins registry.now.lists item) (entry_key_of item)) }
 {
-    let offset = offset_of(registry, item.tenant);
-    if !may_begin(offset, &item) {
+    let plain = Calendar::plain(alloc);
+    let days = days_of(registry, &plain, item.tenant);
+    if !may_begin(&days, &item) {
         return Err(RowFault::BadSet(5, entry_key(&item)));
     }
-    let report = Open::start(alloc, offset, item.tenant, item.number, item.entry)?;
+    let report = Open::start(alloc, &days, item.tenant, item.number, item.entry)?;
     Ok(report)
 }
 
@@ -80,21 +91,21 @@ fn begin(alloc: Global, registry: &Registry, item: EntryItem) -> Result<Open, Ro
 #[tactic(auto, unfolding(crate::specs::TrailRule::goes_on))]
 fn may_go_on(
     alloc: Global,
-    offset: i32,
+    days: &Days,
     report: &mut Open,
     item: &EntryItem,
 ) -> Result<bool, Memory>
-    requires offset { IsOffset offset }
-    requires ready { IsOpen offset report.old }
-    ensures goes_on { IfOk result (λ may. (lists : Lists) → offset_at lists report.old.tenant ≡ offset → may ≡ goes_on lists (report_of report.old) item.now) }
-    ensures next { result ≡ Ok true → is_next offset report.old.last report.old.case.items item.now.entry ≡ true }
+    requires offset { IsOffset days.now.offset }
+    requires ready { IsOpen (reckoned days.now) report.old }
+    ensures goes_on { IfOk result (λ may. (lists : Lists) → days_at lists report.old.tenant ≡ reckoned days.now → may ≡ goes_on lists (report_of report.old) item.now) }
+    ensures next { result ≡ Ok true → is_next (reckoned days.now) report.old.last report.old.case.items item.now.entry ≡ true }
     ensures still { IsStill report.old report.new }
     ensures room { result ≡ Ok true → HasRoom report.new.desk item.now.entry.deed }
 {
     if !is_next_place(&report.case, item.place) {
         return Ok(false);
     }
-    report.judge(alloc, offset, &item.entry)
+    report.judge(alloc, days, &item.entry)
 }
 
 // A report with one more entry of its own.
@@ -112,11 +123,12 @@ fn go_on(
     ensures err { IfErr result (IsBlame (goes_on registry.now.lists (report_of report) item) (entry_key_of item)) }
 {
     let mut report = report;
-    let offset = offset_of(registry, report.tenant);
-    if !may_go_on(alloc, offset, &mut report, &item)? {
+    let plain = Calendar::plain(alloc);
+    let days = days_of(registry, &plain, report.tenant);
+    if !may_go_on(alloc, &days, &mut report, &item)? {
         return Err(RowFault::BadSet(5, entry_key(&item)));
     }
-    report.put(offset, item.entry)?;
+    report.put(&days, item.entry)?;
     Ok(report)
 }
 

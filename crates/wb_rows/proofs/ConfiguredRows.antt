@@ -6,7 +6,7 @@ use Rattle.std.specs.Ordering.{nat_cmp, ordering_then}
 use Rattle.std.proofs.lemmas.Bool.Decides.{nat_tests}
 use Rattle.wb_list.specs.Keyed.{insert_item}
 use Rattle.wb_base.specs.AnswerList.{Answered}
-use Rattle.wb_base.specs.FormJson.{form_data}
+use Rattle.wb_base.specs.FormJson.{kept_data}
 use Rattle.wb_base.specs.KeptRows.{key_cmp, all_changed}
 use Rattle.wb_base.specs.declared.rows.Change.TheVariants.{Put}
 use Rattle.wb_base.specs.declared.rows.Row.{Row}
@@ -16,7 +16,7 @@ use Rattle.wb_model.specs.declared.registry.UserItem.{UserItem}
 use Rattle.wb_model.specs.Changes.{Configures}
 use Rattle.wb_model.specs.Host.{changed}
 use Rattle.wb_model.specs.Opened.{AreVersions}
-use Rattle.wb_model.specs.Rows.{row, user_data, context_data, rows_of}
+use Rattle.wb_model.specs.Rows.{row, user_data, context_data, tenants_rows}
 use Rattle.wb_model.specs.Settings.{Setting, OfTenant, OfUser, OfContext, OfForm, form_key}
 use Rattle.wb_model.specs.Tenants.{Tenancy}
 use Rattle.wb_model.proofs.Found.{Held}
@@ -58,7 +58,7 @@ contexts_made : (t : ℕ) (contexts : List ContextItem) (item : ContextItem) →
 contexts_made t contexts item = put_item (λ (c : ContextItem). c.id) (context_row t) contexts item (λ c held. ids_order 5 t c.id item.id)
 
 abbrev form_row : ℕ → FormItem → Row
-form_row t f = row 4 t f.id f.version (form_data f.form)
+form_row t f = row 4 t f.id f.version (kept_data f.form)
 
 forms_made : (t : ℕ) (forms : List FormItem) (item : FormItem) → AreVersions forms → item.version ≤ 99 → put (map (form_row t) forms) (form_row t item) ≡ map (form_row t) (insert_item nat_cmp form_key forms item)
 forms_made t forms item versions version =
@@ -70,7 +70,7 @@ forms_made t forms item versions version =
 -- THE LAW of a setting: the rows after its row are the rows of the changed tables
 pub configured_rows : (before after : List Tenancy) (y : Tenancy) → ((x : Tenancy) → Held x before → x.id < y.id) → ((x : Tenancy) → Held x after → y.id < x.id) → AreVersions y.tables.plain.registry.forms
     → (setting : Setting) → IsVersion setting → (now : ℕ) (secret : Option Answered)
-    → all_changed (rows_of (before ++ (y ∷ after))) (Put (setting_row y.id y.tables.plain.registry setting) ∷ []) ≡ rows_of (before ++ (record { id = y.id; tables = changed now (Configures setting) secret y.tables } ∷ after))
+    → all_changed (tenants_rows (before ++ (y ∷ after))) (Put (setting_row y.id y.tables.plain.registry setting) ∷ []) ≡ tenants_rows (before ++ (record { id = y.id; tables = changed now (Configures setting) secret y.tables } ∷ after))
 configured_rows before after y below above versions (OfTenant next) version now secret =
     put_rows before after y _ below above 0 (setting_row y.id y.tables.plain.registry (OfTenant next)) refl refl
     (rw (same_key y.id 0 0 1) refl, (refl, (refl, (refl, (refl, (refl, (refl, tt)))))))

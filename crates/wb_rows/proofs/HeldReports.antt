@@ -26,7 +26,7 @@ use Rattle.wb_rows.specs.HeldItems.{entry_items, report_items, trail_items}
 use Rattle.wb_rows.specs.Openings.{case_of, cases_of}
 use Rattle.wb_row_rules.specs.Places.{report_place}
 use Rattle.wb_row_rules.specs.ReportRules.{is_report}
-use Rattle.wb_row_rules.specs.TrailRule.{is_legal_report, offset}
+use Rattle.wb_row_rules.specs.TrailRule.{is_legal_report, days}
 use Rattle.wb_row_rules.proofs.Lookups.{find-map}
 use Rattle.wb_rows.proofs.SealedRows.{other_place}
 use Rattle.wb_rows.proofs.WholeTrails.{AreSilent, begins_so}
@@ -73,7 +73,7 @@ abbrev of_tenant : ℕ → Report → Bool
 of_tenant t r = r.tenant == t
 
 pub begins-so : (lists : Lists) (t n : ℕ) (e : Entry) (es : List Entry) (rs : List Report) → list_all (is_legal_report lists) rs ≡ true → Held (report_with t n (e ∷ es)) rs → (is_some (submission_in e.deed) ≡ true) × AreSilent es
-begins-so lists t n e es rs legal held = begins_so (offset lists t) e es (held-true (is_legal_report lists) rs legal (report_with t n (e ∷ es)) held)
+begins-so lists t n e es rs legal held = begins_so (days lists t) e es (held-true (is_legal_report lists) rs legal (report_with t n (e ∷ es)) held)
 
 -- what is so of each of its reports, whose trails have a first entry, is so of its cases
 pub cases-all : (lists : Lists) (t : ℕ) (rs : List Report) → list_all (is_legal_report lists) rs ≡ true → (test : Case → Bool) → ((n : ℕ) (e : Entry) (es : List Entry) → Held (report_with t n (e ∷ es)) rs → test (record { number = n; trail = e ∷ es }) ≡ true) → list_all test (cases_of rs t) ≡ true

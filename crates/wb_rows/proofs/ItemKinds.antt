@@ -20,6 +20,7 @@ use Rattle.wb_rows.specs.declared.items.Kept.{Kept}
 use Rattle.wb_rows.specs.HeldRows.{settings_row, numbering_row, user_row, form_row, context_row}
 use Rattle.wb_rows.specs.KeptItems.{tenant_in, numbering_in, user_in, form_in, context_in, entry_in, kept_of}
 use Rattle.wb_rows.proofs.ItemOrder.{item_key, tenant_key, numbering_key, user_key, form_key, context_key, entry_item_key}
+use Rattle.wb_base.specs.declared.form.Format.{Format}
 
 abbrev pub entry_row : EntryItem → Row
 entry_row x = row 6 x.tenant x.number x.place (entry_data x.entry)
@@ -28,8 +29,8 @@ abbrev pub sealed_row : SealedItem → Row
 sealed_row x = row 7 x.tenant x.number 0 (answers_data x.answers)
 
 -- the rows of what is kept, kind by kind
-abbrev pub kind_rows : Kept → List Row
-kind_rows k = map settings_row k.lists.tenants ++ (map numbering_row k.numberings ++ (map user_row k.lists.users ++ (map form_row k.lists.forms ++ (map context_row k.lists.contexts ++ (map entry_row k.entries ++ map sealed_row k.sealed)))))
+abbrev pub kind_rows : Format → Kept → List Row
+kind_rows format k = map settings_row k.lists.tenants ++ (map numbering_row k.numberings ++ (map user_row k.lists.users ++ (map (form_row format) k.lists.forms ++ (map context_row k.lists.contexts ++ (map entry_row k.entries ++ map sealed_row k.sealed)))))
 
 -- no item is of a kind below
 abbrev AreFrom : ℕ → List Item → Type 0
@@ -80,46 +81,46 @@ no_entries : (xs : List Item) → AreFrom 7 xs → filter_map entry_in xs ≡ []
 no_entries xs from = none_of entry_in 6 (λ i x e. ap (λ (k : Key). k.kind) (entry_item_key i x e)) xs from
 
 -- the rows of ascending items are those of each kind, one after another
-pub by_kinds : (xs : List Item) → IsStrictlySortedBy key_cmp (map item_key xs) → kind_rows (kept_of xs) ≡ map item_row xs
+pub by_kinds : (format : Format) (xs : List Item) → IsStrictlySortedBy key_cmp (map item_key xs) → kind_rows format (kept_of xs) ≡ map (item_row format) xs
 unfolding IsStrictlySortedBy
-by_kinds [] order = refl
-by_kinds (items.Settings x ∷ xs) order = ap (λ l. settings_row x ∷ l) (by_kinds xs order.1)
-by_kinds (items.Numbering x ∷ xs) order =
+by_kinds format [] order = refl
+by_kinds format (items.Settings x ∷ xs) order = ap (λ l. settings_row x ∷ l) (by_kinds format xs order.1)
+by_kinds format (items.Numbering x ∷ xs) order =
     let from : AreFrom 2 xs = after (item_key (items.Numbering x)) xs order.0 in
     let t = no_tenants xs from in
-    let rest = by_kinds xs order.1 in
+    let rest = by_kinds format xs order.1 in
     rw t (ap (λ l. numbering_row x ∷ l) (rw t at rest))
-by_kinds (items.User x ∷ xs) order =
+by_kinds format (items.User x ∷ xs) order =
     let from : AreFrom 3 xs = after (item_key (items.User x)) xs order.0 in
     let t = no_tenants xs (lower 2 3 (omega arith) xs from) in
     let n = no_numberings xs from in
-    let rest = by_kinds xs order.1 in
+    let rest = by_kinds format xs order.1 in
     rw (t, n) (ap (λ l. user_row x ∷ l) (rw (t, n) at rest))
-by_kinds (items.Form x ∷ xs) order =
+by_kinds format (items.Form x ∷ xs) order =
     let from : AreFrom 4 xs = after (item_key (items.Form x)) xs order.0 in
     let t = no_tenants xs (lower 2 4 (omega arith) xs from) in
     let n = no_numberings xs (lower 3 4 (omega arith) xs from) in
     let u = no_users xs from in
-    let rest = by_kinds xs order.1 in
-    rw (t, n, u) (ap (λ l. form_row x ∷ l) (rw (t, n, u) at rest))
-by_kinds (items.Context x ∷ xs) order =
+    let rest = by_kinds format xs order.1 in
+    rw (t, n, u) (ap (λ l. form_row format x ∷ l) (rw (t, n, u) at rest))
+by_kinds format (items.Context x ∷ xs) order =
     let from : AreFrom 5 xs = after (item_key (items.Context x)) xs order.0 in
     let t = no_tenants xs (lower 2 5 (omega arith) xs from) in
     let n = no_numberings xs (lower 3 5 (omega arith) xs from) in
     let u = no_users xs (lower 4 5 (omega arith) xs from) in
     let f = no_forms xs from in
-    let rest = by_kinds xs order.1 in
+    let rest = by_kinds format xs order.1 in
     rw (t, n, u, f) (ap (λ l. context_row x ∷ l) (rw (t, n, u, f) at rest))
-by_kinds (items.Entry x ∷ xs) order =
+by_kinds format (items.Entry x ∷ xs) order =
     let from : AreFrom 6 xs = after (item_key (items.Entry x)) xs order.0 in
     let t = no_tenants xs (lower 2 6 (omega arith) xs from) in
     let n = no_numberings xs (lower 3 6 (omega arith) xs from) in
     let u = no_users xs (lower 4 6 (omega arith) xs from) in
     let f = no_forms xs (lower 5 6 (omega arith) xs from) in
     let c = no_contexts xs from in
-    let rest = by_kinds xs order.1 in
+    let rest = by_kinds format xs order.1 in
     rw (t, n, u, f, c) (ap (λ l. entry_row x ∷ l) (rw (t, n, u, f, c) at rest))
-by_kinds (items.Sealed x ∷ xs) order =
+by_kinds format (items.Sealed x ∷ xs) order =
     let from : AreFrom 7 xs = after (item_key (items.Sealed x)) xs order.0 in
     let t = no_tenants xs (lower 2 7 (omega arith) xs from) in
     let n = no_numberings xs (lower 3 7 (omega arith) xs from) in
@@ -127,5 +128,5 @@ by_kinds (items.Sealed x ∷ xs) order =
     let f = no_forms xs (lower 5 7 (omega arith) xs from) in
     let c = no_contexts xs (lower 6 7 (omega arith) xs from) in
     let e = no_entries xs from in
-    let rest = by_kinds xs order.1 in
+    let rest = by_kinds format xs order.1 in
     rw (t, n, u, f, c, e) (ap (λ l. sealed_row x ∷ l) (rw (t, n, u, f, c, e) at rest))

@@ -35,9 +35,21 @@ use Rattle.wb_rows.specs.KeptItems.{tenant_in, numbering_in, user_in, form_in, c
 use Rattle.wb_rows.proofs.ConfiguredRows.{versions_order}
 use Rattle.wb_rows.proofs.RowPuts.{key}
 use Rattle.wb_setup.specs.Keys as keys
+use Rattle.wb_base.specs.declared.form.Format.{Format}
+use Rattle.wb_base.specs.declared.form.Format.TheVariants.{Weighed}
 
 abbrev pub item_key : Item → Key
-item_key i = (item_row i).key
+item_key i = (item_row Weighed i).key
+
+-- it is the same in each format
+pub key_in : (format : Format) (i : Item) → (item_row format i).key ≡ item_key i
+key_in format (items.Settings x) = refl
+key_in format (items.Numbering x) = refl
+key_in format (items.User x) = refl
+key_in format (items.Form x) = refl
+key_in format (items.Context x) = refl
+key_in format (items.Entry x) = refl
+key_in format (items.Sealed x) = refl
 
 -- ---- of one kind
 
@@ -158,39 +170,39 @@ is_same_key k m e =
     four true false c d e = absurd (false≢true e)
     four false b c d e = absurd (false≢true e)
 
-is_same_row : (x y : Row) → is_row x y ≡ true → x ≡ y
+pub is_same_row : (x y : Row) → is_row x y ≡ true → x ≡ y
 is_same_row x y e =
     let parts = and_parts (is_key x.key y.key) (is_text x.text y.text) e in
     λ i. record { key = is_same_key x.key y.key parts.0 i; text = same_text x.text y.text parts.1 i }
 
 -- what is read as an item is the row of the item
-row_of_item : (row : Row) (item : Item) → item_of row ≡ Some item → item_row item ≡ row
+row_of_item : (format : Format) (row : Row) (item : Item) → item_of format row ≡ Some item → item_row format item ≡ row
 unfolding item_of
-row_of_item row item is = by _ is
+row_of_item format row item is = by _ is
   where
-    kept : (x : Item) (b : Bool) → is_row (item_row x) row ≡ b → (if b then Some x else None) ≡ Some item → item_row item ≡ row
-    kept x true same e = let own : x ≡ item = cc (e) in subst (λ z. item_row z ≡ row) own (is_same_row (item_row x) row same)
+    kept : (x : Item) (b : Bool) → is_row (item_row format x) row ≡ b → (if b then Some x else None) ≡ Some item → item_row format item ≡ row
+    kept x true same e = let own : x ≡ item = cc (e) in subst (λ z. item_row format z ≡ row) own (is_same_row (item_row format x) row same)
     kept x false same e = absurd (cc (e))
 
-    by : (o : Option Item) → option_and_then (keep (λ x. is_row (item_row x) row)) o ≡ Some item → item_row item ≡ row
+    by : (o : Option Item) → option_and_then (keep (λ x. is_row (item_row format x) row)) o ≡ Some item → item_row format item ≡ row
     by None e = absurd (cc (e))
-    by (Some x) e = kept x (is_row (item_row x) row) refl e
+    by (Some x) e = kept x (is_row (item_row format x) row) refl e
 
-pub rows_of_items : (rows : List Row) (all : List Item) → items_in rows ≡ Ok all → map item_row all ≡ rows
-rows_of_items [] all e = let none : [] ≡ all = cc (e) in subst (λ l. map item_row l ≡ []) none refl
-rows_of_items (row ∷ rows) all e = by (item_of row) (items_in rows) refl (λ more rest. rows_of_items rows more rest) e
+pub rows_of_items : (format : Format) (rows : List Row) (all : List Item) → items_in format rows ≡ Ok all → map (item_row format) all ≡ rows
+rows_of_items format [] all e = let none : [] ≡ all = cc (e) in subst (λ l. map (item_row format) l ≡ []) none refl
+rows_of_items format (row ∷ rows) all e = by (item_of format row) (items_in format rows) refl (λ more rest. rows_of_items format rows more rest) e
   where
-    by : (o : Option Item) (r : Result (List Item) RowFault) → item_of row ≡ o → ((more : List Item) → r ≡ Ok more → map item_row more ≡ rows) → with_first o row.key r ≡ Ok all → map item_row all ≡ row ∷ rows
+    by : (o : Option Item) (r : Result (List Item) RowFault) → item_of format row ≡ o → ((more : List Item) → r ≡ Ok more → map (item_row format) more ≡ rows) → with_first o row.key r ≡ Ok all → map (item_row format) all ≡ row ∷ rows
     by None r is rest e = absurd (cc (e))
     by (Some x) (Err fault) is rest e = absurd (cc (e))
     by (Some x) (Ok more) is rest e =
         let whole : x ∷ more ≡ all = cc (e) in
-        subst (λ l. map item_row l ≡ row ∷ rows) whole (λ i. row_of_item row x is i ∷ rest more refl i)
+        subst (λ l. map (item_row format) l ≡ row ∷ rows) whole (λ i. row_of_item format row x is i ∷ rest more refl i)
 
 -- the items of ascending rows ascend
-pub items_ascend : (rows : List Row) (all : List Item) → items_in rows ≡ Ok all → IsStrictlySortedBy key_cmp (map key_of rows) → IsStrictlySortedBy key_cmp (map item_key all)
-items_ascend rows all e order = subst (IsStrictlySortedBy key_cmp) (ap (map key_of) (sym (rows_of_items rows all e)) ∙ keys_of all) order
+pub items_ascend : (format : Format) (rows : List Row) (all : List Item) → items_in format rows ≡ Ok all → IsStrictlySortedBy key_cmp (map key_of rows) → IsStrictlySortedBy key_cmp (map item_key all)
+items_ascend format rows all e order = subst (IsStrictlySortedBy key_cmp) (ap (map key_of) (sym (rows_of_items format rows all e)) ∙ keys_of all) order
   where
-    keys_of : (xs : List Item) → map key_of (map item_row xs) ≡ map item_key xs
+    keys_of : (xs : List Item) → map key_of (map (item_row format) xs) ≡ map item_key xs
     keys_of [] = refl
-    keys_of (x ∷ xs) = ap (λ l. item_key x ∷ l) (keys_of xs)
+    keys_of (x ∷ xs) = λ i. key_in format x i ∷ keys_of xs i

@@ -11,7 +11,7 @@ use Rattle.wb_kinds.specs.declared.item.Item.{Item}
 use Rattle.wb_kinds.specs.declared.item.Item.TheVariants as items
 use Rattle.wb_kinds.specs.declared.item.NumberingItem.{NumberingItem}
 use Rattle.wb_kinds.specs.Good.{is_good}
-use Rattle.wb_kinds.specs.Items.{item_row}
+use Rattle.wb_kinds.specs.Items.{item_row, is_kept_in}
 use Rattle.wb_kinds.proofs.GoodRows.{item-back}
 use Rattle.wb_model.specs.declared.registry.ContextItem.{ContextItem}
 use Rattle.wb_model.specs.declared.registry.FormItem.{FormItem}
@@ -22,18 +22,19 @@ use Rattle.wb_rows.specs.declared.items.Kept.{Kept}
 use Rattle.wb_row_rules.specs.Reports.{Report}
 use Rattle.wb_rows.specs.Held.{Held}
 use Rattle.wb_rows.specs.HeldItems.{entry_items, items_of, sealed_item, sealed_items}
-use Rattle.wb_rows.specs.HeldRows.{settings_row, numbering_row, user_row, form_row, context_row, trail_rows, sealed_rows, rows_of}
+use Rattle.wb_rows.specs.HeldRows.{settings_row, numbering_row, user_row, form_row, context_row, trail_rows, sealed_rows, own_rows}
 use Rattle.wb_rows.specs.KeptItems.{kept_of}
 use Rattle.wb_rows.specs.ReadItems.{items_in}
 use Rattle.wb_rows.proofs.ItemKinds.{entry_row, sealed_row}
 use Rattle.wb_rows.proofs.RowsBack.{together}
 use Rattle.wb_rows.proofs.TrailRows.{rows_of_items}
+use Rattle.wb_base.specs.declared.form.Format.{Format}
 
 -- ---- rows
 
-of_kind : {X : Type 0} (kind : X → Item) (row : X → Row) → ((x : X) → item_row (kind x) ≡ row x) → (xs : List X) → map item_row (map kind xs) ≡ map row xs
-of_kind kind row same [] = refl
-of_kind kind row same (x ∷ xs) = λ i. same x i ∷ of_kind kind row same xs i
+of_kind : {X : Type 0} (format : Format) (kind : X → Item) (row : X → Row) → ((x : X) → item_row format (kind x) ≡ row x) → (xs : List X) → map (item_row format) (map kind xs) ≡ map row xs
+of_kind format kind row same [] = refl
+of_kind format kind row same (x ∷ xs) = λ i. same x i ∷ of_kind format kind row same xs i
 
 sealed_one : (t n : ℕ) (o : Option Answered) → map sealed_row (sealed_item t n o) ≡ answers_row t n o
 sealed_one t n None = refl
@@ -45,27 +46,28 @@ rows_of_sealed sealed (r ∷ rs) =
     map-append sealed_row (sealed_item r.tenant r.number (sealed r.tenant r.number)) (sealed_items sealed rs)
     ∙ (λ i. sealed_one r.tenant r.number (sealed r.tenant r.number) i ++ rows_of_sealed sealed rs i)
 
-joined : (xs ys : List Item) (us vs : List Row) → map item_row xs ≡ us → map item_row ys ≡ vs → map item_row (xs ++ ys) ≡ us ++ vs
-joined xs ys us vs p q = map-append item_row xs ys ∙ (λ i. p i ++ q i)
+joined : (format : Format) (xs ys : List Item) (us vs : List Row) → map (item_row format) xs ≡ us → map (item_row format) ys ≡ vs → map (item_row format) (xs ++ ys) ≡ us ++ vs
+joined format xs ys us vs p q = map-append (item_row format) xs ys ∙ (λ i. p i ++ q i)
 
-pub rows-of-items : (h : Held) → map item_row (items_of h) ≡ rows_of h
-rows-of-items h =
-    let tenants = of_kind items.Settings settings_row (λ x. refl) h.lists.tenants in
-    let numberings = of_kind items.Numbering numbering_row (λ x. refl) h.numberings in
-    let users = of_kind items.User user_row (λ x. refl) h.lists.users in
-    let forms = of_kind items.Form form_row (λ x. refl) h.lists.forms in
-    let contexts = of_kind items.Context context_row (λ x. refl) h.lists.contexts in
-    let entries = of_kind items.Entry entry_row (λ x. refl) (entry_items h.reports) ∙ rows_of_items h.reports in
-    let sealed = of_kind items.Sealed sealed_row (λ x. refl) (sealed_items h.sealed h.reports) ∙ rows_of_sealed h.sealed h.reports in
-    joined _ _ _ _ tenants (joined _ _ _ _ numberings (joined _ _ _ _ users (joined _ _ _ _ forms (joined _ _ _ _ contexts (joined _ _ _ _ entries sealed)))))
-    ∙ sym (together (map settings_row h.lists.tenants) (map numbering_row h.numberings) (map user_row h.lists.users) (map form_row h.lists.forms) (map context_row h.lists.contexts) (trail_rows h.reports) (sealed_rows h.sealed h.reports))
+pub rows-of-items : (format : Format) (h : Held) → map (item_row format) (items_of h) ≡ own_rows format h
+rows-of-items format h =
+    let tenants = of_kind format items.Settings settings_row (λ x. refl) h.lists.tenants in
+    let numberings = of_kind format items.Numbering numbering_row (λ x. refl) h.numberings in
+    let users = of_kind format items.User user_row (λ x. refl) h.lists.users in
+    let forms = of_kind format items.Form (form_row format) (λ x. refl) h.lists.forms in
+    let contexts = of_kind format items.Context context_row (λ x. refl) h.lists.contexts in
+    let entries = of_kind format items.Entry entry_row (λ x. refl) (entry_items h.reports) ∙ rows_of_items h.reports in
+    let sealed = of_kind format items.Sealed sealed_row (λ x. refl) (sealed_items h.sealed h.reports) ∙ rows_of_sealed h.sealed h.reports in
+    joined format _ _ _ _ tenants (joined format _ _ _ _ numberings (joined format _ _ _ _ users (joined format _ _ _ _ forms (joined format _ _ _ _ contexts (joined format _ _ _ _ entries sealed)))))
+    ∙ sym (together (map settings_row h.lists.tenants) (map numbering_row h.numberings) (map user_row h.lists.users) (map (form_row format) h.lists.forms) (map context_row h.lists.contexts) (trail_rows h.reports) (sealed_rows h.sealed h.reports))
 
 -- good rows are read as the items
-pub items-read : (all : List Item) → list_all is_good all ≡ true → items_in (map item_row all) ≡ Ok all
-items-read [] good = refl
-items-read (x ∷ xs) good =
+pub items-read : (format : Format) (all : List Item) → list_all is_good all ≡ true → list_all (is_kept_in format) all ≡ true → items_in format (map (item_row format) all) ≡ Ok all
+items-read format [] good kept = refl
+items-read format (x ∷ xs) good kept =
     let parts = and_parts (is_good x) (list_all is_good xs) good in
-    rw (item-back x parts.0, items-read xs parts.1) refl
+    let own = and_parts (is_kept_in format x) (list_all (is_kept_in format) xs) kept in
+    rw (item-back format x parts.0 own.0, items-read format xs parts.1 own.1) refl
 
 -- ---- kinds
 

@@ -17,7 +17,7 @@ use Rattle.wb_row_rules.specs.Reports.{Report}
 use Rattle.wb_rows.specs.HeldItems.{entry_items, report_items, trail_items}
 use Rattle.wb_rows.specs.Openings.{case_of, cases_of}
 use Rattle.wb_row_rules.specs.ReportRules.{is_same_receipt, same_receipt}
-use Rattle.wb_row_rules.specs.TrailRule.{is_legal_report, offset}
+use Rattle.wb_row_rules.specs.TrailRule.{is_legal_report, days}
 use Rattle.wb_rows.proofs.HeldReports.{begins-so, cases-all, items-held, report_with}
 use Rattle.wb_rows.proofs.WholeTrails.{AreSilent, begins_so, receipt-first}
 
@@ -82,11 +82,11 @@ module _ (lists : Lists) (t : ℕ) where
       let own = items-held (λ y. not (same_receipt (item u m e) y)) rs others (report_with t n (f ∷ fs)) held in
       ap not (same_submission u t m n e f es fs here first begun.0 silent begun.1) ∙ (and_parts (not (same_receipt (item u m e) (item t n f))) (list_all (λ y. not (same_receipt (item u m e) y)) (trail_items t n 2 fs)) own).0)))
 
-  one_more : (u m : ℕ) (trail : List Entry) (rs : List Report) → (u == t) ≡ true → is_legal (offset lists u) trail ≡ true → list_all (is_legal_report lists) rs ≡ true → are_apart same_receipt (trail_items u m 1 trail ++ entry_items rs) ≡ true
+  one_more : (u m : ℕ) (trail : List Entry) (rs : List Report) → (u == t) ≡ true → is_legal (days lists u) trail ≡ true → list_all (is_legal_report lists) rs ≡ true → are_apart same_receipt (trail_items u m 1 trail ++ entry_items rs) ≡ true
       → are_apart same_case (cases_of rs t) ≡ true → are_apart same_case (record { number = m; trail = trail } ∷ cases_of rs t) ≡ true
   one_more u m [] rs here legal legals apart rest = absurd (false≢true legal)
   one_more u m (e ∷ es) rs here legal legals apart rest =
-      let begun = begins_so (offset lists u) e es legal in
+      let begun = begins_so (days lists u) e es legal in
       let parts = and_parts (not (list_any (same_receipt (item u m e)) (trail_items u m 2 es ++ entry_items rs))) (are_apart same_receipt (trail_items u m 2 es ++ entry_items rs)) apart in
       let later = not_second (list_any (same_receipt (item u m e)) (trail_items u m 2 es)) (list_any (same_receipt (item u m e)) (entry_items rs)) (ap not (sym (list_any-append (same_receipt (item u m e)) (trail_items u m 2 es) (entry_items rs))) ∙ parts.0) in
       and_from (not (list_any (same_case (record { number = m; trail = e ∷ es })) (cases_of rs t))) (are_apart same_case (cases_of rs t)) (alone u m e es rs here begun.0 begun.1 legals (none_of (same_receipt (item u m e)) (entry_items rs) later)) rest

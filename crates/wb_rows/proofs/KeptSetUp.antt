@@ -24,7 +24,7 @@ use Rattle.wb_model.proofs.Found.{find_passing}
 use Rattle.wb_rows.specs.declared.items.Kept.{Kept}
 use Rattle.wb_rows.specs.Blame.{first_breaking, first_repeated}
 use Rattle.wb_rows.specs.Held.{Held}
-use Rattle.wb_rows.specs.Judged.{judged}
+use Rattle.wb_rows.specs.Judged.{judged_in}
 use Rattle.wb_rows.specs.ReadItems.{items_in}
 use Rattle.wb_rows.specs.KeptItems.{kept_of}
 use Rattle.wb_rows.specs.ListRules.{follows, has_tenant_rows, has_version, is_right_context, list_fault}
@@ -36,6 +36,7 @@ use Rattle.wb_rows.proofs.RowsBack.{is-read}
 use Rattle.wb_rows.proofs.RulesHold.{apart, none-blamed, none-breaking}
 use Rattle.wb_tenants.specs.Sets.{is_version}
 use Rattle.wb_setup.proofs.Orders.{ids_ascend, ordered}
+use Rattle.wb_base.specs.declared.form.Format.{Format}
 
 -- ---- lists
 
@@ -91,15 +92,15 @@ reads_on lists c holds =
 -- ---- the whole
 
 -- the lists that are read, where none of their rules is broken
-pub set-up : (rows : List Row) (all : List Item) → map item_row all ≡ rows → list_all is_in_range all ≡ true → IsStrictlySortedBy key_cmp (map item_key all) → list_fault rows (kept_of all).lists (kept_of all).numberings ≡ None → AreSetUp (kept_of all).lists
-set-up rows all are fits sorted none =
+pub set-up : (format : Format) (rows : List Row) (all : List Item) → map (item_row format) all ≡ rows → list_all is_in_range all ≡ true → IsStrictlySortedBy key_cmp (map item_key all) → list_fault rows (kept_of all).lists (kept_of all).numberings ≡ None → AreSetUp (kept_of all).lists
+set-up format rows all are fits sorted none =
     let k : Kept = kept_of all in
     let lists = k.lists in
     let one = none-blamed 1 (first_breaking (has_tenant_rows lists k.numberings) key_of rows) _ none in
     let two = none-blamed 2 (first_repeated same_user_name user_key lists.users) _ one.1 in
     let three = none-blamed 3 (first_breaking (follows lists) form_key lists.forms) _ two.1 in
     let four = none-blamed 4 (first_breaking (is_right_context lists) context_key lists.contexts) _ three.1 in
-    let there = owned-rows rows all are one.0 in
+    let there = owned-rows format rows all are one.0 in
     let right = none-breaking (is_right_context lists) context_key lists.contexts four.0 in
     let in_order = lists-order all fits sorted in
     record {
@@ -119,8 +120,8 @@ set-up rows all are fits sorted none =
     }
 
 -- so are those of rows that are read as tables
-pub read-set-up : (rows : List Row) (h : Held) → IsStrictlySortedBy key_cmp (map key_of rows) → ((all : List Item) → items_in rows ≡ Ok all → list_all is_in_range all ≡ true) → judged rows ≡ Ok h → AreSetUp h.lists
-read-set-up rows h sorted fits is =
-    let parts = is-read rows h is in
+pub read-set-up : (format : Format) (rows : List Row) (h : Held) → IsStrictlySortedBy key_cmp (map key_of rows) → ((all : List Item) → items_in format rows ≡ Ok all → list_all is_in_range all ≡ true) → judged_in format rows ≡ Ok h → AreSetUp h.lists
+read-set-up format rows h sorted fits is =
+    let parts = is-read format rows h is in
     let how = parts.1.1 in
-    subst (λ (x : Held). AreSetUp x.lists) how.held (set-up rows parts.0 (rows_of_items rows parts.0 how.items) (fits parts.0 how.items) (items_ascend rows parts.0 how.items sorted) how.lists)
+    subst (λ (x : Held). AreSetUp x.lists) how.held (set-up format rows parts.0 (rows_of_items format rows parts.0 how.items) (fits parts.0 how.items) (items_ascend format rows parts.0 how.items sorted) how.lists)

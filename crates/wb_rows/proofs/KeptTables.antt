@@ -30,7 +30,7 @@ use Rattle.wb_rows.specs.Judged.{held as tables_read}
 use Rattle.wb_rows.specs.Openings.{case_of, cases_of, numbering_of, tables_of, time_of}
 use Rattle.wb_row_rules.specs.Places.{report_place}
 use Rattle.wb_row_rules.specs.ReportRules.{are_late_answers, has_its_seal, has_right_answers, is_by_draw, is_drawn, is_late_after, is_numbering_of, is_report, is_right_entry, is_right_numbering, is_right_seal, same_receipt}
-use Rattle.wb_row_rules.specs.TrailRule.{is_legal_report, offset, reports_of}
+use Rattle.wb_row_rules.specs.TrailRule.{is_legal_report, days, reports_of}
 use Rattle.wb_rows.proofs.HeldReports.{begins-so, cases-all, firsts-all, found-own, held-true, items-held, numbers-ascend, report-found, report_with, trail-all}
 use Rattle.wb_rows.proofs.KeptMoments.{draws-past, last-past}
 use Rattle.wb_rows.proofs.KeptReceipts.{receipts-apart}
@@ -206,7 +206,7 @@ module _ (k : Kept) (rs : List Report) (read : reports_of k.lists k.entries ≡ 
     set_up = up;
     registry = refl;
     keys = numbers-ascend t 0 rs order (λ r held here. from_one r held);
-    legal = cases-all k.lists t rs legal (λ c. is_legal (offset k.lists t) c.trail) (λ n e es held. held-true (is_legal_report k.lists) rs legal (report_with t n (e ∷ es)) held);
+    legal = cases-all k.lists t rs legal (λ c. is_legal (days k.lists t) c.trail) (λ n e es held. held-true (is_legal_report k.lists) rs legal (report_with t n (e ∷ es)) held);
     forms = cases-all k.lists t rs legal (λ c. is_some (form_of_trail c.trail offered)) (λ n e es held. is_there _ (form_of_trail (e ∷ es) offered) (one_public n e es held));
     named = cases-all k.lists t rs legal (λ c. list_all (is_named (registry_of k.lists t)) c.trail)
         (λ n e es held. trail-all (is_right_entry k.lists) (is_named (registry_of k.lists t)) t n (λ place x right. right_named k (record { tenant = t; number = n; place = place; entry = x }) right) 1 (e ∷ es) (in_trails (is_right_entry k.lists) rules.entries (report_with t n (e ∷ es)) held));

@@ -33,3 +33,12 @@ mod SealsBack
 mod ReceiptsBack
 mod ReportsBack
 pub mod TablesBack
+pub mod PutsBehind
+pub mod Parted
+mod DatedTrails
+mod LeftTables
+mod LeftItems
+mod LeftRows
+mod StoredItems
+mod StoredTables
+mod OpeningsReadable

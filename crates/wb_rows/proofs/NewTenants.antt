@@ -5,7 +5,7 @@ use Rattle.std.specs.Cmp.{nat_cmp_is}
 use Rattle.std.specs.List.{AllByRecursion}
 use Rattle.std.specs.Prelude.{filter}
 use Rattle.std.specs.declared.cmp.Ordering.TheVariants.{Less}
-use Rattle.wb_base.specs.FormJson.{form_data}
+use Rattle.wb_base.specs.FormJson.{kept_data}
 use Rattle.wb_base.specs.KeptRows.{all_changed}
 use Rattle.wb_base.specs.declared.rows.Change.TheVariants.{Put}
 use Rattle.wb_base.specs.declared.rows.Key.{Key}
@@ -14,7 +14,7 @@ use Rattle.wb_model.specs.declared.registry.ContextItem.{ContextItem}
 use Rattle.wb_model.specs.declared.registry.UserItem.{UserItem}
 use Rattle.wb_model.specs.Legal.{ascends}
 use Rattle.wb_model.specs.Opened.{AreOrdered, AreVersions}
-use Rattle.wb_model.specs.Rows.{row, user_data, context_data, trail_rows, sealed_rows, kinds, of_tenants, of_kinds, rows_of}
+use Rattle.wb_model.specs.Rows.{row, user_data, context_data, trail_rows, sealed_rows, kinds, of_tenants, of_kinds, tenants_rows}
 use Rattle.wb_model.specs.Settings.{form_key}
 use Rattle.wb_model.specs.Tenants.{Tenancy}
 use Rattle.wb_model.proofs.Found.{Held, held_append, held_filter}
@@ -55,7 +55,7 @@ new_ascends x new = (
     (
       rows_ascend (λ (u : UserItem). u.id) (λ u. row 3 x.id u.id 0 (user_data u)) x.tables.plain.registry.users (λ u v here there lt. number_below 3 x.id u.id 0 v.id 0 lt) new.1.users,
       (
-        rows_ascend form_key (λ f. row 4 x.id f.id f.version (form_data f.form)) x.tables.plain.registry.forms
+        rows_ascend form_key (λ f. row 4 x.id f.id f.version (kept_data f.form)) x.tables.plain.registry.forms
             (λ f g here there lt. numbers_order 4 x.id f.id f.version g.id g.version ∙ (versions_order f.id f.version g.id g.version (versions_held x.tables.plain.registry.forms f new.2 here) (versions_held x.tables.plain.registry.forms g new.2 there) ∙ sym (nat_cmp_is (form_key f) (form_key g) Less lt))) new.1.forms,
         (
           rows_ascend (λ (c : ContextItem). c.id) (λ c. row 5 x.id c.id 0 (context_data c)) x.tables.plain.registry.contexts (λ c d here there lt. number_below 5 x.id c.id 0 d.id 0 lt) new.1.contexts,
@@ -125,7 +125,7 @@ module _ (before after : List Tenancy) (x : Tenancy) (below : (b : Tenancy) → 
       joined : front ++ (f x ++ (back ++ rest)) ≡ made ++ rest
       joined = ap (λ l. front ++ l) (sym (append_assoc (f x) back rest)) ∙ (sym (append_assoc front (f x ++ back) rest) ∙ ap (λ l. l ++ rest) (sym (tenants_append f before (x ∷ after))))
 
-  pub one_put : IsNew x → all_changed (rows_of (before ++ after)) (tenant_put x) ≡ rows_of (before ++ (x ∷ after))
+  pub one_put : IsNew x → all_changed (tenants_rows (before ++ after)) (tenant_put x) ≡ tenants_rows (before ++ (x ∷ after))
   one_put new = kinds_put 1 kinds kinds_follow (new_ascends x new)
 
 -- ---- all of them
@@ -135,13 +135,13 @@ id_of x = x.id
 
 -- THE LAW of added tenants
 pub new_rows : (is_old : Tenancy → Bool) (done rest : List Tenancy) → ((b : Tenancy) → Held b done → (a : Tenancy) → Held a rest → b.id < a.id) → ascends (map id_of rest) ≡ true → ((x : Tenancy) → Held x rest → is_old x ≡ false → IsNew x)
-    → all_changed (rows_of (done ++ filter is_old rest)) (tenant_puts (filter (λ x. not (is_old x)) rest)) ≡ rows_of (done ++ rest)
+    → all_changed (tenants_rows (done ++ filter is_old rest)) (tenant_puts (filter (λ x. not (is_old x)) rest)) ≡ tenants_rows (done ++ rest)
 new_rows is_old done [] below up new = refl
 new_rows is_old done (x ∷ rest) below up new =
     by (is_old x) refl
-    (ap (λ l. all_changed (rows_of l) (tenant_puts added)) (sym (append_assoc done (x ∷ []) old))
+    (ap (λ l. all_changed (tenants_rows l) (tenant_puts added)) (sym (append_assoc done (x ∷ []) old))
     ∙ (new_rows is_old (done ++ x ∷ []) rest (λ b held. more_below b (held_append done (x ∷ []) b held)) (rest-ascends x.id (map id_of rest) up) (λ y held. new y (inr held))
-    ∙ ap rows_of (append_assoc done (x ∷ []) rest)))
+    ∙ ap tenants_rows (append_assoc done (x ∷ []) rest)))
   where
     old : List Tenancy
     old = filter is_old rest
@@ -157,9 +157,9 @@ new_rows is_old done (x ∷ rest) below up new =
     more_below b (inr (inl is)) a held = let same : b.id ≡ x.id = ap id_of is in let lt = above a held in omega (arith, same, lt)
     more_below b (inr (inr none)) a held = absurd none
 
-    by : (b : Bool) → is_old x ≡ b → all_changed (rows_of (done ++ (x ∷ old))) (tenant_puts added) ≡ rows_of (done ++ (x ∷ rest)) → all_changed (rows_of (done ++ cond b (x ∷ old) old)) (tenant_puts (cond (not b) (x ∷ added) added)) ≡ rows_of (done ++ (x ∷ rest))
+    by : (b : Bool) → is_old x ≡ b → all_changed (tenants_rows (done ++ (x ∷ old))) (tenant_puts added) ≡ tenants_rows (done ++ (x ∷ rest)) → all_changed (tenants_rows (done ++ cond b (x ∷ old) old)) (tenant_puts (cond (not b) (x ∷ added) added)) ≡ tenants_rows (done ++ (x ∷ rest))
     by true is more = more
     by false is more =
-        changed_append (rows_of (done ++ old)) (tenant_put x) (tenant_puts added)
+        changed_append (tenants_rows (done ++ old)) (tenant_put x) (tenant_puts added)
         ∙ (ap (λ l. all_changed l (tenant_puts added)) (one_put done old x (λ b held. below b held x (inl refl)) (λ a held. above a (held_filter is_old rest a held).0) (new x (inl refl) is))
         ∙ more)

@@ -14,7 +14,7 @@ use Rattle.wb_model.specs.Changes.{Notes}
 use Rattle.wb_model.specs.Host.{changed, noted, sealed_under}
 use Rattle.wb_model.specs.Json.{answers_data}
 use Rattle.wb_model.specs.Opened.{Ascend}
-use Rattle.wb_model.specs.Rows.{row, entry_data, entries_from, trail_rows, sealed_row, sealed_rows, rows_of}
+use Rattle.wb_model.specs.Rows.{row, entry_data, entries_from, trail_rows, sealed_row, sealed_rows, tenants_rows}
 use Rattle.wb_model.specs.Tables.{Case, has_number, report}
 use Rattle.wb_model.specs.Tenants.{Tenancy}
 use Rattle.wb_model.proofs.Found.{Held, find_held, find_true, other_number, same_number}
@@ -152,12 +152,12 @@ abbrev noted_one : ℕ → ℕ → Entry → Option Answered → Tenancy → Ten
 noted_one now n entry given y = record { id = y.id; tables = changed now (Notes n entry) given y.tables }
 
 module _ (before after : List Tenancy) (y : Tenancy) (below : (x : Tenancy) → Held x before → x.id < y.id) (above : (x : Tenancy) → Held x after → y.id < x.id) (ascend : Ascend 0 y.tables.plain.cases) (n : ℕ) (case : Case) (found : report n y.tables.plain.cases ≡ Some case) (now : ℕ) (entry : Entry) where
-  entry_put : put (rows_of (before ++ (y ∷ after))) (row 6 y.id n (length case.trail + 1) (entry_data entry)) ≡ rows_of (before ++ (noted_one now n entry None y ∷ after))
+  entry_put : put (tenants_rows (before ++ (y ∷ after))) (row 6 y.id n (length case.trail + 1) (entry_data entry)) ≡ tenants_rows (before ++ (noted_one now n entry None y ∷ after))
   entry_put =
       put_rows before after y (noted_one now n entry None y) below above 5 (row 6 y.id n (length case.trail + 1) (entry_data entry)) refl refl
       (refl, (refl, (refl, (refl, (refl, (entry_made y.id 0 n y.tables.plain.cases case entry ascend found, (sym (sealed_noted y.id n entry y.tables.sealed y.tables.plain.cases), tt)))))))
 
-  given_put : (answers : Answered) → put (rows_of (before ++ (noted_one now n entry None y ∷ after))) (row 7 y.id n 0 (answers_data answers)) ≡ rows_of (before ++ (noted_one now n entry (Some answers) y ∷ after))
+  given_put : (answers : Answered) → put (tenants_rows (before ++ (noted_one now n entry None y ∷ after))) (row 7 y.id n 0 (answers_data answers)) ≡ tenants_rows (before ++ (noted_one now n entry (Some answers) y ∷ after))
   given_put answers =
       put_rows before after (noted_one now n entry None y) (noted_one now n entry (Some answers) y) below above 6 (row 7 y.id n 0 (answers_data answers)) refl refl
       (refl, (refl, (refl, (refl, (refl, (refl, (made, tt)))))))
@@ -171,8 +171,8 @@ module _ (before after : List Tenancy) (y : Tenancy) (below : (x : Tenancy) → 
 -- THE LAW of one more entry: the rows after its row, and that of the identity answers that come with it, are the rows of the changed tables
 pub noted_rows : (before after : List Tenancy) (y : Tenancy) → ((x : Tenancy) → Held x before → x.id < y.id) → ((x : Tenancy) → Held x after → y.id < x.id) → Ascend 0 y.tables.plain.cases
     → (n : ℕ) (case : Case) → report n y.tables.plain.cases ≡ Some case → (now : ℕ) (entry : Entry) (given : Option Answered)
-    → all_changed (rows_of (before ++ (y ∷ after))) (Put (row 6 y.id n (length case.trail + 1) (entry_data entry)) ∷ sealed_put y.id n given)
-    ≡ rows_of (before ++ (record { id = y.id; tables = changed now (Notes n entry) given y.tables } ∷ after))
+    → all_changed (tenants_rows (before ++ (y ∷ after))) (Put (row 6 y.id n (length case.trail + 1) (entry_data entry)) ∷ sealed_put y.id n given)
+    ≡ tenants_rows (before ++ (record { id = y.id; tables = changed now (Notes n entry) given y.tables } ∷ after))
 noted_rows before after y below above ascend n case found now entry None = entry_put before after y below above ascend n case found now entry
 noted_rows before after y below above ascend n case found now entry (Some answers) =
     ap (λ l. put l (row 7 y.id n 0 (answers_data answers))) (entry_put before after y below above ascend n case found now entry)

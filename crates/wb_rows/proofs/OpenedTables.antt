@@ -11,13 +11,13 @@ use Rattle.wb_kinds.specs.Items.{is_in_range, item_row}
 use Rattle.wb_list.specs.Keyed.{IsAscending}
 use Rattle.wb_model.specs.KeptRules.{AreKept}
 use Rattle.wb_model.specs.Openings.{empty_tables, registry_of}
-use Rattle.wb_model.specs.Rows.{rows_of as rows_of_tenants}
+use Rattle.wb_model.specs.Rows.{own_rows_in as own_rows_of_tenants}
 use Rattle.wb_model.specs.SetUps.{has_tenant}
 use Rattle.wb_rows.specs.declared.items.Kept.{Kept}
 use Rattle.wb_row_rules.specs.Reports.{Report}
 use Rattle.wb_rows.specs.Held.{Held}
-use Rattle.wb_rows.specs.HeldRows.{rows_of}
-use Rattle.wb_rows.specs.Judged.{held as tables_read, judged}
+use Rattle.wb_rows.specs.HeldRows.{own_rows}
+use Rattle.wb_rows.specs.Judged.{held as tables_read, judged_in}
 use Rattle.wb_rows.specs.KeptItems.{kept_of}
 use Rattle.wb_rows.specs.ListRules.{has_tenant_rows}
 use Rattle.wb_rows.specs.Blame.{first_breaking}
@@ -37,16 +37,17 @@ use Rattle.wb_rows.proofs.RowsBack.{IsReadAs, is-read, rows-back}
 use Rattle.wb_rows.proofs.RowsByTenant.{AreParted, parted-rows}
 use Rattle.wb_rows.proofs.RulesHold.{none-blamed, rules-hold}
 use Rattle.wb_rows.proofs.TrailRows.{entries-back}
+use Rattle.wb_base.specs.declared.form.Format.{Format}
 
-module _ (rows : List Row) (h : Held) (all : List Item) (rs : List Report) (how : IsReadAs rows h all rs) (fits : list_all is_in_range all ≡ true) (sorted : IsStrictlySortedBy key_cmp (map item_key all)) where
+module _ (format : Format) (rows : List Row) (h : Held) (all : List Item) (rs : List Report) (how : IsReadAs format rows h all rs) (fits : list_all is_in_range all ≡ true) (sorted : IsStrictlySortedBy key_cmp (map item_key all)) where
   abbrev k : Kept
   k = kept_of all
 
-  are : map item_row all ≡ rows
-  are = rows_of_items rows all how.items
+  are : map (item_row format) all ≡ rows
+  are = rows_of_items format rows all how.items
 
   owned : AreOwned k
-  owned = owned-rows rows all are (none-blamed 1 (first_breaking (has_tenant_rows k.lists k.numberings) key_of rows) _ how.lists).0
+  owned = owned-rows format rows all are (none-blamed 1 (first_breaking (has_tenant_rows k.lists k.numberings) key_of rows) _ how.lists).0
 
   ascend : IsAscending pair_cmp report_place rs
   ascend = reports_ascend k.lists k.entries rs (entries-order all fits sorted) how.reports
@@ -57,7 +58,7 @@ module _ (rows : List Row) (h : Held) (all : List Item) (rs : List Report) (how 
       (subst (λ l. list_all (λ (x : EntryItem). has_tenant k.lists x.tenant) l ≡ true) (entries-back k.lists k.entries rs how.reports) owned.entries)
 
   kept : (t : ℕ) → AreKept (time_of (tables_read k rs)) k.lists t (tables_of (tables_read k rs) t)
-  kept t = are-kept k rs how.reports (rules-hold k rs how.rules) ascend (entries-fit all fits) t (set-up rows all are fits sorted how.lists)
+  kept t = are-kept k rs how.reports (rules-hold k rs how.rules) ascend (entries-fit all fits) t (set-up format rows all are fits sorted how.lists)
 
   parted : AreParted (tables_read k rs)
   parted = record {
@@ -81,26 +82,26 @@ module _ (rows : List Row) (h : Held) (all : List Item) (rs : List Report) (how 
   others-read = subst (λ (x : Held). (t : ℕ) → has_tenant x.lists t ≡ false → tables_of x t ≡ empty_tables (registry_of x.lists t)) how.held (none-held k rs owned reports_owned)
 
   -- the rows of the tenants that are there are the rows of all that is held
-  pub whole-read : rows_of_tenants (tenancies_of h) ≡ rows_of h
-  whole-read = subst (λ (x : Held). rows_of_tenants (tenancies_of x) ≡ rows_of x) how.held (parted-rows (tables_read k rs) parted)
+  pub whole-read : own_rows_of_tenants format (tenancies_of h) ≡ own_rows format h
+  whole-read = subst (λ (x : Held). own_rows_of_tenants format (tenancies_of x) ≡ own_rows format x) how.held (parted-rows format (tables_read k rs) parted)
 
 -- ---- rows that are read
 
-module _ (rows : List Row) (h : Held) (sorted : IsStrictlySortedBy key_cmp (map key_of rows)) (fits : (all : List Item) → items_in rows ≡ Ok all → list_all is_in_range all ≡ true) (is : judged rows ≡ Ok h) where
+module _ (format : Format) (rows : List Row) (h : Held) (sorted : IsStrictlySortedBy key_cmp (map key_of rows)) (fits : (all : List Item) → items_in format rows ≡ Ok all → list_all is_in_range all ≡ true) (is : judged_in format rows ≡ Ok h) where
   pub read-kept : (t : ℕ) → AreKept (time_of h) h.lists t (tables_of h t)
   read-kept t =
-      let parts = is-read rows h is in
+      let parts = is-read format rows h is in
       let how = parts.1.1 in
-      kept-read rows h parts.0 parts.1.0 how (fits parts.0 how.items) (items_ascend rows parts.0 how.items sorted) t
+      kept-read format rows h parts.0 parts.1.0 how (fits parts.0 how.items) (items_ascend format rows parts.0 how.items sorted) t
 
   pub read-others : (t : ℕ) → has_tenant h.lists t ≡ false → tables_of h t ≡ empty_tables (registry_of h.lists t)
   read-others t absent =
-      let parts = is-read rows h is in
+      let parts = is-read format rows h is in
       let how = parts.1.1 in
-      others-read rows h parts.0 parts.1.0 how (fits parts.0 how.items) (items_ascend rows parts.0 how.items sorted) t absent
+      others-read format rows h parts.0 parts.1.0 how (fits parts.0 how.items) (items_ascend format rows parts.0 how.items sorted) t absent
 
-  pub read-whole : rows_of_tenants (tenancies_of h) ≡ rows
+  pub read-whole : own_rows_of_tenants format (tenancies_of h) ≡ rows
   read-whole =
-      let parts = is-read rows h is in
+      let parts = is-read format rows h is in
       let how = parts.1.1 in
-      whole-read rows h parts.0 parts.1.0 how (fits parts.0 how.items) (items_ascend rows parts.0 how.items sorted) ∙ rows-back rows h sorted fits is
+      whole-read format rows h parts.0 parts.1.0 how (fits parts.0 how.items) (items_ascend format rows parts.0 how.items sorted) ∙ rows-back format rows h sorted fits is

@@ -23,8 +23,10 @@ use Rattle.wb_rows.specs.Blame.{first_breaking}
 use Rattle.wb_rows.specs.KeptItems.{context_in, entry_in, form_in, kept_of, numbering_in, sealed_in, tenant_in, user_in}
 use Rattle.wb_rows.specs.ListRules.{has_tenant_rows}
 use Rattle.wb_rows.proofs.FitItems.{picked}
-use Rattle.wb_rows.proofs.ItemOrder.{context_key, entry_item_key, form_key, item_key, numbering_key, sealed_key, tenant_key, user_key}
+use Rattle.wb_rows.proofs.ItemOrder.{key_in, context_key, entry_item_key, form_key, item_key, numbering_key, sealed_key, tenant_key, user_key}
 use Rattle.wb_rows.proofs.RulesHold.{none-breaking}
+use Rattle.wb_base.specs.declared.form.Format.{Format}
+use Rattle.wb_base.specs.declared.form.Format.TheVariants.{Weighed}
 
 pub all_from : {X : Type 0} (f g : X → Bool) → ((x : X) → f x ≡ true → g x ≡ true) → (xs : List X) → list_all f xs ≡ true → list_all g xs ≡ true
 all_from f g so [] holds = refl
@@ -55,9 +57,9 @@ row_owned lists numberings row holds = holds
 tenant_of : (k m : Key) → k ≡ m → k.tenant ≡ m.tenant
 tenant_of k m e = ap (λ (q : Key). q.tenant) e
 
-module _ (lists : Lists) (numberings : List NumberingItem) (all : List Item) (there : list_all (λ i. has_tenant_rows lists numberings (item_row i)) all ≡ true) {X : Type 0} (pick : Item → Option X) (tenant : X → ℕ) (own : (i : Item) (x : X) → pick i ≡ Some x → (item_key i).tenant ≡ tenant x) where
+module _ (lists : Lists) (numberings : List NumberingItem) (all : List Item) (there : list_all (λ i. has_tenant_rows lists numberings (item_row Weighed i)) all ≡ true) {X : Type 0} (pick : Item → Option X) (tenant : X → ℕ) (own : (i : Item) (x : X) → pick i ≡ Some x → (item_key i).tenant ≡ tenant x) where
   have_both : list_all (λ x. has_both lists numberings (tenant x)) (filter_map pick all) ≡ true
-  have_both = picked (λ i. has_tenant_rows lists numberings (item_row i)) pick (λ x. has_both lists numberings (tenant x)) (λ i x given is. ap (has_both lists numberings) (sym (own i x is)) ∙ row_owned lists numberings (item_row i) given) all there
+  have_both = picked (λ i. has_tenant_rows lists numberings (item_row Weighed i)) pick (λ x. has_both lists numberings (tenant x)) (λ i x given is. ap (has_both lists numberings) (sym (own i x is)) ∙ row_owned lists numberings (item_row Weighed i) given) all there
 
   have_tenant : list_all (λ x. has_tenant lists (tenant x)) (filter_map pick all) ≡ true
   have_tenant = all_from (λ x. has_both lists numberings (tenant x)) (λ x. has_tenant lists (tenant x)) (λ x both. (and_parts (has_tenant lists (tenant x)) (has_numbering numberings (tenant x)) both).0) (filter_map pick all) have_both
@@ -65,11 +67,20 @@ module _ (lists : Lists) (numberings : List NumberingItem) (all : List Item) (th
   have_numbering : list_all (λ x. has_numbering numberings (tenant x)) (filter_map pick all) ≡ true
   have_numbering = all_from (λ x. has_both lists numberings (tenant x)) (λ x. has_numbering numberings (tenant x)) (λ x both. (and_parts (has_tenant lists (tenant x)) (has_numbering numberings (tenant x)) both).1) (filter_map pick all) have_both
 
-pub owned-rows : (rows : List Row) (all : List Item) → map item_row all ≡ rows → first_breaking (has_tenant_rows (kept_of all).lists (kept_of all).numberings) key_of rows ≡ None → AreOwned (kept_of all)
-owned-rows rows all are none =
+-- a row's key says of whom it is, in each format
+same_owned : (lists : Lists) (numberings : List NumberingItem) (format : Format) (i : Item) → has_tenant_rows lists numberings (item_row format i) ≡ has_tenant_rows lists numberings (item_row Weighed i)
+unfolding has_tenant_rows
+same_owned lists numberings format i = ap (λ (k : Key). has_tenant lists k.tenant && list_any (λ x. x.tenant == k.tenant) numberings) (key_in format i)
+
+all_owned : (lists : Lists) (numberings : List NumberingItem) (format : Format) (all : List Item) → list_all (λ i. has_tenant_rows lists numberings (item_row Weighed i)) all ≡ list_all (λ i. has_tenant_rows lists numberings (item_row format i)) all
+all_owned lists numberings format [] = refl
+all_owned lists numberings format (i ∷ is) = rw (same_owned lists numberings format i, all_owned lists numberings format is) refl
+
+pub owned-rows : (format : Format) (rows : List Row) (all : List Item) → map (item_row format) all ≡ rows → first_breaking (has_tenant_rows (kept_of all).lists (kept_of all).numberings) key_of rows ≡ None → AreOwned (kept_of all)
+owned-rows format rows all are none =
     let lists = (kept_of all).lists in
     let numberings = (kept_of all).numberings in
-    let there = sym (list_all-map (has_tenant_rows lists numberings) item_row all) ∙ (ap (list_all (has_tenant_rows lists numberings)) are ∙ none-breaking (has_tenant_rows lists numberings) key_of rows none) in
+    let there = all_owned lists numberings format all ∙ sym (list_all-map (has_tenant_rows lists numberings) (item_row format) all) ∙ (ap (list_all (has_tenant_rows lists numberings)) are ∙ none-breaking (has_tenant_rows lists numberings) key_of rows none) in
     record {
       numbered = have_numbering lists numberings all there tenant_in (λ (x : TenantItem). x.tenant) (λ i x e. tenant_of _ _ (tenant_key i x e));
       numberings = have_tenant lists numberings all there numbering_in (λ (x : NumberingItem). x.tenant) (λ i x e. tenant_of _ _ (numbering_key i x e));

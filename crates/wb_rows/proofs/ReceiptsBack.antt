@@ -15,7 +15,7 @@ use Rattle.wb_row_rules.specs.Reports.{Report}
 use Rattle.wb_rows.specs.HeldItems.{entry_items, trail_items}
 use Rattle.wb_rows.specs.Openings.{case_of, cases_of}
 use Rattle.wb_row_rules.specs.ReportRules.{is_same_receipt, same_receipt}
-use Rattle.wb_row_rules.specs.TrailRule.{is_legal_report, offset}
+use Rattle.wb_row_rules.specs.TrailRule.{is_legal_report, days}
 use Rattle.wb_rows.proofs.KeptReceipts.{item, same_submission}
 use Rattle.wb_rows.proofs.WholeTrails.{AreSilent, begins_so}
 
@@ -93,7 +93,7 @@ module _ (lists : Lists) where
           → list_any (same_receipt (item t n e)) (trail_items u m 1 trail ++ entry_items rs) ≡ false
       by u m [] own apart rest = absurd (false≢true own)
       by u m (f ∷ fs) own apart rest =
-          let begun = begins_so (offset lists u) f fs own in
+          let begun = begins_so (days lists u) f fs own in
           let both = one_other t u n m e f es fs rs first begun.0 silent begun.1 apart in
           rw both.0 (list_any-append (same_receipt (item t n e)) (trail_items u m 2 fs) (entry_items rs) ∙ rw (none_silent (item t n e) u m 2 fs begun.1) (rest both.1))
 
@@ -121,7 +121,7 @@ module _ (lists : Lists) where
       by : (t n : ℕ) (trail : List Entry) → is_legal_report lists (report_at t n trail) ≡ true → are_apart same_case (cases_of (report_at t n trail ∷ rs) t) ≡ true → are_apart same_receipt (entry_items rs) ≡ true → are_apart same_receipt (trail_items t n 1 trail ++ entry_items rs) ≡ true
       by t n [] own one rest = absurd (false≢true own)
       by t n (e ∷ es) own one rest =
-          let begun = begins_so (offset lists t) e es own in
+          let begun = begins_so (days lists t) e es own in
           let later = none_later t n e es rs begun.0 begun.1 (and_parts (is_legal_report lists r) (list_all (is_legal_report lists) rs) legal).1 (head_apart t n (e ∷ es) rs one) in
           let none : list_any (same_receipt (item t n e)) (trail_items t n 2 es ++ entry_items rs) ≡ false =
           list_any-append (same_receipt (item t n e)) (trail_items t n 2 es) (entry_items rs) ∙ rw (none_silent (item t n e) t n 2 es begun.1) later in

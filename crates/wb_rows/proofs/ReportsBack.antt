@@ -29,7 +29,7 @@ use Rattle.wb_rows.specs.Held.{Held}
 use Rattle.wb_rows.specs.HeldItems.{entry_items, report_items, sealed_item, sealed_items, trail_items}
 use Rattle.wb_rows.specs.Openings.{case_of, cases_of, numbering_of}
 use Rattle.wb_row_rules.specs.ReportRules.{are_late_answers, has_its_seal, has_right_answers, is_by_draw, is_drawn, is_late_after, is_numbering_of, is_report, is_right_entry, is_right_numbering, is_right_seal}
-use Rattle.wb_row_rules.specs.TrailRule.{is_legal_report, offset}
+use Rattle.wb_row_rules.specs.TrailRule.{is_legal_report, days}
 use Rattle.wb_rows.proofs.Ascending.{in-above, in-map, rest-ascends}
 use Rattle.wb_rows.proofs.HeldReports.{all-true, found-own, held-true, report-found}
 use Rattle.wb_rows.proofs.ItemsBack.{kept_by}
@@ -164,7 +164,7 @@ module _ (at : ℕ) (h : Held) (good : AreGood at h) where
   of_case test r held all = held-true test (cases_of rs r.tenant) all (case_of r) (own_case r held)
 
   pub all-legal : list_all (is_legal_report h.lists) rs ≡ true
-  all-legal = all-true (is_legal_report h.lists) rs (λ r held. of_case (λ c. is_legal (offset h.lists r.tenant) c.trail) r held (good.kept r.tenant).legal)
+  all-legal = all-true (is_legal_report h.lists) rs (λ r held. of_case (λ c. is_legal (days h.lists r.tenant) c.trail) r held (good.kept r.tenant).legal)
 
   -- what is so of the entries of each trail, which begins with a submission, and has no other
   by_trails : (test : EntryItem → Bool) → ((t n : ℕ) (e : Entry) (es : List Entry) → In (report_with t n (e ∷ es)) rs → AreSilent es → list_all test (trail_items t n 1 (e ∷ es)) ≡ true) → list_all test (entry_items rs) ≡ true
@@ -172,7 +172,7 @@ module _ (at : ℕ) (h : Held) (good : AreGood at h) where
     where
       by : (t n : ℕ) (trail : List Entry) → In (report_with t n trail) rs → list_all test (trail_items t n 1 trail) ≡ true
       by t n [] held = refl
-      by t n (e ∷ es) held = so t n e es held (begins_so (offset h.lists t) e es (held-true (is_legal_report h.lists) rs all-legal (report_with t n (e ∷ es)) held)).1
+      by t n (e ∷ es) held = so t n e es held (begins_so (days h.lists t) e es (held-true (is_legal_report h.lists) rs all-legal (report_with t n (e ∷ es)) held)).1
 
   right_entries : list_all (is_right_entry h.lists) (entry_items rs) ≡ true
   right_entries = by_trails (is_right_entry h.lists) one
@@ -238,7 +238,7 @@ module _ (at : ℕ) (h : Held) (good : AreGood at h) where
   right_seal t n trail held None is = refl
   right_seal t n [] held (Some given) is = absurd (false≢true (held-true (is_legal_report h.lists) rs all-legal (report_with t n []) held))
   right_seal t n (e ∷ es) held (Some given) is =
-      let begins = begins_so (offset h.lists t) e es (held-true (is_legal_report h.lists) rs all-legal (report_with t n (e ∷ es)) held) in
+      let begins = begins_so (days h.lists t) e es (held-true (is_legal_report h.lists) rs all-legal (report_with t n (e ∷ es)) held) in
       let mark : has_identity (e ∷ es) ≡ true = sym (own_marks (report_with t n (e ∷ es)) held) ∙ ap (λ (o : Option Answered). is_some o) is in
       let valid : are_valid_after (offered t) (e ∷ es) (Some given) ≡ true = ap (are_valid_after (offered t) (e ∷ es)) (sym is) ∙ of_case (λ c. are_valid_after (offered t) c.trail (h.sealed t c.number)) (report_with t n (e ∷ es)) held (good.kept t).sealed in
       let late = late_again t given e es begins.0 begins.1 valid in

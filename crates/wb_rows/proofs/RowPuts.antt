@@ -12,7 +12,7 @@ use Rattle.wb_base.specs.KeptRows.{key_cmp}
 use Rattle.wb_base.specs.declared.rows.Key.{Key}
 use Rattle.wb_base.specs.declared.rows.Row.{Row}
 use Rattle.wb_model.specs.declared.entry.Entry.{Entry}
-use Rattle.wb_model.specs.Rows.{entries_from, trail_rows, sealed_row, sealed_rows, kinds, of_tenants, of_kinds, rows_of}
+use Rattle.wb_model.specs.Rows.{entries_from, trail_rows, sealed_row, sealed_rows, kinds, of_tenants, of_kinds, tenants_rows}
 use Rattle.wb_model.specs.Tables.{Case}
 use Rattle.wb_model.specs.Tenants.{Tenancy}
 use Rattle.wb_model.proofs.Found.{Held}
@@ -203,5 +203,5 @@ module _ (before after : List Tenancy) (y z : Tenancy) (below : (b : Tenancy) �
 
 -- THE LAW of a row of a tenant: where it makes of the tenant's rows those of another state of the tenant, it makes of the host's rows those with that state
 pub put_rows : (before after : List Tenancy) (y z : Tenancy) → ((b : Tenancy) → Held b before → b.id < y.id) → ((b : Tenancy) → Held b after → y.id < b.id)
-    → (place : ℕ) (x : Row) → x.key.kind ≡ 1 + place → x.key.tenant ≡ y.id → Makes place kinds x y z → put (rows_of (before ++ (y ∷ after))) x ≡ rows_of (before ++ (z ∷ after))
+    → (place : ℕ) (x : Row) → x.key.kind ≡ 1 + place → x.key.tenant ≡ y.id → Makes place kinds x y z → put (tenants_rows (before ++ (y ∷ after))) x ≡ tenants_rows (before ++ (z ∷ after))
 put_rows before after y z below above place x is here makes = kinds_made before after y z below above 1 place kinds x kinds_follow is here makes

@@ -7,7 +7,7 @@ use Rattle.std.specs.Ordering.{nat_cmp}
 use Rattle.std.specs.Prelude.{◌==◌, ◌||◌, is_some, unwrap_or}
 use Rattle.std.specs.declared.cmp.Ordering.TheVariants.{Less}
 use Rattle.wb_base.specs.AnswerList.{Answered}
-use Rattle.wb_base.specs.FormJson.{form_data}
+use Rattle.wb_base.specs.FormJson.{form_in}
 use Rattle.wb_base.specs.declared.rows.Row.{Row}
 use Rattle.wb_custody.specs.SealedAnswers.{pair_cmp}
 use Rattle.wb_kinds.specs.declared.item.NumberingItem.{NumberingItem}
@@ -19,7 +19,7 @@ use Rattle.wb_model.specs.declared.registry.UserItem.{UserItem}
 use Rattle.wb_model.specs.Legal.{ascends}
 use Rattle.wb_model.specs.Openings.{no_settings}
 use Rattle.wb_model.specs.Rows as model_rows
-use Rattle.wb_model.specs.Rows.{row, settings_data, numbering_data, user_data, context_data, entries_from, of_tenants, settings_rows, numbering_rows, user_rows, form_rows, context_rows, entry_rows, answer_rows}
+use Rattle.wb_model.specs.Rows.{row, settings_data, numbering_data, user_data, context_data, entries_from, of_tenants, settings_rows, numbering_rows, user_rows, form_rows_in, context_rows, entry_rows, answer_rows}
 use Rattle.wb_model.specs.Settings.{form_key}
 use Rattle.wb_model.specs.SetUps.{has_tenant, tenant_ids}
 use Rattle.wb_model.specs.Tenants.{Tenancy}
@@ -28,7 +28,7 @@ use Rattle.wb_model.proofs.KindRows.{each}
 use Rattle.wb_model.proofs.TurnRows.{map_held}
 use Rattle.wb_row_rules.specs.Reports.{Report}
 use Rattle.wb_rows.specs.Held.{Held}
-use Rattle.wb_rows.specs.HeldRows.{settings_row, numbering_row, user_row, form_row, context_row, trail_rows, sealed_rows, rows_of}
+use Rattle.wb_rows.specs.HeldRows.{settings_row, numbering_row, user_row, form_row, context_row, trail_rows, sealed_rows, own_rows}
 use Rattle.wb_rows.specs.Openings.{case_of, tenancies_of, tenancy_of}
 use Rattle.wb_row_rules.specs.Places.{report_place}
 use Rattle.wb_row_rules.specs.ReportRules.{is_numbering_of}
@@ -40,6 +40,7 @@ use Rattle.wb_rows.proofs.TenantParts.{Rise, are-of, is_of, rises, rows-by-tenan
 use Rattle.wb_setup.specs.Keys.{AreInOrder, key_cmp}
 use Rattle.wb_setup.proofs.Orders.{ids_ascend}
 use Rattle.wb_tenants.proofs.TenantRuns.{not_above}
+use Rattle.wb_base.specs.declared.form.Format.{Format}
 
 -- what is held is in order, and of tenants that are there, each of which has its numbering
 pub record AreParted (h : Held) : Type 0 where
@@ -105,9 +106,20 @@ own_sealed : (sealed : ℕ → ℕ → Option Answered) (rs : List Report) → s
 own_sealed sealed [] = refl
 own_sealed sealed (r ∷ rs) = ap (λ l. model_rows.sealed_row r.tenant r.number (sealed r.tenant r.number) ++ l) (own_sealed sealed rs)
 
+-- ---- forms
+
+pub forms-by-tenant : (format : Format) (h : Held) → AreInOrder h.lists → list_all (λ (x : FormItem). has_tenant h.lists x.tenant) h.lists.forms ≡ true → of_tenants (form_rows_in format) (tenancies_of h) ≡ map (form_row format) h.lists.forms
+forms-by-tenant format h order owned =
+    of_each_tenant h (form_rows_in format) (tenant_ids h.lists)
+    ∙ (rows-by-tenant (λ (x : FormItem). x.tenant) (λ t x. row 4 t x.id x.version (form_in format x.form) ∷ []) (λ t. form_rows_in format (tenancy_of h t)) (tenant_ids h.lists) h.lists.forms (ids_ascend (tenant_ids h.lists) order.tenants)
+    (rises (λ (x : FormItem). x.tenant) key_cmp (λ (x : FormItem). (x.tenant, form_key x)) (λ x y less. not_above x.tenant y.tenant (nat_cmp (form_key x) (form_key y)) less) h.lists.forms order.forms)
+    (are-of (λ (x : FormItem). x.tenant) h.lists h.lists.forms owned)
+    (λ t held. map_each (λ (x : FormItem). row 4 t x.id x.version (form_in format x.form)) (filter (is_of (λ (x : FormItem). x.tenant) t) h.lists.forms))
+    ∙ sym (map_each (form_row format) h.lists.forms))
+
 -- ---- kind by kind
 
-module _ (h : Held) (parted : AreParted h) where
+module _ (format : Format) (h : Held) (parted : AreParted h) where
   abbrev ids : List ℕ
   ids = tenant_ids h.lists
 
@@ -152,14 +164,8 @@ module _ (h : Held) (parted : AreParted h) where
       (λ t held. map_each (λ (x : UserItem). row 3 t x.id 0 (user_data x)) (filter (is_of (λ (x : UserItem). x.tenant) t) h.lists.users))
       ∙ sym (map_each user_row h.lists.users))
 
-  forms_kind : of_kind form_rows ≡ map form_row h.lists.forms
-  forms_kind =
-      of_each_tenant h form_rows ids
-      ∙ (rows-by-tenant (λ (x : FormItem). x.tenant) (λ t x. row 4 t x.id x.version (form_data x.form) ∷ []) (λ t. form_rows (tenancy_of h t)) ids h.lists.forms up
-      (rises (λ (x : FormItem). x.tenant) key_cmp (λ (x : FormItem). (x.tenant, form_key x)) (λ x y less. not_above x.tenant y.tenant (nat_cmp (form_key x) (form_key y)) less) h.lists.forms parted.lists.forms)
-      (are-of (λ (x : FormItem). x.tenant) h.lists h.lists.forms parted.forms_owned)
-      (λ t held. map_each (λ (x : FormItem). row 4 t x.id x.version (form_data x.form)) (filter (is_of (λ (x : FormItem). x.tenant) t) h.lists.forms))
-      ∙ sym (map_each form_row h.lists.forms))
+  forms_kind : of_kind (form_rows_in format) ≡ map (form_row format) h.lists.forms
+  forms_kind = forms-by-tenant format h parted.lists parted.forms_owned
 
   contexts_kind : of_kind context_rows ≡ map context_row h.lists.contexts
   contexts_kind =
@@ -191,10 +197,10 @@ module _ (h : Held) (parted : AreParted h) where
 
   -- ---- the whole
 
-  pub parted-rows : model_rows.rows_of (tenancies_of h) ≡ rows_of h
+  pub parted-rows : model_rows.own_rows_in format (tenancies_of h) ≡ own_rows format h
   parted-rows =
       (λ i. settings_kind i ++ (numberings_kind i ++ (users_kind i ++ (forms_kind i ++ (contexts_kind i ++ (entries_kind i ++ answers_last i))))))
-      ∙ sym (together (map settings_row h.lists.tenants) (map numbering_row h.numberings) (map user_row h.lists.users) (map form_row h.lists.forms) (map context_row h.lists.contexts) (trail_rows h.reports) (sealed_rows h.sealed h.reports))
+      ∙ sym (together (map settings_row h.lists.tenants) (map numbering_row h.numberings) (map user_row h.lists.users) (map (form_row format) h.lists.forms) (map context_row h.lists.contexts) (trail_rows h.reports) (sealed_rows h.sealed h.reports))
     where
       answers_last : of_kind answer_rows ++ [] ≡ sealed_rows h.sealed h.reports
       answers_last = append-nil (of_kind answer_rows) ∙ answers_kind

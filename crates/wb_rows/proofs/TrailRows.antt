@@ -11,7 +11,7 @@ use Rattle.wb_model.specs.Rows.{row, entry_data, entries_from}
 use Rattle.wb_row_rules.specs.Reports.{Report}
 use Rattle.wb_rows.specs.HeldItems.{trail_items, report_items, entry_items}
 use Rattle.wb_rows.specs.HeldRows.{trail_rows}
-use Rattle.wb_row_rules.specs.TrailRule.{offset, begun, continued, is_of, begins, goes_on, reports_after, reports_of}
+use Rattle.wb_row_rules.specs.TrailRule.{days, begun, continued, is_of, begins, goes_on, reports_after, reports_of}
 use Rattle.wb_rows.proofs.ItemKinds.{entry_row}
 use Rattle.wb_rows.proofs.ReportOrder.{on_entry, on_first}
 
@@ -28,7 +28,7 @@ continued_items : (lists : Lists) (r : Report) (x : EntryItem) → is_of r x ≡
 unfolding goes_on
 continued_items lists r x own on =
     let same = and_parts (r.tenant == x.tenant) (r.number == x.number) own in
-    let next = and_parts (x.place == length r.trail + 1) (is_next (offset lists r.tenant) (last_at 0 r.trail) r.trail x.entry) on in
+    let next = and_parts (x.place == length r.trail + 1) (is_next (days lists r.tenant) (last_at 0 r.trail) r.trail x.entry) on in
     let place : x.place ≡ length r.trail + 1 = eqb-true x.place (length r.trail + 1) next.0 in
     one_more r.tenant r.number 1 x.place r.trail x.entry (omega (arith, place))
     ∙ (λ i. report_items r ++ record { tenant = eqb-true r.tenant x.tenant same.0 i; number = eqb-true r.number x.number same.1 i; place = x.place; entry = x.entry } ∷ [])
@@ -36,7 +36,7 @@ continued_items lists r x own on =
 begun_items : (lists : Lists) (x : EntryItem) → begins lists x ≡ true → report_items (begun x) ≡ x ∷ []
 unfolding begins
 begun_items lists x first =
-    let parts = and_parts (x.place == 1) (is_first (offset lists x.tenant) x.entry) first in
+    let parts = and_parts (x.place == 1) (is_first (days lists x.tenant) x.entry) first in
     ap (λ (k : ℕ). record { tenant = x.tenant; number = x.number; place = k; entry = x.entry } ∷ []) (sym (eqb-true x.place 1 parts.0))
 
 after_items : (lists : Lists) (r : Report) (xs : List EntryItem) (rs : List Report) → reports_after lists r xs ≡ Ok rs → report_items r ++ xs ≡ entry_items rs

@@ -15,7 +15,7 @@ use Rattle.wb_model.specs.Legal.{is_first, is_next, legal_from, last_at}
 use Rattle.wb_row_rules.specs.Reports.{Report}
 use Rattle.wb_rows.specs.HeldItems.{entry_items, trail_items}
 use Rattle.wb_row_rules.specs.Places.{report_place}
-use Rattle.wb_row_rules.specs.TrailRule.{begins, begun, goes_on, is_legal_report, is_of, offset, reports_after, reports_of}
+use Rattle.wb_row_rules.specs.TrailRule.{begins, begun, goes_on, is_legal_report, is_of, days, reports_after, reports_of}
 use Rattle.wb_rows.proofs.SealedRows.{other_place}
 
 last_of : (time : ℕ) (before : List Entry) (e : Entry) → last_at time (before ++ e ∷ []) ≡ e.at
@@ -26,29 +26,29 @@ abbrev with_trail : ℕ → ℕ → List Entry → Report
 with_trail t n trail = record { tenant = t; number = n; trail = trail }
 
 -- an entry at the next place goes on
-next_goes : (lists : Lists) (t n place : ℕ) (before : List Entry) (e : Entry) → place ≡ length before + 1 → is_next (offset lists t) (last_at 0 before) before e ≡ true → goes_on lists (with_trail t n before) (record { tenant = t; number = n; place = place; entry = e }) ≡ true
+next_goes : (lists : Lists) (t n place : ℕ) (before : List Entry) (e : Entry) → place ≡ length before + 1 → is_next (days lists t) (last_at 0 before) before e ≡ true → goes_on lists (with_trail t n before) (record { tenant = t; number = n; place = place; entry = e }) ≡ true
 unfolding goes_on
-next_goes lists t n place before e is next = and_from (place == length before + 1) (is_next (offset lists t) (last_at 0 before) before e) (eq-eqb place (length before + 1) is) next
+next_goes lists t n place before e is next = and_from (place == length before + 1) (is_next (days lists t) (last_at 0 before) before e) (eq-eqb place (length before + 1) is) next
 
 -- the entries that are left of a trail are read
-rest_read : (lists : Lists) (t n place : ℕ) (before es : List Entry) (more : List EntryItem) → place ≡ length before + 1 → legal_from (offset lists t) (last_at 0 before) before es ≡ true → reports_after lists (with_trail t n before) (trail_items t n place es ++ more) ≡ reports_after lists (with_trail t n (before ++ es)) more
+rest_read : (lists : Lists) (t n place : ℕ) (before es : List Entry) (more : List EntryItem) → place ≡ length before + 1 → legal_from (days lists t) (last_at 0 before) before es ≡ true → reports_after lists (with_trail t n before) (trail_items t n place es ++ more) ≡ reports_after lists (with_trail t n (before ++ es)) more
 rest_read lists t n place before [] more is legal = ap (λ l. reports_after lists (with_trail t n l) more) (sym (append-nil before))
 rest_read lists t n place before (e ∷ es) more is legal =
-    let parts = and_parts (is_next (offset lists t) (last_at 0 before) before e) (legal_from (offset lists t) e.at (before ++ e ∷ []) es) legal in
+    let parts = and_parts (is_next (days lists t) (last_at 0 before) before e) (legal_from (days lists t) e.at (before ++ e ∷ []) es) legal in
     let grown = length-append before (e ∷ []) in
     let next : place + 1 ≡ length (before ++ e ∷ []) + 1 = omega (arith, is, grown) in
-    let later : legal_from (offset lists t) (last_at 0 (before ++ e ∷ [])) (before ++ e ∷ []) es ≡ true = ap (λ m. legal_from (offset lists t) m (before ++ e ∷ []) es) (last_of 0 before e) ∙ parts.1 in
+    let later : legal_from (days lists t) (last_at 0 (before ++ e ∷ [])) (before ++ e ∷ []) es ≡ true = ap (λ m. legal_from (days lists t) m (before ++ e ∷ []) es) (last_of 0 before e) ∙ parts.1 in
     rw (eq-eqb t t refl, eq-eqb n n refl, next_goes lists t n place before e is parts.0)
     (rest_read lists t n (place + 1) (before ++ e ∷ []) es more next later ∙ ap (λ l. reports_after lists (with_trail t n l) more) (append_assoc before (e ∷ []) es))
 
-first_begins : (lists : Lists) (t n : ℕ) (e : Entry) → is_first (offset lists t) e ≡ true → begins lists (record { tenant = t; number = n; place = 1; entry = e }) ≡ true
+first_begins : (lists : Lists) (t n : ℕ) (e : Entry) → is_first (days lists t) e ≡ true → begins lists (record { tenant = t; number = n; place = 1; entry = e }) ≡ true
 unfolding begins
-first_begins lists t n e first = and_from (1 == 1) (is_first (offset lists t) e) (eq-eqb 1 1 refl) first
+first_begins lists t n e first = and_from (1 == 1) (is_first (days lists t) e) (eq-eqb 1 1 refl) first
 
 -- the entries of a whole trail are read as its report
 module _ (lists : Lists) (t n : ℕ) (e : Entry) (es : List Entry) (legal : is_legal_report lists (with_trail t n (e ∷ es)) ≡ true) where
-  parts : (is_first (offset lists t) e ≡ true) × (legal_from (offset lists t) e.at (e ∷ []) es ≡ true)
-  parts = and_parts (is_first (offset lists t) e) (legal_from (offset lists t) e.at (e ∷ []) es) legal
+  parts : (is_first (days lists t) e ≡ true) × (legal_from (days lists t) e.at (e ∷ []) es ≡ true)
+  parts = and_parts (is_first (days lists t) e) (legal_from (days lists t) e.at (e ∷ []) es) legal
 
   abbrev one : EntryItem
   one = record { tenant = t; number = n; place = 1; entry = e }

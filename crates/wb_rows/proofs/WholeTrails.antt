@@ -1,5 +1,5 @@
 -- A legal trail begins with its submission, and no later entry is one: what it says of the submission is what its first entry says.
-use Rattle.std.proofs.Common.{◌≡◌, ℕ, true, false, not, List, [], ◌∷◌, ◌++◌, Option, Some, None, refl, ◌∙◌, ℤ, option_map}
+use Rattle.std.proofs.Common.{◌≡◌, ℕ, true, false, not, List, [], ◌∷◌, ◌++◌, Option, Some, None, refl, ◌∙◌, option_map}
 use Rattle.std.proofs.lemmas.Bool.{and_parts, false≢true}
 use Rattle.std.specs.Option.{option_map_or}
 use Rattle.std.specs.Prelude.{◌==◌, ◌&&◌, find, is_none, is_some, length, nat_le, unwrap_or}
@@ -10,7 +10,7 @@ use Rattle.wb_model.specs.declared.entry.Entry.{Entry}
 use Rattle.wb_model.specs.declared.registry.FormItem.{FormItem}
 use Rattle.wb_model.specs.Access.{user_by}
 use Rattle.wb_model.specs.KeptRules.{has_public_answers, are_valid_after}
-use Rattle.wb_model.specs.Legal.{done, is_first, is_free, is_legal, is_next, legal_from, right_actor, right_values}
+use Rattle.wb_model.specs.Legal.{Reckoning, done, is_first, is_free, is_legal, is_next, legal_from, right_actor, right_values}
 use Rattle.wb_model.specs.Requests.{form_of_trail, late_fault, mark, submission_fault}
 use Rattle.wb_model.specs.Trails.{Submission, answers, form, receipt, submission_in, submitted, version}
 
@@ -23,18 +23,18 @@ no_submission : (trail : List Entry) (user : ℕ) (deed : Deed) → is_free trai
 no_submission trail user (deeds.Submitted ack_due given context expires feedback_due form mark readers receipt received version) free = absurd (false≢true free)
 no_submission trail user _ free = refl
 
-silent_from : (offset : ℤ) (time : ℕ) (before es : List Entry) → legal_from offset time before es ≡ true → AreSilent es
-silent_from offset time before [] legal = tt
-silent_from offset time before (e ∷ es) legal =
-    let parts = and_parts (is_next offset time before e) (legal_from offset e.at (before ++ e ∷ []) es) legal in
-    let next = and_parts (nat_le time e.at && right_actor e.deed e.by && right_values offset before e.at e.deed) (is_free before (user_by e.by) (done before e.deed)) parts.0 in
-    (no_submission before (user_by e.by) e.deed next.1, silent_from offset e.at (before ++ e ∷ []) es parts.1)
+silent_from : (days : Reckoning) (time : ℕ) (before es : List Entry) → legal_from days time before es ≡ true → AreSilent es
+silent_from days time before [] legal = tt
+silent_from days time before (e ∷ es) legal =
+    let parts = and_parts (is_next days time before e) (legal_from days e.at (before ++ e ∷ []) es) legal in
+    let next = and_parts (nat_le time e.at && right_actor e.deed e.by && right_values days before e.at e.deed) (is_free before (user_by e.by) (done before e.deed)) parts.0 in
+    (no_submission before (user_by e.by) e.deed next.1, silent_from days e.at (before ++ e ∷ []) es parts.1)
 
-pub begins_so : (offset : ℤ) (e : Entry) (es : List Entry) → is_legal offset (e ∷ es) ≡ true → (is_some (submission_in e.deed) ≡ true) × AreSilent es
-begins_so offset e es legal =
-    let parts = and_parts (is_first offset e) (legal_from offset e.at (e ∷ []) es) legal in
-    let first = and_parts (is_some (submission_in e.deed) && right_actor e.deed e.by) (right_values offset [] e.at e.deed) parts.0 in
-    ((and_parts (is_some (submission_in e.deed)) (right_actor e.deed e.by) first.0).0, silent_from offset e.at (e ∷ []) es parts.1)
+pub begins_so : (days : Reckoning) (e : Entry) (es : List Entry) → is_legal days (e ∷ es) ≡ true → (is_some (submission_in e.deed) ≡ true) × AreSilent es
+begins_so days e es legal =
+    let parts = and_parts (is_first days e) (legal_from days e.at (e ∷ []) es) legal in
+    let first = and_parts (is_some (submission_in e.deed) && right_actor e.deed e.by) (right_values days [] e.at e.deed) parts.0 in
+    ((and_parts (is_some (submission_in e.deed)) (right_actor e.deed e.by) first.0).0, silent_from days e.at (e ∷ []) es parts.1)
 
 -- ---- what it says
 

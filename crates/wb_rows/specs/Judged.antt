@@ -1,12 +1,17 @@
 -- What a set of rows is read as: the tables, or the first fault.
-use Rattle.std.specs.Prelude.{◌≡◌, List, Option, Some, None, Result, Ok, Err}
+use Rattle.std.specs.Prelude.{◌≡◌, List, [], ◌∷◌, Bool, if◌then◌else◌, Option, Some, None, Result, Ok, Err}
 use Rattle.std.specs.Option.{option_or}
+use Rattle.wb_base.specs.declared.form.Format.{Format}
+use Rattle.wb_base.specs.declared.form.Format.TheVariants.{Plain, Weighed}
+use Rattle.wb_base.specs.AnswerList.{is_text}
 use Rattle.wb_base.specs.declared.rows.Key.{Key}
 use Rattle.wb_base.specs.declared.rows.Row.{Row}
 use Rattle.wb_custody.specs.SealedAnswers.{answers_of}
 use Rattle.wb_kinds.specs.declared.item.Item.{Item}
+use Rattle.wb_kinds.specs.Items.{is_key}
+use Rattle.wb_model.specs.Rows.{format_row}
 use Rattle.wb_row_rules.specs.declared.faults.RowFault.{RowFault}
-use Rattle.wb_row_rules.specs.declared.faults.RowFault.TheVariants.{BadSet}
+use Rattle.wb_row_rules.specs.declared.faults.RowFault.TheVariants.{BadRow, BadSet}
 use Rattle.wb_rows.specs.declared.items.Kept.{Kept}
 use Rattle.wb_rows.specs.declared.report_rules.Blames.{Blames}
 use Rattle.wb_rows.specs.Blame.{first_breaking, first_repeated, blamed}
@@ -64,6 +69,35 @@ abbrev pub judged_items : List Row → Result (List Item) RowFault → Result He
 judged_items rows (Ok items) = judged_kept rows (kept_of items)
 judged_items rows (Err fault) = Err fault
 
--- the tables of rows, where each row is good and the rules hold; or the first row that is not good, else the first rule that is broken and the first row that breaks it
+-- the tables of rows of a format but for the row that says it, where each row is good and the rules hold; or the first row that is not good, else the first rule that is broken and the first row that breaks it
+abbrev pub judged_in : Format → List Row → Result Held RowFault
+judged_in format rows = judged_items rows (items_in format rows)
+
+-- the key of the row of the format
+abbrev pub is_format_key : Key → Bool
+is_format_key k = is_key k format_row.key
+
+-- rows of which the first has the key of the format: of format 2 where it says so
+abbrev pub judged_with : Row → List Row → Result Held RowFault
+judged_with row rows = if is_text row.text format_row.text then judged_in Weighed rows else Err (BadRow row.key)
+
+-- the tables of rows, of format 2 where there is the row of the format, and else of format 1
 abbrev pub judged : List Row → Result Held RowFault
-judged rows = judged_items rows (items_in rows)
+judged [] = judged_in Plain []
+judged (row ∷ rows) = if is_format_key row.key then judged_with row rows else judged_in Plain (row ∷ rows)
+
+-- the format of rows that are read
+abbrev pub format_of : List Row → Format
+format_of [] = Plain
+format_of (row ∷ rows) = if is_format_key row.key then Weighed else Plain
+
+-- rows of a format with the row that says it
+abbrev pub with_format : Format → List Row → List Row
+with_format Plain own = own
+with_format Weighed own = format_row ∷ own
+
+-- rows are of a format, and these are the others
+pub record IsParted (rows : List Row) (format : Format) (own : List Row) : Type 0 where
+  pub judged : judged rows ≡ judged_in format own
+  pub stated : format_of rows ≡ format
+  pub whole : with_format format own ≡ rows

@@ -12,3 +12,4 @@ pub mod ReceiptTies
 pub mod Openings
 pub mod HeldItems
 pub mod Good
+pub mod Left

@@ -1,5 +1,6 @@
 -- What rows stand for, row by row.
 use Rattle.std.specs.Prelude.{List, [], ◌∷◌, Option, Some, None, Result, Ok, Err}
+use Rattle.wb_base.specs.declared.form.Format.{Format}
 use Rattle.wb_base.specs.declared.rows.Key.{Key}
 use Rattle.wb_base.specs.declared.rows.Row.{Row}
 use Rattle.wb_kinds.specs.declared.item.Item.{Item}
@@ -13,7 +14,7 @@ with_first None key rest = Err (BadRow key)
 with_first (Some item) key (Ok items) = Ok (item ∷ items)
 with_first (Some item) key (Err fault) = Err fault
 
--- what rows stand for, or the first key whose row is not good
-abbrev pub items_in : List Row → Result (List Item) RowFault
-items_in [] = Ok []
-items_in (row ∷ rows) = with_first (item_of row) row.key (items_in rows)
+-- what rows of a format stand for, or the first key whose row is not good
+abbrev pub items_in : Format → List Row → Result (List Item) RowFault
+items_in format [] = Ok []
+items_in format (row ∷ rows) = with_first (item_of format row) row.key (items_in format rows)

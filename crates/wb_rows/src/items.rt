@@ -7,22 +7,22 @@ ghost use Rattle.wb_rows.specs.ReadItems.{items_in};
 ghost use Rattle.wb_rows.specs.KeptItems.{with_item, kept_of};
 
 use std::alloc::Global;
-use wb_base::{Memory, Row};
+use wb_base::{Format, Memory, Row};
 use wb_custody::SealedItem;
 use wb_kinds::{EntryItem, Item, NumberingItem, read_item};
 use wb_list::Items;
 use wb_model::{ContextItem, FormItem, Lists, TenantItem, UserItem};
 use wb_row_rules::RowFault;
 
-/// What rows stand for, or the first key whose row is not good.
-pub fn read_items(alloc: Global, rows: &[Row]) -> Result<Vec<Item>, RowFault>
-    ensures ok { IfOk result (λ items. items_in rows.now ≡ Ok items.items) }
+/// What rows of a format stand for, or the first key whose row is not good.
+pub fn read_items(alloc: Global, format: Format, rows: &[Row]) -> Result<Vec<Item>, RowFault>
+    ensures ok { IfOk result (λ items. items_in format rows.now ≡ Ok items.items) }
     ensures fits { IfOk result (λ items. list_all is_in_range items.items ≡ true) }
-    ensures err { IfErr result (λ fault. fault ≢ faults.Memory → items_in rows.now ≡ Err fault) }
+    ensures err { IfErr result (λ fault. fault ≢ faults.Memory → items_in format rows.now ≡ Err fault) }
 {
     let mut items = Vec::new(alloc);
     for row in rows {
-        match read_item(alloc, row)? {
+        match read_item(alloc, format, row)? {
             Some(item) => items.push(item)?,
             None => return Err(RowFault::BadRow(row.key)),
         }

@@ -9,19 +9,54 @@ ghost use Rattle.wb_model.specs.Changes.{Notes, Configures};
 ghost use Rattle.wb_model.specs.Host.{changed};
 ghost use Rattle.wb_model.specs.Legal.{ascends};
 ghost use Rattle.wb_model.specs.Opened.{Ascend, AreOrdered, AreVersions};
-ghost use Rattle.wb_model.specs.Rows.{row, rows_of, entry_data};
+ghost use Rattle.wb_model.specs.Openings.{registry_of, empty_tables};
+ghost use Rattle.wb_model.specs.Past.{Past};
+ghost use Rattle.wb_model.specs.Pasts.{AllOpened};
+ghost use Rattle.wb_model.specs.Readable.{AreReadable, are_stored};
+ghost use Rattle.wb_model.specs.Reopened.{left_time};
+ghost use Rattle.wb_model.specs.Rows.{row, rows, rows_of, entry_data};
+ghost use Rattle.wb_model.specs.SetUps.{AreSetUp, has_tenant};
+ghost use Rattle.wb_model.specs.declared.registry.Lists.{Lists};
 ghost use Rattle.wb_model.specs.Settings.{Setting};
 ghost use Rattle.wb_model.specs.Tables.{Case, report};
 ghost use Rattle.wb_model.specs.Tenants.{Tenancy};
 ghost use Rattle.wb_rows.specs.Good.{AreGood};
 ghost use Rattle.wb_rows.specs.Held.{Held};
-ghost use Rattle.wb_rows.specs.HeldRows.{rows_of as rows_held};
+ghost use Rattle.wb_rows.specs.HeldRows.{rows_of as rows_held, rows_in};
+ghost use Rattle.wb_rows.specs.HeldItems.{items_of};
 ghost use Rattle.wb_rows.specs.Judged.{judged};
+ghost use Rattle.wb_rows.specs.Left.{left, IsReadBack};
+ghost use Rattle.wb_rows.specs.Openings.{tables_of, with_setup};
+ghost use Rattle.wb_setup.specs.Joined.{joined};
+ghost use Rattle.std.specs.List.{list_all};
+ghost use Rattle.wb_base.specs.declared.form.Format.TheVariants.{Plain};
+ghost use Rattle.wb_kinds.specs.Items.{is_kept_in};
 ghost use Rattle.wb_rows.specs.Puts.{sealed_put, setting_row, tenant_puts, IsVersion};
 
 /// The rows of tables that keep the rules, with each value in its range, are refused by no rule, and are read as these tables.
 pub fn what_is_written_is_read()
     ensures { (at : ℕ) (h : Held) → AreGood at h → judged (rows_held h) ≡ Ok h }
+{}
+
+/// So are the rows of format 1 of such tables that have no scored form.
+pub fn what_was_written_in_format_1_is_read()
+    ensures { (at : ℕ) (h : Held) → AreGood at h → list_all (is_kept_in Plain) (items_of h) ≡ true → judged (rows_in Plain h) ≡ Ok h }
+{}
+
+/// The rows that the hosts of a past leave are refused by no rule, and are read as what the hosts hold: tables that keep the
+/// rules, with each value in its range.
+///
+/// Verdicts made the past, of requests in their ranges and at moments in theirs, from an opening whose rows are read back.
+pub fn what_hosts_leave_is_read()
+    ensures good { (past : Past AllOpened) → IsReadBack past → AreGood (left_time past) (left past) }
+    ensures rows { (past : Past AllOpened) → IsReadBack past → rows_held (left past) ≡ rows past }
+    ensures read { (past : Past AllOpened) → IsReadBack past → judged (rows past) ≡ Ok (left past) }
+{}
+
+/// What a host is opened with, over tables that were read and a setup, is such that the rows of its hosts are read back.
+pub fn openings_are_read_back()
+    ensures { (setup : Lists) (h : Held) → AreSetUp setup → are_stored setup ≡ true → AreSetUp h.lists → are_stored h.lists ≡ true → ((t : ℕ) → has_tenant h.lists t ≡ true → AreReadable t (tables_of h t)) → ((t : ℕ) → has_tenant h.lists t ≡ false → tables_of h t ≡ empty_tables (registry_of h.lists t)) →
+        (t : ℕ) → has_tenant (joined setup h.lists) t ≡ true → AreReadable t (tables_of (with_setup setup h) t) }
 {}
 
 /// One more entry on a report puts its row, and that of the identity answers that come with it. The rows after these are

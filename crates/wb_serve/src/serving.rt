@@ -131,8 +131,8 @@ where
     // Where no host served, the stations are as they were, and there is a cause.
     ensures none { (HasServed result.status → ⊥) → stations.new.items ≡ stations.old.items }
     ensures cause { IsServeForm words.now → (HasServed result.status → ⊥) → IfSome result.keeper (λ k. OpensNone (S.left setup.old) (S.count setup.old) (S.count setup.new) (S.left setup.new) (K.count keeper) (K.count k) (K.honest k) (K.holds keeper) (K.holds k) result.status) }
-    // Where one served, it was the one that the text opened: each reply over the links of the stations, which came back in order, was a
-    // turn of it, and it made no other turns. An honest keeper held the rows that it was opened over, and holds its rows.
+    // Where one served, it was one that the text opened: each reply over the links of the stations, which came back in order, was a turn of
+    // a host that was opened so. An honest keeper held the rows that it was opened over, and holds those after as many turns as were answered.
     ensures served { HasServed result.status → (k : _) × (result.keeper ≡ Some k) × ServesIt (S.left setup.old) (S.left setup.new) (K.honest k) (K.holds keeper) (K.holds k) (λ desk passes. (length passes ≡ vec_len stations.old) × ((i : ℕ) (d : _) (e : _) (p : _) → i < vec_len stations.old → WasServed desk (slice_index_or passes i p).turns (Li.told (slice_index_or stations.old.items i d).listener) (Li.told (slice_index_or stations.new.items i e).listener) (clock_of (T.left (slice_index_or stations.old.items i d).ticker) (T.count (slice_index_or stations.old.items i d).ticker)) (clock_of (T.left (slice_index_or stations.new.items i e).ticker) (T.count (slice_index_or stations.new.items i e).ticker)))) }
     ensures done { result.status ≡ Status.Done → All (λ s. HasNone (Li.told s.listener)) stations.new.items }
     ensures failed { result.status ≡ Status.ListenFault → (i : ℕ) × (i < vec_len stations.old) × ((d : _) (e : _) → RoseOften 16 (Li.count (slice_index_or stations.old.items i d).listener) (Li.count (slice_index_or stations.new.items i e).listener)) }

@@ -8,6 +8,7 @@ use Rattle.wb_base.specs.declared.faults.FormFault.{FormFault}
 use Rattle.wb_base.specs.declared.form.Form.{Form}
 use Rattle.wb_base.specs.FormFaults.{fault_of, is_good}
 use Rattle.wb_base.specs.FormShape.{form_of as shape_of}
+use Rattle.wb_base.specs.declared.form.Format.TheVariants.{Plain}
 use Rattle.wb_form.proofs.Good.{good-read}
 use Rattle.wb_model.specs.declared.registry.FormItem.{FormItem}
 use Rattle.wb_model.specs.Bodies.{form, form_if, form_by, json}
@@ -44,7 +45,7 @@ read_good : (d : Data) (form : Form) → result_ok (form_if (shape_of d)) ≡ So
 read_good d form e = by (shape_of d) refl e
   where
     by_fault : (g : Form) (o : Option FormFault) → shape_of d ≡ Some g → fault_of g ≡ o → result_ok (form_by g o) ≡ Some form → is_good form ≡ true
-    by_fault g None shape none h = let same : g ≡ form = (let s : Some g ≡ Some form = h in cc) in ap is_good (sym same) ∙ good-read d g shape none
+    by_fault g None shape none h = let same : g ≡ form = (let s : Some g ≡ Some form = h in cc) in ap is_good (sym same) ∙ good-read Plain d g shape none
     by_fault g (Some fault) shape none h = absurd cc
 
     by : (o : Option Form) → shape_of d ≡ o → result_ok (form_if o) ≡ Some form → is_good form ≡ true

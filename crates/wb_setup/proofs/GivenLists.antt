@@ -14,6 +14,8 @@ use Rattle.wb_model.specs.declared.registry.TenantItem.{TenantItem}
 use Rattle.wb_model.specs.declared.registry.UserItem.{UserItem}
 use Rattle.wb_model.specs.Fits.{are_distinct}
 use Rattle.wb_model.specs.Settings.{form_key}
+use Rattle.wb_model.specs.Readable.{are_bytes, are_stored, is_stored_tenant}
+use Rattle.wb_model.proofs.SettingsRight.{digest_right}
 use Rattle.wb_model.specs.SetUps.{is_tenant_item, is_user_item, is_form_item, is_context_item, are_apart, has_tenant, has_form, follows, same_user_name, AreSetUp}
 use Rattle.wb_setup.specs.declared.given.GivenContext.{GivenContext}
 use Rattle.wb_setup.specs.declared.given.GivenTenant.{GivenTenant}
@@ -190,13 +192,33 @@ nothing_set_up = record {
   recipients = refl;
 }
 
+-- salts and digests are of their lengths, and holidays are dates
+abbrev has_long_secret : UserItem → Bool
+has_long_secret x = are_bytes 32 x.secret.0
+
+users_long : (t : GivenTenant) (us : List GivenUser) → list_all has_long_secret (map (user_item t) us) ≡ true
+users_long t [] = refl
+users_long t (u ∷ us) = and_from _ _ (digest_right t.salt u.password) (users_long t us)
+
+all_users_long : (ts : List GivenTenant) → list_all (λ t. list_all has_long_secret (users_of t)) ts ≡ true
+all_users_long [] = refl
+all_users_long (t ∷ ts) = and_from _ _ (users_long t t.users) (all_users_long ts)
+
+given_stored : (ts : List GivenTenant) → AllByRecursion IsGiven ts → are_stored (lists_with nothing (given_lists ts)) ≡ true
+given_stored ts given = and_from _ _
+    (all_puts nat_cmp_total tenant_key is_stored_tenant (map tenant_item ts) [] (all_passed tenant_item (λ t. is_stored_tenant (tenant_item t)) is_stored_tenant (λ t is. is) ts (all_so IsGiven (λ t. is_stored_tenant (tenant_item t)) (λ t is. is.stored) ts given)) refl)
+    (all_puts key_total (key of_user user_id) has_long_secret (flat_map users_of ts) [] (all_flat users_of has_long_secret ts (all_users_long ts)) refl)
+
+abbrev IsStoredSetUp : Lists → Type 0
+IsStoredSetUp lists = AreSetUp lists × (are_stored lists ≡ true)
+
 -- a rule that is kept where there are lists
 held : (rule : ℕ) (b : Bool) (rest : Result Lists SetupFault) (lists : Lists) → kept rule b rest ≡ Ok lists → (b ≡ true) × (rest ≡ Ok lists)
 held rule true rest lists e = (refl, e)
 held rule false rest lists e = absurd cc
 
 by_forms : (ts : List GivenTenant) (lists : Lists) → AllByRecursion IsGiven ts → rule_2 ts ≡ true → rule_3 ts ≡ true → rule_4 ts ≡ true → rule_5 ts ≡ true
-    → (o : Option (List FormItem)) → forms_of ts ≡ o → with_forms ts o ≡ Ok lists → AreSetUp lists
+    → (o : Option (List FormItem)) → forms_of ts ≡ o → with_forms ts o ≡ Ok lists → IsStoredSetUp lists
 by_forms ts lists given r2 r3 r4 r5 None is e = absurd cc
 by_forms ts lists given r2 r3 r4 r5 (Some forms) is e =
     let r7 = held 7 (rule_7 ts) (kept 8 (rule_8 ts) (kept 9 (rule_9 ts) (Ok (lists_of ts forms)))) lists e in
@@ -204,9 +226,9 @@ by_forms ts lists given r2 r3 r4 r5 (Some forms) is e =
     let r9 = held 9 (rule_9 ts) (Ok (lists_of ts forms)) lists r8.1 in
     let same : lists_of ts forms ≡ lists = (let s : Ok (lists_of ts forms) ≡ Ok lists = r9.1 in cc) in
     let firsts = all_first ts forms is in
-    subst AreSetUp (placed ts forms firsts.0 ∙ same) (joined_set_up nothing (given_lists ts) nothing_set_up (given_may ts given firsts.1 r2 r3 r4 r5 r7.0 r8.0 r9.0))
+    subst IsStoredSetUp (placed ts forms firsts.0 ∙ same) (joined_set_up nothing (given_lists ts) nothing_set_up (given_may ts given firsts.1 r2 r3 r4 r5 r7.0 r8.0 r9.0), given_stored ts given)
 
-by_tenants : (o : Option (List GivenTenant)) (lists : Lists) → IfSome o (AllByRecursion IsGiven) → with_tenants o ≡ Ok lists → AreSetUp lists
+by_tenants : (o : Option (List GivenTenant)) (lists : Lists) → IfSome o (AllByRecursion IsGiven) → with_tenants o ≡ Ok lists → IsStoredSetUp lists
 by_tenants None lists given e = absurd cc
 by_tenants (Some ts) lists given e =
     let rest5 = with_forms ts (forms_of ts) in
@@ -216,10 +238,14 @@ by_tenants (Some ts) lists given e =
     let r5 = held 5 (rule_5 ts) rest5 lists r4.1 in
     by_forms ts lists given r2.0 r3.0 r4.0 r5.0 (forms_of ts) refl r5.1
 
-by_document : (o : Option Data) (lists : Lists) → with_document o ≡ Ok lists → AreSetUp lists
+by_document : (o : Option Data) (lists : Lists) → with_document o ≡ Ok lists → IsStoredSetUp lists
 by_document None lists e = absurd cc
 by_document (Some d) lists e = by_tenants (tenants_of d) lists (tenants_given d) e
 
 -- the lists of a setup are set up
 pub setup_is_set_up : (bytes : List ℕ) (lists : Lists) → setup bytes ≡ Ok lists → AreSetUp lists
-setup_is_set_up bytes lists e = by_document (document bytes) lists e
+setup_is_set_up bytes lists e = (by_document (document bytes) lists e).0
+
+-- with salts and digests of their lengths, and holidays that are dates
+pub setup_is_stored : (bytes : List ℕ) (lists : Lists) → setup bytes ≡ Ok lists → are_stored lists ≡ true
+setup_is_stored bytes lists e = (by_document (document bytes) lists e).1

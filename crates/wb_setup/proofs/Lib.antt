@@ -10,3 +10,4 @@ pub mod GivenForms
 pub mod Joining
 pub mod OtherLists
 pub mod GivenLists
+pub mod StoredJoined

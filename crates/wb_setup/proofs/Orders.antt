@@ -9,7 +9,8 @@ use Rattle.std.specs.Ordering.{nat_cmp, ordering_then}
 use Rattle.std.specs.declared.cmp.Ordering.TheVariants.{Less, Equal, Greater}
 use Rattle.wb_list.specs.Keyed.{IsAscending}
 use Rattle.wb_model.specs.Legal.{ascends, ascends_from}
-use Rattle.wb_model.specs.SetUps.{are_apart, are_ordered}
+use Rattle.wb_model.specs.SetUps.{are_apart}
+use Rattle.wb_model.specs.Ordered.{are_ordered}
 use Rattle.wb_setup.specs.Keys.{Key, key_cmp}
 
 pub key_total : IsTotalOrder key_cmp

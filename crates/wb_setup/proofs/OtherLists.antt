@@ -19,7 +19,7 @@ use Rattle.wb_setup.proofs.Puts.{Adds, adds, apart_fewer, apart_ascending}
 
 -- ---- some of a list
 
-all_fewer : {X : Type 0} (p q r : X → Bool) → ((x : X) → p x ≡ true → q x ≡ true → r x ≡ true) → (xs : List X) → list_all q xs ≡ true → list_all r (filter p xs) ≡ true
+pub all_fewer : {X : Type 0} (p q r : X → Bool) → ((x : X) → p x ≡ true → q x ≡ true → r x ≡ true) → (xs : List X) → list_all q xs ≡ true → list_all r (filter p xs) ≡ true
 all_fewer p q r h [] all = refl
 all_fewer p q r h (x ∷ xs) all = let parts = and_parts (q x) (list_all q xs) all in by (p x) refl parts.0 (all_fewer p q r h xs parts.1)
   where

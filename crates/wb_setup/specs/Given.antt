@@ -1,6 +1,6 @@
 -- What a setup gives: its tenants with their users, forms and contexts, as they stand in its text.
 -- This is rule 1: exactly these keys, of these kinds, in these ranges.
-use Rattle.std.specs.Prelude.{ℕ, ◌==◌, ◌&&◌, Bool, false, if◌then◌else◌, List, [], ◌∷◌, length, codes, Option, Some, None, option_map, option_and_then, pos, neg_ℤ}
+use Rattle.std.specs.Prelude.{ℕ, ◌==◌, ◌&&◌, Bool, false, if◌then◌else◌, List, [], ◌∷◌, length, codes, Option, Some, None, option_map, option_and_then, pos, neg_ℤ, ℤ}
 use Rattle.std.specs.List.{list_all}
 use Rattle.std.specs.Option.{option_map_or}
 use Rattle.std.specs.Result.{result_ok}
@@ -9,6 +9,8 @@ use Rattle.toml.specs.Data.{Data, Items, no_items, item, get, as_str, as_bool, a
 use Rattle.wb_base.specs.declared.callers.Role.{Role}
 use Rattle.wb_base.specs.declared.words.Salt.{Salt}
 use Rattle.wb_base.specs.AnswerList.{is_text}
+use Rattle.wb_base.specs.Calendars.{Calendar, are_holidays}
+use Rattle.wb_base.specs.DateTexts.{read_date}
 use Rattle.wb_base.specs.FormShape.{keep}
 use Rattle.wb_model.specs.declared.registry.Rights.{Rights}
 use Rattle.wb_model.specs.Bodies.{role_named, with_right, no_rights}
@@ -17,7 +19,7 @@ use Rattle.wb_setup.specs.declared.given.GivenUser.{GivenUser}
 use Rattle.wb_setup.specs.declared.given.GivenForm.{GivenForm}
 use Rattle.wb_setup.specs.declared.given.GivenContext.{GivenContext}
 use Rattle.wb_setup.specs.declared.given.GivenTenant.{GivenTenant}
-use Rattle.wb_setup.specs.TomlValues.{of_keys, under, text, number, whole, list_of, if_listed}
+use Rattle.wb_setup.specs.TomlValues.{of_keys, under, optional, text, number, whole, list_of, if_listed}
 
 abbrev pub role : Data → Option Role
 role d = option_and_then role_named (as_str d)
@@ -67,15 +69,30 @@ context_of d = of_keys context_keys d
     record { id = id; name = name; form = form; retention = days; recipients = users; is_open = is_open })
     (under (codes "open") as_bool d)) (under (codes "recipients") recipients d)) (under (codes "retention") (whole 1 3_650) d)) (under (codes "form") (whole 1 16) d)) (under (codes "name") (text 1 128) d)) (under (codes "id") (whole 1 64) d))
 
+-- a truth value that may be left out, and is false then
+abbrev pub if_flag : List ℕ → Data → Option Bool
+if_flag key d = optional false as_bool (get key d)
+
+abbrev pub day : Data → Option ℤ
+day d = option_and_then read_date (as_str d)
+
+-- at most 64 dates, ascending, which may be left out
+abbrev pub holidays : Data → Option (List ℤ)
+holidays d = option_and_then (keep are_holidays) (if_listed (codes "holidays") day d)
+
+abbrev pub calendar : Data → Option Calendar
+calendar d = option_and_then (λ roll. option_map (λ days. record { roll = roll; holidays = days }) (holidays d)) (if_flag (codes "roll") d)
+
 abbrev pub tenant_keys : List (List ℕ)
-tenant_keys = codes "context" ∷ codes "form" ∷ codes "id" ∷ codes "name" ∷ codes "notice_days" ∷ codes "offset" ∷ codes "quota" ∷ codes "salt" ∷ codes "user" ∷ []
+tenant_keys = codes "context" ∷ codes "external" ∷ codes "form" ∷ codes "holidays" ∷ codes "id" ∷ codes "name" ∷ codes "notice_days" ∷ codes "offset" ∷ codes "quota" ∷ codes "roll" ∷ codes "salt" ∷ codes "user" ∷ []
 
 abbrev pub tenant_of : Data → Option GivenTenant
 tenant_of d = of_keys tenant_keys d
     (option_and_then (λ id. option_and_then (λ name. option_and_then (λ salt. option_and_then (λ offset. option_and_then (λ quota. option_and_then (λ days.
-    option_and_then (λ users. option_and_then (λ forms. option_map (λ contexts.
-    record { id = id; name = name; salt = salt; offset = offset; quota = quota; notice_days = days; users = users; forms = forms; contexts = contexts })
+    option_and_then (λ external. option_and_then (λ calendar. option_and_then (λ users. option_and_then (λ forms. option_map (λ contexts.
+    record { id = id; name = name; salt = salt; external = external; calendar = calendar; offset = offset; quota = quota; notice_days = days; users = users; forms = forms; contexts = contexts })
     (if_listed (codes "context") context_of d)) (if_listed (codes "form") form_of d)) (if_listed (codes "user") user_of d))
+    (calendar d)) (if_flag (codes "external") d))
     (under (codes "notice_days") (whole 0 30) d)) (under (codes "quota") (whole 1 100_000) d)) (under (codes "offset") (number (neg_ℤ (pos 720)) (pos 840)) d)) (under (codes "salt") salt d)) (under (codes "name") (text 1 128) d)) (under (codes "id") (whole 1 64) d))
 
 -- the setup is of the first format

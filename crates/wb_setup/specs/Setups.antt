@@ -23,7 +23,7 @@ use Rattle.wb_setup.specs.Rules.{rule_2, rule_3, rule_4, rule_5, rule_7, rule_8,
 -- ---- the items of the setup
 
 abbrev pub tenant_item : GivenTenant → TenantItem
-tenant_item t = record { tenant = t.id; name = t.name; notice_days = t.notice_days; offset = t.offset; quota = t.quota; salt = t.salt }
+tenant_item t = record { tenant = t.id; external = t.external; calendar = t.calendar; name = t.name; notice_days = t.notice_days; offset = t.offset; quota = t.quota; salt = t.salt }
 
 -- never disabled yet, and with the digest of its password under the tenant's salt
 abbrev pub user_item : GivenTenant → GivenUser → UserItem

@@ -11,6 +11,8 @@ mod rules;
 mod setup;
 mod toml_values;
 
-pub use laws::{a_setup_gives_an_opening, kept_rows_and_a_setup_make_an_opening};
-pub use ordered::{Placed, add, find_in, form_place, insert_at, place_of, replace_at};
+pub use laws::{
+    a_setup_gives_an_opening, kept_rows_and_a_setup_make_an_opening, what_a_setup_gives_can_be_kept,
+};
+pub use ordered::{Placed, add, find_in, form_place, insert_at, place, place_of, replace_at};
 pub use setup::{Setup, SetupFault};

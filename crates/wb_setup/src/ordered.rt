@@ -78,8 +78,8 @@ pub fn form_place(id: u32, version: u32) -> u64
     id as u64 * 100 + version as u64
 }
 
-// Where the key is, or where it would go.
-fn place<T: Placed>(items: &[T], key: &T::Key) -> Result<usize, usize>
+/// Where the key is, or where it would go.
+pub fn place<T: Placed>(items: &[T], key: &T::Key) -> Result<usize, usize>
     requires { IsAscending T.Key.cmp T.key_of items.now }
     ensures found { IfOk result (IsPlace T.Key.cmp T.key_of items.now key.now) }
     ensures absent { IfErr result (IsGap T.Key.cmp T.key_of items.now key.now) }

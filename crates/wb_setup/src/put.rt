@@ -29,8 +29,11 @@ fn tenant_item(tenant: &GivenTenant) -> Result<TenantItem, Memory>
     ensures { IfOk result (λ item. item ≡ tenant_item_of tenant.now) }
 {
     let name = tenant.name.try_clone()?;
+    let calendar = tenant.calendar.try_clone()?;
     Ok(TenantItem {
         tenant: tenant.id,
+        external: tenant.external,
+        calendar,
         name,
         notice_days: tenant.notice_days,
         offset: tenant.offset,

@@ -2,19 +2,20 @@
 ghost use Rattle.std.specs.Prelude.{◌≡◌, Some, None};
 ghost use Rattle.toml.specs.View.{view};
 ghost use Rattle.wb_setup.specs.TomlValues.{under, whole};
-ghost use Rattle.wb_setup.specs.Given.{recipients as recipients_of, user_of, form_of, context_of, tenant_of, tenants_of, has_format as format_test};
+ghost use Rattle.wb_setup.specs.Given.{recipients as recipients_of, user_of, form_of, context_of, tenant_of, tenants_of, day as day_of, calendar as calendar_of, has_format as format_test};
 ghost use Rattle.wb_setup.specs.Gives.{Gives};
 
 use crate::given::{GivenContext, GivenForm, GivenTenant, GivenUser};
 use crate::parts::{Part, list_if_under, list_under, read_list};
 use crate::toml_values::{
-    PartNo, any_text_under, flag_under, has_only, number_under, read_user_id, rights_under,
-    role_under, salt_under, tenant_id_under, text_under, user_id_under, whole_under,
+    PartNo, any_text_under, flag_if_under, flag_under, has_only, number_under, read_user_id,
+    rights_under, role_under, salt_under, tenant_id_under, text_under, user_id_under, whole_under,
 };
 use std::alloc::Global;
 use toml::Value;
-use wb_base::UserId;
+use wb_base::{Calendar, Day, UserId, are_holidays};
 use wb_list::Items;
+use wb_terms::read_date;
 
 impl Part for UserId {
     ghost reading = { whole 1 256 };
@@ -110,6 +111,30 @@ impl Part for GivenContext {
     }
 }
 
+impl Part for Day {
+    ghost reading = { day_of };
+
+    fn read(alloc: Global, value: &Value) -> Result<Day, PartNo> {
+        match value.as_str() {
+            Some(text) => read_date(text.as_bytes()).ok_or(PartNo::Other),
+            None => Err(PartNo::Other),
+        }
+    }
+}
+
+// Whether a tenant's due days roll, and past which holidays.
+fn calendar(alloc: Global, value: &Value) -> Result<Calendar, PartNo>
+    ensures { Gives (calendar_of (view value.now)) result }
+{
+    let rolls = flag_if_under(value, "roll")?;
+    let days: Items<Day> = list_if_under(alloc, value, "holidays")?;
+    if are_holidays(days.as_slice()) {
+        Ok(Calendar::of(rolls, days.into_vec()))
+    } else {
+        Err(PartNo::Other)
+    }
+}
+
 impl Part for GivenTenant {
     ghost reading = { tenant_of };
 
@@ -118,12 +143,15 @@ impl Part for GivenTenant {
             value,
             &[
                 "context",
+                "external",
                 "form",
+                "holidays",
                 "id",
                 "name",
                 "notice_days",
                 "offset",
                 "quota",
+                "roll",
                 "salt",
                 "user",
             ],
@@ -136,6 +164,8 @@ impl Part for GivenTenant {
         let offset = number_under(value, "offset", -720, 840)?;
         let quota = whole_under(value, "quota", 1, 100_000)?;
         let notice_days = whole_under(value, "notice_days", 0, 30)?;
+        let external = flag_if_under(value, "external")?;
+        let calendar = calendar(alloc, value)?;
         let users = list_if_under(alloc, value, "user")?;
         let forms = list_if_under(alloc, value, "form")?;
         let contexts = list_if_under(alloc, value, "context")?;
@@ -143,6 +173,8 @@ impl Part for GivenTenant {
             id,
             name,
             salt,
+            external,
+            calendar,
             offset,
             quota,
             notice_days: notice_days as u8,

@@ -1,5 +1,6 @@
 //! The setup of a host.
-ghost use Rattle.std.specs.Prelude.{◌≡◌, ◌≢◌, Ok, Err, IfOk, IfErr, Some};
+ghost use Rattle.std.specs.Prelude.{◌≡◌, ◌≢◌, true, Ok, Err, IfOk, IfErr, Some};
+ghost use Rattle.wb_model.specs.Readable.{are_stored};
 ghost use Rattle.wb_model.specs.SetUps.{AreSetUp};
 ghost use Rattle.wb_setup.specs.Keys.{AreInOrder};
 ghost use Rattle.wb_setup.specs.Setups.{setup as setup_of, with_forms as by_forms, with_tenants as by_tenants};
@@ -92,6 +93,7 @@ impl Setup {
         ensures ok { IfOk result (λ s. setup_of bytes.now ≡ Ok s.lists) }
         ensures order { IfOk result (λ s. AreInOrder s.lists) }
         ensures set_up { IfOk result (λ s. AreSetUp s.lists) }
+        ensures stored { IfOk result (λ s. are_stored s.lists ≡ true) }
         ensures fault { IfErr result (λ e. e ≢ SetupFault.Memory → setup_of bytes.now ≡ Err e) }
     {
         let value = match read_document(alloc, bytes) {

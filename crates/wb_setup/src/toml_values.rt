@@ -6,7 +6,7 @@ ghost use Rattle.toml.specs.View.{view, items_view, table_view};
 ghost use Rattle.wb_model.specs.Bodies.{no_rights};
 ghost use Rattle.wb_model.specs.Fits.{is_lower_hex as lower_hex_test};
 ghost use Rattle.wb_setup.specs.TomlValues.{document, size as size_of, has_only as only_these, under, text, number, whole};
-ghost use Rattle.wb_setup.specs.Given.{role as role_of, with_rights, rights as rights_of, is_salt_text as salt_test, salt_named as salt_by, salt as salt_of};
+ghost use Rattle.wb_setup.specs.Given.{role as role_of, with_rights, rights as rights_of, is_salt_text as salt_test, salt_named as salt_by, salt as salt_of, if_flag};
 ghost use Rattle.wb_setup.specs.Gives.{Gives};
 ghost use Rattle.wb_setup.specs.declared.toml_values.PartNo.TheVariants.{Memory as NoMemory};
 
@@ -232,6 +232,19 @@ pub fn flag_under(value: &Value, key: &str) -> Result<bool, PartNo>
     }
 }
 
+/// The truth value under a key, which is false where it is left out.
+pub fn flag_if_under(value: &Value, key: &str) -> Result<bool, PartNo>
+    ensures { Gives (if_flag key.now (view value.now)) result }
+{
+    match value.get(key) {
+        Some(found) => match found.as_bool() {
+            Some(flag) => Ok(flag),
+            None => Err(PartNo::Other),
+        },
+        None => Ok(false),
+    }
+}
+
 /// The role under a key.
 pub fn role_under(value: &Value, key: &str) -> Result<Role, PartNo>
     ensures { Gives (under key.now role_of (view value.now)) result }
@@ -250,6 +263,7 @@ fn rights_named(names: &[Value]) -> Result<Rights, PartNo>
     ensures { Gives (with_rights no_rights (items_view names.now)) result }
 {
     let mut may = Rights {
+        delete: false,
         postpone: false,
         share: false,
         transfer: false,

@@ -1,4 +1,5 @@
 //! Hosts over setups: what is kept of them, what a purge leaves, and what a keeper's failure changes.
+use crate::kept_rows::key;
 use crate::texts::{harbour, two_tenants};
 use crate::turns::{DONE, Host, Turn, keeper};
 use std::alloc::Global;
@@ -27,10 +28,10 @@ fn opening(alloc: Global, keeper: &mut MemKeeper) -> Result<(Option<OpenFault>, 
 fn a_host_keeps_what_it_is_set_up_with(rt: HostRuntime) -> Result<(), Fail> {
     let alloc = rt.alloc();
     let mut keeper = keeper(alloc, &[])?;
-    // The settings, the numbering, four users, a form and two contexts; a host that is opened on these puts none.
+    // The format, the settings, the numbering, four users, a form and two contexts; a host that is opened on these puts none.
     let first = opening(alloc, &mut keeper)?;
     let second = opening(alloc, &mut keeper)?;
-    assert!(rt; first == (None, 9) && second == (None, 9));
+    assert!(rt; first == (None, 10) && second == (None, 10));
     Ok(())
 }
 
@@ -42,6 +43,54 @@ fn a_host_is_not_opened_where_its_keeper_fails(rt: HostRuntime) -> Result<(), Fa
         let opened = opening(alloc, &mut keeper)?;
         assert!(rt; opened == (Some(OpenFault::Keeper), 0));
     }
+    Ok(())
+}
+
+// The administrator changes the settings.
+const SET: &[Turn] = &[
+    (
+        0,
+        "POST /t/1/sessions",
+        0,
+        r#"{"user":"dan","password":"dan-pass"}"#,
+        201,
+        r#"{"role":"admin","session":"1-00000000000000000000000000000001"}"#,
+    ),
+    (
+        0,
+        "PUT /t/1/admin/settings",
+        1,
+        r#"{"name":"City","notice_days":3,"quota":20}"#,
+        200,
+        DONE,
+    ),
+];
+
+// What is then kept of a tenant that is an external channel and has a holiday.
+const SETTINGS: &str =
+    r#"{"external":true,"holidays":["2025-12-25"],"name":"City","notice_days":3,"offset":0,"quota":20,"roll":true,"salt":"000102030405060708090a0b0c0d0e0f"}"#;
+
+#[test]
+fn settings_that_are_changed_leave_the_channel_and_its_holidays(
+    rt: HostRuntime,
+) -> Result<(), Fail> {
+    let alloc = rt.alloc();
+    let setup = harbour(alloc)?.replace(
+        alloc,
+        "quota = 50",
+        "quota = 50\nexternal = true\nroll = true\nholidays = ['2025-12-25']",
+    )?;
+    let mut host = Host::open(alloc, &setup, &[])?;
+    let other = host.first_other(SET)?;
+    let again = host.reopened(&setup)?;
+    let settings = key((1, 1, 0, 0));
+    assert!(rt; other == None && again.tells_its_rows()?);
+    assert!(rt;
+        again
+            .rows()
+            .iter()
+            .any(|row| row.key == settings && row.text.as_str() == SETTINGS)
+    );
     Ok(())
 }
 
@@ -72,16 +121,16 @@ const DOCK_REPORT: Turn = (
 
 // A tenant's day begins two hours before the day of UTC: then its report goes.
 const GONE: &[Step] = &[
-    (42, DOCK_REPORT, (19, 1, 0)),
+    (42, DOCK_REPORT, (20, 1, 0)),
     (
         1,
         (2_584_799, "GET /health", 0, "", 200, HEALTH),
-        (19, 1, 0),
+        (20, 1, 0),
     ),
     (
         2,
         (2_584_800, "GET /health", 0, "", 200, HEALTH),
-        (18, 0, 0),
+        (19, 0, 0),
     ),
 ];
 
@@ -97,7 +146,7 @@ const TAKEN: &[Step] = &[
             201,
             r#"{"number":1,"receipt":"0000000000000042"}"#,
         ),
-        (19, 1, 0),
+        (20, 1, 0),
     ),
     (
         42,
@@ -109,9 +158,9 @@ const TAKEN: &[Step] = &[
             409,
             r#"{"code":"receipt_taken","kept":null}"#,
         ),
-        (19, 1, 0),
+        (20, 1, 0),
     ),
-    (42, DOCK_REPORT, (20, 2, 0)),
+    (42, DOCK_REPORT, (21, 2, 0)),
 ];
 
 #[test]
@@ -137,7 +186,7 @@ const LOST: &[Step] = &[
             201,
             r#"{"number":1,"receipt":"0000000000000001"}"#,
         ),
-        (10, 1, 0),
+        (11, 1, 0),
     ),
     (
         2,
@@ -149,7 +198,7 @@ const LOST: &[Step] = &[
             201,
             r#"{"number":2,"receipt":"0000000000000002"}"#,
         ),
-        (11, 2, 0),
+        (12, 2, 0),
     ),
     (
         3,
@@ -161,7 +210,7 @@ const LOST: &[Step] = &[
             201,
             r#"{"role":"reporter","session":"3-00000000000000000000000000000003"}"#,
         ),
-        (11, 2, 1),
+        (12, 2, 1),
     ),
     (
         4,
@@ -173,7 +222,7 @@ const LOST: &[Step] = &[
             503,
             r#"{"code":"keeper"}"#,
         ),
-        (11, 2, 1),
+        (12, 2, 1),
     ),
     (
         5,
@@ -185,7 +234,7 @@ const LOST: &[Step] = &[
             201,
             DONE,
         ),
-        (11, 1, 1),
+        (12, 1, 1),
     ),
 ];
 
@@ -206,22 +255,22 @@ const NINE: &[Step] = &[
     (
         10,
         (0, "GET /t/1/reports", 1, "", 401, NO_SESSION),
-        (9, 0, 8),
+        (10, 0, 8),
     ),
     (
         11,
         (0, "GET /t/1/reports", 2, "", 200, NO_REPORTS),
-        (9, 0, 8),
+        (10, 0, 8),
     ),
     (
         12,
         (14_399, "GET /t/1/reports", 9, "", 200, NO_REPORTS),
-        (9, 0, 8),
+        (10, 0, 8),
     ),
     (
         13,
         (14_400, "GET /t/1/reports", 9, "", 401, NO_SESSION),
-        (9, 0, 0),
+        (10, 0, 0),
     ),
 ];
 

@@ -182,8 +182,8 @@ fn what_a_host_keeps_is_read_and_written_again(rt: HostRuntime) -> Result<(), Fa
     let alloc = rt.alloc();
     let host = kept(alloc)?;
     let fault = read_edited(alloc, host.rows(), &[])?;
-    // Nine rows of the setup, four entries, and the identity answers of one report.
-    assert!(rt; host.rows().len() == 14 && fault == None);
+    // The row of the format, nine of the setup, four entries, and the identity answers of one report.
+    assert!(rt; host.rows().len() == 15 && fault == None);
     Ok(())
 }
 
@@ -229,6 +229,9 @@ const EDITS: &[(&[Edit], u8, Place)] = &[
         (3, 65, 2, 0),
     ),
     (&[Edit::Under((1, 1, 0, 0), (0, 1, 0, 0))], 0, (0, 1, 0, 0)),
+    (&[Edit::Reads((0, 0, 0, 0), "2", "3")], 0, (0, 0, 0, 0)),
+    // Rows without a format are of the first, in which no form is written so.
+    (&[Edit::Without((0, 0, 0, 0))], 0, (4, 1, 1, 1)),
     (&[Edit::Without((1, 1, 0, 0))], 1, (2, 1, 0, 0)),
     (&[Edit::Without((2, 1, 0, 0))], 1, (1, 1, 0, 0)),
     (

@@ -92,7 +92,7 @@ fn a_host_goes_on_over_the_rows_that_it_left(rt: HostRuntime) -> Result<(), Fail
     let mut again = host.reopened(&harbour(alloc)?)?;
     let opened = again.holds();
     let other = again.first_other(AFTER)?;
-    assert!(rt; rows == 12 && opened == (12, 1, 0) && other == None);
+    assert!(rt; rows == 13 && opened == (13, 1, 0) && other == None);
     Ok(())
 }
 
@@ -103,7 +103,7 @@ fn a_setup_adds_its_new_tenants_to_those_that_are_kept(rt: HostRuntime) -> Resul
     let opened = again.holds();
     let other = again.first_other(AFTER)?;
     // The nine rows of the second tenant.
-    assert!(rt; opened == (21, 1, 0) && other == None);
+    assert!(rt; opened == (22, 1, 0) && other == None);
     Ok(())
 }
 

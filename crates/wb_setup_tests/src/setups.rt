@@ -29,6 +29,9 @@ fn is_harbour(tenant: &TenantItem) -> bool {
         && tenant.offset == 0
         && tenant.quota == 50
         && tenant.notice_days == 7
+        && !tenant.external
+        && !tenant.calendar.rolls()
+        && tenant.calendar.holidays().is_empty()
         && tenant.salt.0 == [0, 1, 2, 3, 4, 5, 6, 7, 8, 9, 10, 11, 12, 13, 14, 15]
 }
 
@@ -44,6 +47,7 @@ fn is_ada(user: &UserItem) -> bool {
         && user.may.postpone
         && user.may.share
         && user.may.transfer
+        && !user.may.delete
         && user.secret.0[..8] == ADA[..]
 }
 
@@ -136,6 +140,42 @@ const EDITS: &[Edit] = &[
         "quota = 50\nmore = 1",
         Err(SetupFault::Rule(1)),
     ),
+    (
+        "quota = 50",
+        "quota = 50\nexternal = true\nroll = false\nholidays = ['2025-12-25', '2025-12-26']",
+        Ok(()),
+    ),
+    (
+        "quota = 50",
+        "quota = 50\nexternal = 1",
+        Err(SetupFault::Rule(1)),
+    ),
+    (
+        "quota = 50",
+        "quota = 50\nroll = 'true'",
+        Err(SetupFault::Rule(1)),
+    ),
+    (
+        "quota = 50",
+        "quota = 50\nholidays = ['2025-12-26', '2025-12-25']",
+        Err(SetupFault::Rule(1)),
+    ),
+    (
+        "quota = 50",
+        "quota = 50\nholidays = ['2025-12-25', '2025-12-25']",
+        Err(SetupFault::Rule(1)),
+    ),
+    (
+        "quota = 50",
+        "quota = 50\nholidays = ['2025-02-29']",
+        Err(SetupFault::Rule(1)),
+    ),
+    (
+        "quota = 50",
+        "quota = 50\nholidays = [2025-12-25]",
+        Err(SetupFault::Rule(1)),
+    ),
+    ("\"share\", \"transfer\"", "\"delete\"", Ok(())),
     ("offset = 0", "offset = -720", Ok(())),
     ("offset = 0", "offset = -721", Err(SetupFault::Rule(1))),
     ("offset = 0", "offset = 841", Err(SetupFault::Rule(1))),
@@ -246,6 +286,27 @@ fn each_rule_is_told(rt: HostRuntime) -> Result<(), Fail> {
     let text = harbour(alloc)?;
     for edit in EDITS {
         assert!(rt; reads_as(alloc, text.as_str(), edit)?, "{}", edit.1);
+    }
+    Ok(())
+}
+
+#[test]
+fn a_tenant_has_64_holidays_at_most(rt: HostRuntime) -> Result<(), Fail> {
+    let alloc = rt.alloc();
+    let text = harbour(alloc)?;
+    for (last, wanted) in [(8, Ok(())), (9, Err(SetupFault::Rule(1)))] {
+        let mut days = String::new(alloc);
+        for month in 1..3 {
+            for day in 1..29 {
+                days.push_str(&format!(in alloc; "'2025-{month:02}-{day:02}',")?)?;
+            }
+        }
+        for day in 1..last + 1 {
+            days.push_str(&format!(in alloc; "'2025-03-{day:02}',")?)?;
+        }
+        let lines = format!(in alloc; "quota = 50\nholidays = [{days}]")?;
+        let setup = text.replace(alloc, "quota = 50", &lines)?;
+        assert!(rt; counts(alloc, &setup).map(|_| ()) == wanted, "{last}");
     }
     Ok(())
 }

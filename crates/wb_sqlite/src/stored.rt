@@ -37,12 +37,12 @@ fn text_at(alloc: Global, row: &Stored, at: usize) -> Result<Text, Refusal>
     }
 }
 
-/// The row of a stored row of `record`, which holds the kinds from 1 to 6.
+/// The row of a stored row of `record`, which holds the kinds up to 6.
 pub(crate) fn record_row(alloc: Global, row: &Stored) -> Result<Row, Refusal>
     ensures { IfOk result (λ kept. IsRecordRow row.now kept) }
 {
     let kind = number_at(row, 0)?;
-    if kind < 1 || 6 < kind {
+    if 6 < kind {
         return Err(Refusal::FAULT);
     }
     let key = Key {

@@ -29,7 +29,6 @@ fn keeper_of(alloc: Global, statements: &[&str]) -> Result<SqlKeeper<MemStore>, 
 fn a_row_that_is_none_of_a_keeper_is_a_fault(rt: HostRuntime) -> Result<(), Fail> {
     let alloc = rt.alloc();
     for insertion in [
-        "INSERT INTO record VALUES (0, 1, 1, 1, 'x')",
         "INSERT INTO record VALUES (7, 1, 1, 0, 'x')",
         "INSERT INTO record VALUES (8, 1, 1, 1, 'x')",
         "INSERT INTO record VALUES (256, 1, 1, 1, 'x')",
@@ -55,6 +54,24 @@ fn a_row_that_is_none_of_a_keeper_is_a_fault(rt: HostRuntime) -> Result<(), Fail
         );
         assert_eq!(rt; keeper.faults(), 1, "{insertion}");
     }
+    Ok(())
+}
+
+#[test]
+fn rows_of_kind_0_are_told_and_kept(rt: HostRuntime) -> Result<(), Fail> {
+    let alloc = rt.alloc();
+    let rows = "INSERT INTO record VALUES (1, 1, 0, 0, 'y'), (0, 1, 1, 1, 'x')";
+    let mut keeper = keeper_of(alloc, &[RECORD, SEALED, rows])?;
+    assert_eq!(rt;
+        shown(alloc, &mut keeper)?.as_str(),
+        "0 1 1 1 x\n1 1 0 0 y\n"
+    );
+    put(&rt, alloc, &mut keeper, (0, 0, 0, 0), "z")?;
+    assert_eq!(rt;
+        shown(alloc, &mut keeper)?.as_str(),
+        "0 0 0 0 z\n0 1 1 1 x\n1 1 0 0 y\n"
+    );
+    assert_eq!(rt; keeper.faults(), 0);
     Ok(())
 }
 

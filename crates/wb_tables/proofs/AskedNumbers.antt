@@ -13,11 +13,10 @@ use Rattle.std.proofs.lemmas.Cmp.{ranked}
 use Rattle.std.proofs.lemmas.Option.{slice_get-map}
 use Rattle.wb_list.specs.Keyed.{IsAscending, has_key, insert_item}
 use Rattle.wb_model.specs.Opened.{Apart, AtMost}
-use Rattle.wb_model.specs.Tables.{Case, has_number, report}
+use Rattle.wb_model.specs.Tables.{Case, has_number, report, others}
 use Rattle.wb_tables.specs.Lives.{case_of}
 use Rattle.wb_tables.specs.declared.tenancy.Report.{Report as KeptCase}
 use Rattle.wb_tables.proofs.CaseLists.{number_of}
-use Rattle.wb_tables.proofs.Indexes.{without}
 use Rattle.wb_tables.proofs.NotedReports.{none_above}
 
 -- the numbers with one more at its place
@@ -121,12 +120,12 @@ module _ (p : Case → Bool) where
   not_last (d ∷ cs) c is = one_more d cs (cs ++ c ∷ []) (not_last cs c is)
 
   -- without those of a number
-  pub left : (n : ℕ) (cs : List Case) → filter (λ k. not (k == n)) (numbers cs) ≡ numbers (without n cs)
+  pub left : (n : ℕ) (cs : List Case) → filter (λ k. not (k == n)) (numbers cs) ≡ numbers (others n cs)
   left n [] = refl
   left n (c ∷ cs) = by (p c) refl (c.number == n) refl (left n cs)
     where
-      by : (b : Bool) → p c ≡ b → (d : Bool) → (c.number == n) ≡ d → filter (λ k. not (k == n)) (numbers cs) ≡ numbers (without n cs)
-          → filter (λ k. not (k == n)) (numbers (c ∷ cs)) ≡ numbers (cond (not d) (c ∷ without n cs) (without n cs))
+      by : (b : Bool) → p c ≡ b → (d : Bool) → (c.number == n) ≡ d → filter (λ k. not (k == n)) (numbers cs) ≡ numbers (others n cs)
+          → filter (λ k. not (k == n)) (numbers (c ∷ cs)) ≡ numbers (cond (not d) (c ∷ others n cs) (others n cs))
       by true e true f later = rw (e, f) later
       by true e false f later = rw (e, f) (ap (λ ks. c.number ∷ ks) later)
       by false e true f later = rw e later

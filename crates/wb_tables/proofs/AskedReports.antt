@@ -11,7 +11,7 @@ use Rattle.std.proofs.lemmas.List.Sums.{fold-append}
 use Rattle.wb_list.specs.Keyed.{IsAscending, has_key, insert_item}
 use Rattle.wb_model.specs.Access.{requests, requests_by, with_request}
 use Rattle.wb_model.specs.Opened.{Apart, AtMost}
-use Rattle.wb_model.specs.Tables.{Case, has_number}
+use Rattle.wb_model.specs.Tables.{Case, has_number, others}
 use Rattle.wb_model.specs.declared.access.AccessRequest.{AccessRequest}
 use Rattle.wb_model.specs.declared.entry.Actor.{Actor}
 use Rattle.wb_model.specs.declared.entry.Entry.{Entry}
@@ -25,7 +25,6 @@ use Rattle.wb_tables.specs.declared.noting.NotedEntry.{NotedEntry}
 use Rattle.wb_tables.specs.declared.tenancy.Report.{Report as KeptCase}
 use Rattle.wb_tables.proofs.AskedNumbers.{at_place, left, not_last, numbers, put, put_last, put_number, stay}
 use Rattle.wb_tables.proofs.CaseLists.{number_of, report-found}
-use Rattle.wb_tables.proofs.Indexes.{without}
 use Rattle.wb_tables.proofs.NotedReports.{custodied_found, number_found}
 
 -- ---- an entry leaves the requests that there are
@@ -37,21 +36,13 @@ never (suc (suc k)) change r rs e = omega (arith, e)
 
 none_before : (rs : List AccessRequest) (at : ℕ) (by : Actor) (d : Deed) → length (requests_by rs (record { at = at; by = by; deed = d })) ≡ 0 → length rs ≡ 0
 none_before [] at by d e = refl
-none_before (r ∷ rs) at by (deeds.Submitted ack_due answers context expires feedback_due form mark readers receipt received version) e = e
-none_before (r ∷ rs) at by deeds.Identity e = e
-none_before (r ∷ rs) at by (deeds.Comment internal text) e = e
-none_before (r ∷ rs) at by (deeds.Label text) e = e
-none_before (r ∷ rs) at by (deeds.SetStatus status) e = e
-none_before (r ∷ rs) at by (deeds.Acknowledged day feedback_due) e = e
-none_before (r ∷ rs) at by (deeds.Feedback text) e = e
-none_before (r ∷ rs) at by (deeds.Shared user) e = e
 none_before (r ∷ rs) at by (deeds.Unshared user) e = absurd (omega (arith, e))
 none_before (r ∷ rs) at by (deeds.Transferred context readers) e = absurd (omega (arith, e))
-none_before (r ∷ rs) at by (deeds.Postponed expires) e = e
 none_before (r ∷ rs) at by (deeds.Asked reason stamp) e = absurd (omega (arith, e))
 none_before (r ∷ rs) at by (deeds.Granted effective reason request withheld) e = absurd (never request _ r rs e)
 none_before (r ∷ rs) at by (deeds.Denied reason request) e = absurd (never request _ r rs e)
 none_before (r ∷ rs) at by (deeds.Revoked reason request) e = absurd (never request _ r rs e)
+none_before (r ∷ rs) at by d e = e
 
 some_is : (k : ℕ) → not (k == 0) ≡ false → k ≡ 0
 some_is k e = grind (arith, nat_tests, e)
@@ -119,7 +110,7 @@ asked_noted n e cs index new x y answer asked all ascending found number noting 
     by true f = put_in index y.number ∙ (ap (λ ks. put_number ks y.number) asked ∙ put has_requests cs y ascending f)
     by false f = asked ∙ sym (stay has_requests cs x y ascending (subst (λ k. find (has_key nat_cmp number_of k) cs ≡ Some x) numbered found) number (f ∙ sym (had_none e x.case.items y.case.items noting.items f)))
 
-pub asked_left : (n : ℕ) (cs : List Case) (index left_index : List Asked) → left_index ≡ filter (λ a. not (has_key nat_cmp number_in n a)) index → AreAsked cs index → AreAsked (without n cs) left_index
+pub asked_left : (n : ℕ) (cs : List Case) (index left_index : List Asked) → left_index ≡ filter (λ a. not (has_key nat_cmp number_in n a)) index → AreAsked cs index → AreAsked (others n cs) left_index
 asked_left n cs index left_index is asked = ap (map number_in) is ∙ (left_in n index ∙ (ap (filter (λ k. not (k == n))) asked ∙ left has_requests n cs))
 
 -- ---- what the index tells

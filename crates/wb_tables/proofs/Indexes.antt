@@ -10,7 +10,7 @@ use Rattle.std.proofs.lemmas.List.Folds.{list_any-append, list_all-append}
 use Rattle.wb_base.specs.declared.kind.Kind.{Kind}
 use Rattle.wb_base.specs.declared.kind.Kind.TheVariants.{Ack, Feedback, Expiry}
 use Rattle.wb_list.specs.Keyed.{has_key}
-use Rattle.wb_model.specs.Tables.{Case, has_number}
+use Rattle.wb_model.specs.Tables.{Case, has_number, report, others}
 use Rattle.wb_model.specs.Trails.{expires}
 use Rattle.wb_model.specs.Opened.{AtMost, Apart}
 use Rattle.wb_model.proofs.Leaving.{apart_filter, apart_push}
@@ -322,35 +322,17 @@ no_of false e f = grind (arith, f)
 not_is : (b : Bool) → b ≡ false → not b ≡ true
 not_is b e = rw e refl
 
-abbrev pub without : ℕ → List Case → List Case
-without n cs = filter (λ c. not (has_number n c)) cs
-
-module _ (tenant : ℕ) (today : ℤ) (cs : List Case) (terms : List Term) (h : IsIndexed tenant cs terms) where
-  abbrev is_first : Term → Bool
-  is_first t = same_kind t.kind Expiry && is_up_to tenant today t
-
-  -- a term that is due is of a report that does not live
-  taken_dead : (t : Term) → First is_first terms t → is_dead t.number today cs ≡ true
-  taken_dead t f =
-      let o = of_term tenant cs terms t h (f.one (same_term t) (term_self t)) in
-      let self : (t.number == t.number) ≡ true = grind (arith, nat_tests) in
-      o.one (λ c. has_number t.number c && not (lives_on today c)) (both_and (has_number t.number o.case) (not (lives_on today o.case)) (ap (λ (x : Term). x.number == t.number) o.is ∙ self) (dead_due tenant today o.case o.begun ∙ (ap (is_up_to tenant today) o.is ∙ second_and (same_kind t.kind Expiry) _ f.passes)))
-
-  taken_live : (n : ℕ) → is_dead n today cs ≡ true → list_any (λ c. has_number n c && lives_on today c) cs ≡ false
-  taken_live n dead = not_of (list_any (λ c. has_number n c && lives_on today c) cs) (λ live.
-      let f = same_one (lives_on today) (λ c. not (lives_on today c)) n cs h.apart live dead in
-      no_of (lives_on today f.item) (second_and (lives_on today f.item) _ f.passes) (first_and (lives_on today f.item) _ f.passes))
-
+module _ (tenant : ℕ) (cs : List Case) (terms : List Term) (h : IsIndexed tenant cs terms) where
   -- the terms that are left are those of the reports that are left
-  left_terms : (t : Term) → First is_first terms t → (u : Term) → list_any (same_term u) (filter (λ x. not (same_term t x)) terms) ≡ list_any (λ c. same_term u (expiry_of tenant c)) (without t.number cs)
-  left_terms t f u =
+  left_terms : (t : Term) → IsOneOf t terms → (u : Term) → list_any (same_term u) (filter (λ x. not (same_term t x)) terms) ≡ list_any (λ c. same_term u (expiry_of tenant c)) (others t.number cs)
+  left_terms t one u =
       any_filter (same_term u) (λ x. not (same_term t x)) terms
       ∙ (one_answer (list_any (λ x. same_term u x && not (same_term t x)) terms) (list_any (λ c. same_term u (expiry_of tenant c) && not (has_number t.number c)) cs) to back
       ∙ sym (any_filter (λ c. same_term u (expiry_of tenant c)) (λ c. not (has_number t.number c)) cs))
     where
       named : list_any (λ c. has_number t.number c && same_term t (expiry_of tenant c)) cs ≡ true
       named =
-          let o = of_term tenant cs terms t h (f.one (same_term t) (term_self t)) in
+          let o = of_term tenant cs terms t h (one (same_term t) (term_self t)) in
           let self : (t.number == t.number) ≡ true = grind (arith, nat_tests) in
           o.one (λ c. has_number t.number c && same_term t (expiry_of tenant c)) (both_and (has_number t.number o.case) (same_term t (expiry_of tenant o.case)) (ap (λ (x : Term). x.number == t.number) o.is ∙ self) (ap (same_term t) o.is ∙ term_self t))
 
@@ -380,17 +362,40 @@ module _ (tenant : ℕ) (today : ℤ) (cs : List Case) (terms : List Term) (h : 
           no_of (has_number t.number c) apart (ap (λ (x : Term). x.number == t.number) same ∙ self)) in
           in_index tenant cs terms c h g.one (λ x. same_term u x && not (same_term t x)) (both_and (same_term u (expiry_of tenant c)) (not (same_term t (expiry_of tenant c))) here (not_is (same_term t (expiry_of tenant c)) other))
 
-  pub taken : (t : Term) → Some t ≡ first_of Expiry (filter (is_up_to tenant today) terms) → IsTakenOut today t.number cs (without t.number cs) × IsIndexed tenant (without t.number cs) (filter (λ x. not (same_term t x)) terms)
+  left_index : (t : Term) → IsOneOf t terms → IsIndexed tenant (others t.number cs) (filter (λ x. not (same_term t x)) terms)
+  left_index t one = record {
+    apart = apart_filter has_number (λ c. not (has_number t.number c)) cs h.apart;
+    begun = all_filter is_begun (λ c. not (has_number t.number c)) cs h.begun;
+    terms = left_terms t one;
+  }
+
+  -- the report of a number is taken out, and its term
+  pub removed : (n : ℕ) (c : Case) → report n cs ≡ Some c → IsIndexed tenant (others n cs) (filter (λ x. not (same_term (expiry_of tenant c) x)) terms)
+  removed n c e =
+      let f = first (has_number n) cs c e in
+      subst (λ k. IsIndexed tenant (others k cs) (filter (λ x. not (same_term (expiry_of tenant c) x)) terms)) (nat_is c.number n f.passes) (left_index (expiry_of tenant c) (in_index tenant cs terms c h f.one))
+
+module _ (tenant : ℕ) (today : ℤ) (cs : List Case) (terms : List Term) (h : IsIndexed tenant cs terms) where
+  abbrev is_first : Term → Bool
+  is_first t = same_kind t.kind Expiry && is_up_to tenant today t
+
+  -- a term that is due is of a report that does not live
+  taken_dead : (t : Term) → First is_first terms t → is_dead t.number today cs ≡ true
+  taken_dead t f =
+      let o = of_term tenant cs terms t h (f.one (same_term t) (term_self t)) in
+      let self : (t.number == t.number) ≡ true = grind (arith, nat_tests) in
+      o.one (λ c. has_number t.number c && not (lives_on today c)) (both_and (has_number t.number o.case) (not (lives_on today o.case)) (ap (λ (x : Term). x.number == t.number) o.is ∙ self) (dead_due tenant today o.case o.begun ∙ (ap (is_up_to tenant today) o.is ∙ second_and (same_kind t.kind Expiry) _ f.passes)))
+
+  taken_live : (n : ℕ) → is_dead n today cs ≡ true → list_any (λ c. has_number n c && lives_on today c) cs ≡ false
+  taken_live n dead = not_of (list_any (λ c. has_number n c && lives_on today c) cs) (λ live.
+      let f = same_one (lives_on today) (λ c. not (lives_on today c)) n cs h.apart live dead in
+      no_of (lives_on today f.item) (second_and (lives_on today f.item) _ f.passes) (first_and (lives_on today f.item) _ f.passes))
+
+  pub taken : (t : Term) → Some t ≡ first_of Expiry (filter (is_up_to tenant today) terms) → IsTakenOut today t.number cs (others t.number cs)
   taken t e =
       let f = first is_first terms t (sym (find_filter (λ x. same_kind x.kind Expiry) (is_up_to tenant today) terms) ∙ sym e) in
-      let dead = taken_dead t f in (
-        record { dead = dead; left = refl; live = left_live today t.number cs (taken_live t.number dead) },
-        record {
-          apart = apart_filter has_number (λ c. not (has_number t.number c)) cs h.apart;
-          begun = all_filter is_begun (λ c. not (has_number t.number c)) cs h.begun;
-          terms = left_terms t f;
-        },
-      )
+      let dead = taken_dead t f in
+      record { dead = dead; left = refl; live = left_live today t.number cs (taken_live t.number dead) }
 
   pub all_live : None ≡ first_of Expiry (filter (is_up_to tenant today) terms) → list_any (λ c. not (lives_on today c)) cs ≡ false
   all_live e = not_of (list_any (λ c. not (lives_on today c)) cs) (λ some.
@@ -435,21 +440,27 @@ indexed_more tenant last cs terms new c h most lt begun after = record {
 
 -- ---- the table of the code
 
-map_without : (n : ℕ) (ks : List KeptCase) → map case_of (filter (λ k. not (has_key nat_cmp number_of n k)) ks) ≡ without n (map case_of ks)
+map_without : (n : ℕ) (ks : List KeptCase) → map case_of (filter (λ k. not (has_key nat_cmp number_of n k)) ks) ≡ others n (map case_of ks)
 map_without n [] = refl
 map_without n (k ∷ ks) = rw (← unsigned_ties k.number n) (by (k.number == n) (map_without n ks))
   where
-    by : (b : Bool) → map case_of (filter (λ k. not (has_key nat_cmp number_of n k)) ks) ≡ without n (map case_of ks)
-        → map case_of (cond (not b) (k ∷ filter (λ k. not (has_key nat_cmp number_of n k)) ks) (filter (λ k. not (has_key nat_cmp number_of n k)) ks)) ≡ cond (not b) (case_of k ∷ without n (map case_of ks)) (without n (map case_of ks))
+    by : (b : Bool) → map case_of (filter (λ k. not (has_key nat_cmp number_of n k)) ks) ≡ others n (map case_of ks)
+        → map case_of (cond (not b) (k ∷ filter (λ k. not (has_key nat_cmp number_of n k)) ks) (filter (λ k. not (has_key nat_cmp number_of n k)) ks)) ≡ cond (not b) (case_of k ∷ others n (map case_of ks)) (others n (map case_of ks))
     by true e = e
     by false e = ap (λ ds. case_of k ∷ ds) e
 
-pub left_cases : (n : ℕ) (ks left : List KeptCase) → left ≡ filter (λ k. not (has_key nat_cmp number_of n k)) ks → map case_of left ≡ without n (map case_of ks)
-left_cases n ks left e = ap (map case_of) e ∙ map_without n ks
+-- where it is not there, all stay
+pub none_left : (n : ℕ) (ks : List KeptCase) → find (has_key nat_cmp number_of n) ks ≡ None → filter (λ k. not (has_key nat_cmp number_of n k)) ks ≡ ks
+none_left n [] e = refl
+none_left n (k ∷ ks) e = by (λ f. none_left n ks f) (has_key nat_cmp number_of n k) e
+  where
+    by : (find (has_key nat_cmp number_of n) ks ≡ None → filter (λ z. not (has_key nat_cmp number_of n z)) ks ≡ ks) → (b : Bool) → cond b (Some k) (find (has_key nat_cmp number_of n) ks) ≡ None
+        → cond (not b) (k ∷ filter (λ z. not (has_key nat_cmp number_of n z)) ks) (filter (λ z. not (has_key nat_cmp number_of n z)) ks) ≡ k ∷ ks
+    by rest true f = absurd (cc f)
+    by rest false f = ap (λ zs. k ∷ zs) (rest f)
 
-filter_same : {X : Type 0} (p q : X → Bool) (xs : List X) → ((x : X) → p x ≡ q x) → filter p xs ≡ filter q xs
-filter_same p q [] same = refl
-filter_same p q (x ∷ xs) same = ap (λ b. cond b (x ∷ filter p xs) (filter p xs)) (same x) ∙ ap (λ ys. cond (q x) (x ∷ ys) ys) (filter_same p q xs same)
+pub left_cases : (n : ℕ) (ks left : List KeptCase) → left ≡ filter (λ k. not (has_key nat_cmp number_of n k)) ks → map case_of left ≡ others n (map case_of ks)
+left_cases n ks left e = ap (map case_of) e ∙ map_without n ks
 
 -- the reports that live are those that were there, where what was taken out did not live
 living_left : (today : ℤ) (n : ℕ) (ks : List KeptCase) → list_any (λ c. has_number n c && lives_on today c) (map case_of ks) ≡ false
@@ -465,11 +476,11 @@ living_left today n (k ∷ ks) e = by (λ g. living_left today n ks g) (has_numb
     by rest false true f g = rw f (ap (λ ds. k ∷ ds) (rest g))
     by rest false false f g = rw f (rest g)
 
-pub left_reports : (tenant : ℕ) (today : ℤ) (ks left : List KeptCase) (terms : List Term) → IsIndexed tenant (map case_of ks) terms → (t : Term) → Some t ≡ first_of Expiry (filter (is_up_to tenant today) terms) → left ≡ filter (λ k. not (has_key nat_cmp number_of t.number k)) ks
+pub left_reports : (tenant : ℕ) (today : ℤ) (ks left : List KeptCase) (terms : List Term) → IsIndexed tenant (map case_of ks) terms → (t : Term) → Some t ≡ first_of Expiry (filter (is_up_to tenant today) terms) → left ≡ filter (λ k. not (has_number t.number (case_of k))) ks
     → filter (λ k. lives_on today (case_of k)) left ≡ filter (λ k. lives_on today (case_of k)) ks
 left_reports tenant today ks left terms h t e is =
-    let dead = (taken tenant today (map case_of ks) terms h t e).0.dead in
-    ap (filter (λ k. lives_on today (case_of k))) (is ∙ filter_same (λ k. not (has_key nat_cmp number_of t.number k)) (λ k. not (has_number t.number (case_of k))) ks (λ k. ap not (sym (unsigned_ties k.number t.number))))
+    let dead = (taken tenant today (map case_of ks) terms h t e).dead in
+    ap (filter (λ k. lives_on today (case_of k))) is
     ∙ living_left today t.number ks (taken_live tenant today (map case_of ks) terms h t.number dead)
 
 -- ---- the requests that are kept

@@ -4,6 +4,7 @@ pub mod CaseLists
 pub mod Configurations
 pub mod Counting
 pub mod DeadNumbers
+pub mod EarlyReports
 pub mod HeldSessions
 pub mod Indexes
 pub mod LateSessions

@@ -37,6 +37,8 @@ use Rattle.wb_terms.specs.Index.{same_term}
 use Rattle.wb_terms.specs.declared.term_index.Term.{Term}
 use Rattle.wb_tables.specs.Indexed.{IsIndexed, AreCustodied, AreFewRequests, expiry_of, is_begun, moved}
 use Rattle.wb_tables.specs.Lives.{case_of}
+use Rattle.wb_base.specs.Calendars.{Calendar}
+use Rattle.wb_tables.specs.Lives.{AreEarly, HasEarlyDays}
 use Rattle.wb_tables.specs.Noted.{IsActed, IsMoved, IsNoted, IsReady}
 use Rattle.wb_tables.specs.declared.noting.NotedEntry.{NotedEntry}
 use Rattle.wb_tables.specs.declared.tenancy.Report.{Report as KeptCase}
@@ -179,6 +181,14 @@ few_found n (c ∷ cs) x all e = by (λ f. few_found n cs x all.1 f) (has_key na
 
 pub few_kept : (n : ℕ) (cs : List KeptCase) (x : KeptCase) → AreCustodied cs → AreFewRequests (map case_of cs) → find (has_key nat_cmp number_of n) cs ≡ Some x → length x.desk.items ≤ 100
 few_kept n cs x all few e = subst (λ (rs : List AccessRequest). length rs ≤ 100) (sym (custodied_found (has_key nat_cmp number_of n) cs x all e)) (few_found n cs x few e)
+
+pub early_found : (n : ℕ) (cs : List KeptCase) (x : KeptCase) → AreEarly (map case_of cs) → find (has_key nat_cmp number_of n) cs ≡ Some x → HasEarlyDays x.case.items
+early_found n [] x all e = absurd (grind (arith, e))
+early_found n (c ∷ cs) x all e = by (λ f. early_found n cs x all.1 f) (has_key nat_cmp number_of n c) e
+  where
+    by : (find (has_key nat_cmp number_of n) cs ≡ Some x → HasEarlyDays x.case.items) → (b : Bool) → cond b (Some c) (find (has_key nat_cmp number_of n) cs) ≡ Some x → HasEarlyDays x.case.items
+    by later true f = let same : c ≡ x = cc f in subst (λ (r : KeptCase). HasEarlyDays r.case.items) same all.0
+    by later false f = later f
 
 -- ---- the index of expiry days
 
@@ -408,32 +418,24 @@ noted_custodied n e cs x y answer all found noting =
 -- ---- an act and a move that are planned
 
 -- no act asks for an identity, so none needs room for a request
-act_room : (desk : Desk) (trail : List Entry) (act : Act) → HasRoom desk (act_deed trail act)
-act_room desk trail (acts.Comment internal text) = tt
-act_room desk trail (acts.Label text) = tt
-act_room desk trail (acts.SetStatus status) = tt
-act_room desk trail (acts.Acknowledge today) = tt
-act_room desk trail (acts.Feedback text) = tt
-act_room desk trail (acts.Share user) = tt
-act_room desk trail (acts.Unshare user) = tt
-act_room desk trail (acts.Transfer context is_open readers) = tt
-act_room desk trail (acts.Postpone today retention) = tt
-act_room desk trail acts.Identity = tt
+act_room : (calendar : Calendar) (desk : Desk) (trail : List Entry) (act : Act) → HasRoom desk (act_deed calendar trail act)
+act_room calendar desk trail (acts.Label text) = tt
+act_room calendar desk trail _ = tt
 
-pub acted_ready : (n at : ℕ) (by : Actor) (act : Act) (cs : List KeptCase) (x y : KeptCase) (answer : Result Entry CaseFault) → find (has_key nat_cmp number_of n) cs ≡ Some x → y.number ≡ x.number → IsActed at by act x y answer
+pub acted_ready : (calendar : Calendar) (n at : ℕ) (by : Actor) (act : Act) (cs : List KeptCase) (x y : KeptCase) (answer : Result Entry CaseFault) → find (has_key nat_cmp number_of n) cs ≡ Some x → y.number ≡ x.number → IsActed calendar at by act x y answer
     → IfOk answer (λ e. right_actor e.deed e.by ≡ true → IsReady n e (insert_item nat_cmp number_of cs y))
-acted_ready n at by act cs x y (Err fault) found number acted = tt
-acted_ready n at by act cs x y (Ok e) found number acted = λ actor.
+acted_ready calendar n at by act cs x y (Err fault) found number acted = tt
+acted_ready calendar n at by act cs x y (Ok e) found number acted = λ actor.
     let deed = ap (λ (z : Entry). z.deed) acted.plan.1 in
     record {
       report = y;
       found = changed_found n cs x y found number;
-      roomy = record { room = acted.room; few = acted.few; desk = subst (HasRoom y.desk) (sym deed) (act_room y.desk x.case.items act); actor = actor };
-      later = ap submission_in deed ∙ act_later x.case.items act;
+      roomy = record { room = acted.room; few = acted.few; desk = subst (HasRoom y.desk) (sym deed) (act_room calendar y.desk x.case.items act); actor = actor };
+      later = ap submission_in deed ∙ act_later calendar x.case.items act;
     }
 
-pub acted_custodied : (n at : ℕ) (by : Actor) (act : Act) (cs : List KeptCase) (x y : KeptCase) (answer : Result Entry CaseFault) → AreCustodied cs → find (has_key nat_cmp number_of n) cs ≡ Some x → IsActed at by act x y answer → AreCustodied (insert_item nat_cmp number_of cs y)
-acted_custodied n at by act cs x y answer all found acted =
+pub acted_custodied : (calendar : Calendar) (n at : ℕ) (by : Actor) (act : Act) (cs : List KeptCase) (x y : KeptCase) (answer : Result Entry CaseFault) → AreCustodied cs → find (has_key nat_cmp number_of n) cs ≡ Some x → IsActed calendar at by act x y answer → AreCustodied (insert_item nat_cmp number_of cs y)
+acted_custodied calendar n at by act cs x y answer all found acted =
     custodied_changed cs y all (ap (λ (d : Desk). d.items) acted.desk ∙ (custodied_found (has_key nat_cmp number_of n) cs x all found ∙ sym (ap requests acted.items)))
 
 pub moved_ready : (n at : ℕ) (by : Actor) (move : Move) (cs : List KeptCase) (x y : KeptCase) (answer : Result Entry CustodyFault) → find (has_key nat_cmp number_of n) cs ≡ Some x → y.number ≡ x.number → IsMoved at by move x y answer

@@ -14,6 +14,7 @@ use Rattle.wb_list.specs.Room.{Room}
 use Rattle.wb_custody.specs.declared.sealed.SealedItem.{SealedItem}
 use Rattle.wb_custody.specs.SealedAnswers.{answers_of}
 use Rattle.wb_tables.specs.Indexed.{IsTakenOut, AreFewRequests}
+use Rattle.wb_tables.specs.Lives.{AreEarly}
 use Rattle.wb_tables.specs.Kept.{PlainTenancy, case_of, place_of, tables_of, tenancy_of, sealed_of, live_place, purged_tenancy, lives_on}
 use Rattle.wb_tables.specs.Places.{IsPlace, ArePlaces, is_tenant, is_dead, gone_under}
 use Rattle.wb_tables.specs.declared.tenancy.Report.{Report as KeptCase}
@@ -202,6 +203,14 @@ few_filter p (c ∷ cs) h = by (p c) (few_filter p cs h.1)
     by true rest = (h.0, rest)
     by false rest = rest
 
+early_filter : (p : Case → Bool) (cs : List Case) → AreEarly cs → AreEarly (filter p cs)
+early_filter p [] h = tt
+early_filter p (c ∷ cs) h = by (p c) (early_filter p cs h.1)
+  where
+    by : (b : Bool) → AreEarly (filter p cs) → AreEarly (cond b (c ∷ filter p cs) (filter p cs))
+    by true rest = (h.0, rest)
+    by false rest = rest
+
 -- what holds of the place after it
 pub purged_is_place : (turns time : ℕ) (items new : List SealedItem) (x : PlainTenancy) → IsPlace turns items x → ((n : ℕ) → answers_of new x.id n ≡ (purged time (tables_of items x)).sealed n) → IsPlace turns new (live_place time x)
 purged_is_place turns time items new x h here = record {
@@ -219,6 +228,7 @@ purged_is_place turns time items new x h here = record {
   there = there_filter time (live_cases x.plain time) x.plain.sessions;
   moments = fall_filter 0 (lasts time (live_cases x.plain time)) x.plain.sessions h.moments;
   requests = few_filter (is_live x.plain.registry.settings time) x.plain.cases h.requests;
+  days = early_filter (is_live x.plain.registry.settings time) x.plain.cases h.days;
   unsealed = λ n absent. here n ∙ ap (λ b. if b then sealed_of items x.id n else None) absent;
 }
 
@@ -231,7 +241,7 @@ same_tenancy : (x y : Tenancy) → x.id ≡ y.id → x.tables ≡ y.tables → x
 same_tenancy x y i t = λ k. record { id = i k; tables = t k }
 
 pub same_place : (turns : ℕ) (items new : List SealedItem) (x : PlainTenancy) → IsPlace turns items x → ((n : ℕ) → answers_of new x.id n ≡ answers_of items x.id n) → IsPlace turns new x
-same_place turns items new x h same = record { id = h.id; plain = h.plain; drawn = h.drawn; ascend = h.ascend; most = h.most; sessions = h.sessions; there = h.there; moments = h.moments; requests = h.requests; unsealed = λ n e. same n ∙ h.unsealed n e }
+same_place turns items new x h same = record { id = h.id; plain = h.plain; drawn = h.drawn; ascend = h.ascend; most = h.most; sessions = h.sessions; there = h.there; moments = h.moments; requests = h.requests; days = h.days; unsealed = λ n e. same n ∙ h.unsealed n e }
 
 pub places_above : (turns k t : ℕ) (items new : List SealedItem) (xs : List PlainTenancy) → t ≤ k → ArePlaces turns k items xs → AreOthers items new t → ArePlaces turns k new xs
 places_above turns k t items new [] le all others = tt

@@ -1,5 +1,5 @@
 -- The table of receipts has those of the reports.
-use Rattle.std.proofs.Common.{◌≡◌, ℕ, ℤ, ◌++◌, Bool, true, false, cond, List, [], ◌∷◌, length, map, find, Option, Some, None, refl, sym, ap, ◌∙◌, arith}
+use Rattle.std.proofs.Common.{◌≡◌, ℕ, ◌++◌, Bool, true, false, cond, List, [], ◌∷◌, length, map, find, Option, Some, None, refl, sym, ap, ◌∙◌, arith}
 use Rattle.std.specs.Prelude.{◌==◌, ◌&&◌, ◌||◌, fold, is_some, not, unwrap_or, if◌then◌else◌}
 use Rattle.std.specs.Cmp.Lexicographic.{bytes_decides}
 use Rattle.std.specs.List.{list_all}
@@ -7,6 +7,7 @@ use Rattle.std.specs.Option.{option_map}
 use Rattle.std.proofs.lemmas.Bool.Decides.{nat_tests}
 use Rattle.std.proofs.lemmas.List.Folds.{list_all-append, list_any-append}
 use Rattle.wb_access.specs.Receipts.{Receipt, number_of}
+use Rattle.wb_base.specs.Calendars.{Calendar}
 use Rattle.wb_base.specs.Secrets.{same_digest}
 use Rattle.wb_base.specs.AnswerList.{is_text}
 use Rattle.wb_base.specs.declared.words.Digest.{Digest}
@@ -19,14 +20,13 @@ use Rattle.wb_model.specs.Acts.{act_deed}
 use Rattle.wb_model.specs.Host.{noted}
 use Rattle.wb_model.specs.Moves.{move_deed}
 use Rattle.wb_model.specs.Opened.{Apart}
-use Rattle.wb_model.specs.Tables.{Case, has_number, has_receipt, report, with_receipt}
+use Rattle.wb_model.specs.Tables.{Case, has_number, has_receipt, report, with_receipt, others}
 use Rattle.wb_model.specs.Trails.{Submission, receipt, submission_in, submitted}
 use Rattle.wb_model.proofs.Found.{find_true}
 use Rattle.wb_model.proofs.Leaving.{apart_filter, apart_map, apart_push}
 use Rattle.wb_model.proofs.LiveActs.{silent_receipt}
-use Rattle.wb_tables.specs.Lives.{lives_on, is_dead}
 use Rattle.wb_tables.specs.Receipted.{AreReceipted, HasOwnReceipt, is_submitted, has_submission}
-use Rattle.wb_tables.proofs.Indexes.{all_filter, first_and, second_and, without}
+use Rattle.wb_tables.proofs.Indexes.{all_filter, first_and, second_and}
 use Rattle.wb_tables.proofs.Lookups.{find_kept, kept}
 
 abbrev number_at : Case → ℕ
@@ -139,15 +139,6 @@ under_key P k p (x ∷ xs) c apart e is = by (p x) e (λ f. under_key P k p xs c
         rw here f
     by false f rest = on (P k x) refl (rest f)
 
--- a report that does not live is there
-pub dead_report : (n : ℕ) (today : ℤ) (cs : List Case) → is_dead n today cs ≡ true → report n cs ≡ None → ⊥
-dead_report n today [] dead none = absurd (cc dead)
-dead_report n today (c ∷ cs) dead none = by (has_number n c) dead none (λ d e. dead_report n today cs d e)
-  where
-    by : (b : Bool) → ((b && not (lives_on today c)) || is_dead n today cs) ≡ true → cond b (Some c) (report n cs) ≡ None → (is_dead n today cs ≡ true → report n cs ≡ None → ⊥) → ⊥
-    by true d e rest = absurd (cc e)
-    by false d e rest = rest d e
-
 -- each report that is found has a submission
 pub submitted_found : (p : Case → Bool) (cs : List Case) (c : Case) → list_all has_submission cs ≡ true → find p cs ≡ Some c → is_submitted c.trail ≡ true
 submitted_found p [] c all e = absurd (cc e)
@@ -158,7 +149,7 @@ submitted_found p (x ∷ xs) c all e = by (p x) e (λ f. submitted_found p xs c 
     by false f rest = rest f
 
 pub receipted_left : (tenant n : ℕ) (cs : List Case) (rs new : List Receipt) (c : Case) (d : Digest) → Apart has_number cs → AreReceipted tenant cs rs → report n cs ≡ Some c → d.0 ≡ receipt c.trail
-    → ((t : ℕ) (e : Digest) → number_of t e new ≡ (if (tenant == t) && same_digest d e then None else number_of t e rs)) → AreReceipted tenant (without n cs) new
+    → ((t : ℕ) (e : Digest) → number_of t e new ≡ (if (tenant == t) && same_digest d e then None else number_of t e rs)) → AreReceipted tenant (others n cs) new
 receipted_left tenant n cs rs new c d numbers h there is found = record {
   numbers = λ e. found tenant e ∙ (ap (λ b. cond b None (number_of tenant e rs)) (as_trail tenant d e c.trail is) ∙ (by e (has_receipt e c) refl ∙ sym (ap (option_map number_at) (find_kept has_receipt e stays cs h.apart))));
   apart = apart_filter has_receipt stays cs h.apart;
@@ -215,9 +206,9 @@ receipted_noted tenant n e cs rs later h = record {
 }
 
 -- what an act and a move put on a trail is no submission
-pub act_later : (trail : List Entry) (act : Act) → submission_in (act_deed trail act) ≡ None
-act_later trail (acts.Label text) = refl
-act_later trail _ = refl
+pub act_later : (calendar : Calendar) (trail : List Entry) (act : Act) → submission_in (act_deed calendar trail act) ≡ None
+act_later calendar trail (acts.Label text) = refl
+act_later calendar trail _ = refl
 
 pub move_later : (at : ℕ) (move : Move) → submission_in (move_deed at move) ≡ None
 move_later at (moves.Ask reason stamp) = refl

@@ -22,7 +22,7 @@ use Rattle.wb_model.specs.Changes.{LogsIn}
 use Rattle.wb_model.specs.Host.{is_user, sessions_after}
 use Rattle.wb_model.specs.Opened.{Apart, has_turn}
 use Rattle.wb_model.specs.Past.{who_of}
-use Rattle.wb_model.specs.Tables.{Case, Session, Who, same_who, lasts, stays, session as session_by}
+use Rattle.wb_model.specs.Tables.{Case, Session, Who, same_who, lasts, stays, session as session_by, is_reporter_of}
 use Rattle.wb_model.proofs.Eights.{fewer, eight}
 use Rattle.wb_model.proofs.EightsOf as eights
 use Rattle.wb_tables.specs.Kept.{is_session}
@@ -227,6 +227,14 @@ user_is t u s mine = ap not (by s.principal mine.caller)
     by : (p : Principal) → tenant_in p ≡ t → same_principal p (principals.User t u) ≡ is_user u (who_of p)
     by (principals.User a v) e = let same : (a == t) ≡ true = grind (arith, nat_tests, e) in rw same refl
     by (principals.Report a n) e = refl
+
+-- a reporter's
+pub reporter_is : (t n : ℕ) (s : KeptSession) → IsOf t s → not (is_of (principals.Report t n) s) ≡ not (is_reporter_of n (who_of s.principal))
+reporter_is t n s mine = ap not (by s.principal mine.caller)
+  where
+    by : (p : Principal) → tenant_in p ≡ t → same_principal p (principals.Report t n) ≡ is_reporter_of n (who_of p)
+    by (principals.Report a m) e = let same : (a == t) ≡ true = grind (arith, nat_tests, e) in rw same refl
+    by (principals.User a v) e = refl
 
 -- ---- which one a caller shows
 

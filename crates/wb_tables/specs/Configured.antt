@@ -1,7 +1,7 @@
 -- What a tenant is set up with as it is kept, and what is asked to be set of it.
 use Rattle.std.specs.Prelude.{◌≡◌, ◌≤◌, ◌<◌, ℕ, true, Option, None, Ok}
 use Rattle.wb_base.specs.FormFaults.{is_good}
-use Rattle.wb_base.specs.FormJson.{form_data}
+use Rattle.wb_base.specs.FormJson.{kept_data}
 use Rattle.wb_base.specs.declared.rows.Row.{Row}
 use Rattle.wb_model.specs.declared.registry.Lists.{Lists}
 use Rattle.wb_model.specs.declared.setting.AdminFault.{AdminFault}
@@ -56,7 +56,7 @@ abbrev pub row_of : ℕ → Registry → Proposal → Row
 row_of t g (proposals.ToTenant next) = row 1 t 0 0 (settings_data (set_tenant next g.settings))
 row_of t g (proposals.ToUser u next) = row 3 t u 0 (user_data (user_item t g.settings.salt u (user u g.users) next))
 row_of t g (proposals.ToContext c next) = row 5 t c 0 (context_data (context_item t c next))
-row_of t g (proposals.ToForm f form) = row 4 t f (next_version f g.forms) (form_data form)
+row_of t g (proposals.ToForm f form) = row 4 t f (next_version f g.forms) (kept_data form)
 
 -- there is room for it
 abbrev pub HasPlace : Configured → Proposal → Type 0

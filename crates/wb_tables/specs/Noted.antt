@@ -2,6 +2,7 @@
 use Rattle.std.specs.Prelude.{◌≡◌, ◌<◌, ◌≤◌, ◌++◌, ◌∷◌, [], ℕ, ◌==◌, not, true, List, length, find, None, Some, Result, IfOk, OnOk}
 use Rattle.std.specs.Ordering.{nat_cmp}
 use Rattle.wb_list.specs.Keyed.{has_key}
+use Rattle.wb_base.specs.Calendars.{Calendar}
 use Rattle.wb_case.specs.Plans.{GivesPlan}
 use Rattle.wb_case.specs.Summaries.{needed_by}
 use Rattle.wb_custody.specs.Desks.{HasRoom}
@@ -32,11 +33,11 @@ pub record IsReady (n : ℕ) (e : Entry) (reports : List Report) : Type 0 where
   pub roomy : IsRoomy e report
   pub later : submission_in e.deed ≡ None
 
--- an act was planned: the report is as it was, but for its room
-pub record IsActed (at : ℕ) (by : Actor) (act : Act) (old new : Report) (answer : Result Entry CaseFault) : Type 0 where
+-- an act was planned on a calendar: the report is as it was, but for its room
+pub record IsActed (calendar : Calendar) (at : ℕ) (by : Actor) (act : Act) (old new : Report) (answer : Result Entry CaseFault) : Type 0 where
   pub items : new.case.items ≡ old.case.items
   pub desk : new.desk ≡ old.desk
-  pub plan : GivesPlan old.case.items at by act answer
+  pub plan : GivesPlan calendar old.case.items at by act answer
   pub room : OnOk answer (0 < new.case.spare)
   pub few : IfOk answer (λ e. needed_by e.deed ≤ 32)
 

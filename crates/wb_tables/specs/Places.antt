@@ -11,7 +11,7 @@ use Rattle.wb_model.specs.Opened.{Ascend, AtMost, AreWithin, AreOrdered, AreVers
 use Rattle.wb_model.specs.Tables.{Registry, Plain, Case, has_number, has_receipt, is_there}
 pub use Rattle.wb_tables.specs.Lives.{is_dead}
 use Rattle.wb_tables.specs.Indexed.{AreFewRequests}
-use Rattle.wb_tables.specs.Lives.{case_of, lives_on}
+use Rattle.wb_tables.specs.Lives.{AreEarly, case_of, lives_on}
 use Rattle.wb_tables.specs.Kept.{PlainTenancy}
 use Rattle.wb_tables.specs.Logins.{AreThere, NeverFall}
 use Rattle.wb_tables.specs.declared.tenancy.Tenancy.{Tenancy as KeptTenancy}
@@ -52,6 +52,8 @@ pub record IsPlace (turns : ℕ) (items : List SealedItem) (x : PlainTenancy) : 
   pub moments : NeverFall 0 x.plain.sessions
   -- each report has at most 100 requests for its identity
   pub requests : AreFewRequests x.plain.cases
+  -- and its terms are counted from days of moments
+  pub days : AreEarly x.plain.cases
   -- identity answers stand under reports that are there
   pub unsealed : (n : ℕ) → is_there n x.plain.cases ≡ false → answers_of items x.id n ≡ None
 

@@ -10,11 +10,11 @@ ghost use Rattle.wb_model.specs.Access.{requests};
 ghost use Rattle.wb_model.specs.Host.{noted};
 ghost use Rattle.wb_model.specs.Legal.{is_reporter, right_actor};
 ghost use Rattle.wb_model.specs.Opened.{AtMost};
-ghost use Rattle.wb_model.specs.Tables.{is_there, report as report_by, with_receipt as with_receipt_by};
+ghost use Rattle.wb_model.specs.Tables.{has_number, is_there, others, report as report_by, with_receipt as with_receipt_by};
 ghost use Rattle.wb_model.specs.Trails.{has_identity, submitted};
 ghost use Rattle.wb_model.specs.declared.entry.Entry.{Entry as EntryData};
 ghost use Rattle.wb_tables.specs.Indexed.{AreCustodied, AreExpired, AreFewRequests, IsTakenOut, expiry_of, has_requests, moved};
-ghost use Rattle.wb_tables.specs.Lives.{case_of, lives_on};
+ghost use Rattle.wb_tables.specs.Lives.{AreEarly, HasEarlyDays, case_of, lives_on};
 ghost use Rattle.wb_tables.specs.Noted.{IsReady};
 ghost use Rattle.wb_tables.specs.Receipted.{HasOwnReceipt, is_submitted};
 ghost use Rattle.wb_terms.specs.Index.{same_term};
@@ -27,7 +27,7 @@ use crate::tenancy::Report;
 use std::alloc::Global;
 use std::marker::Model;
 use wb_access::ReceiptBox;
-use wb_base::{Day, Digest, Kind, Memory, Moment, Number, Tenant};
+use wb_base::{Calendar, Day, Digest, Kind, Memory, Moment, Number, Tenant};
 use wb_list::Sorted;
 use wb_model::{Act, Actor, CaseFault, CustodyFault, Deed, Entry, Move};
 use wb_terms::{Term, TermIndex};
@@ -195,22 +195,33 @@ impl Cases {
         self.receipts.add(self.tenant, digest, number);
     }
 
-    /// The entry of an act on the report of a number, with room for it there, or the first rule that refuses it.
+    /// The entry of an act on the report of a number, on the tenant's calendar, with room for it there, or the first rule
+    /// that refuses it.
     pub fn act(
         &mut self,
         number: Number,
         at: Moment,
         by: Actor,
         act: Act,
+        calendar: &Calendar,
     ) -> Result<Entry, CaseFault>
         requires there { is_there number (map case_of self.old.items) ≡ true }
-        requires range { IsInRange act }
+        requires early { AreEarly (map case_of self.old.items) }
+        requires range { (trail : List EntryData) → HasEarlyDays trail → IsInRange trail act }
         ensures tenant { self.new.tenant ≡ self.old.tenant }
         ensures cases { map case_of self.new.items ≡ map case_of self.old.items }
-        ensures plan { (trail : List EntryData) → report_by number (map case_of self.old.items) ≡ Some (record { number = number; trail = trail }) → GivesPlan trail at by act result }
+        ensures plan { (trail : List EntryData) → report_by number (map case_of self.old.items) ≡ Some (record { number = number; trail = trail }) → GivesPlan calendar.now trail at by act result }
         ensures ready { IfOk result (λ entry. right_actor entry.deed entry.by ≡ true → IsReady number entry self.new.items) }
     {
-        self.cases.change(&number.get(), Acting { at, by, act })
+        self.cases.change(
+            &number.get(),
+            Acting {
+                at,
+                by,
+                act,
+                calendar,
+            },
+        )
     }
 
     /// The entry of a user's move with the requests for the identity of the report of a number, with room for it there,
@@ -259,6 +270,26 @@ impl Cases {
         self.terms.up_to(self.tenant, today, Kind::Expiry)
     }
 
+    /// Takes the report of a number out, where it is there, and what the indexes have of it. It takes no memory, and looks
+    /// at no other report.
+    pub fn remove(&mut self, number: Number)
+        ensures tenant { self.new.tenant ≡ self.old.tenant }
+        ensures left { map case_of self.new.items ≡ others number (map case_of self.old.items) }
+        ensures reports { self.new.items ≡ filter (λ r. not (has_number number (case_of r))) self.old.items }
+        ensures kept { self.old.spare ≤ self.new.spare }
+    {
+        let Some(filed) = self.cases.take(&number.get()) else {
+            return;
+        };
+        let report = filed.report();
+        let Some(digest) = receipt(report.case.trail().as_slice()) else {
+            unreachable!();
+        };
+        self.asked.take(&number.get());
+        self.terms.remove(&expiry(self.tenant, report));
+        self.receipts.remove(self.tenant, &digest);
+    }
+
     /// Takes a report out that does not live on this day, where there is one, and gives its number. It takes no memory.
     pub fn take_expired(&mut self, today: Day) -> Option<Number>
         ensures tenant { self.new.tenant ≡ self.old.tenant }
@@ -269,15 +300,7 @@ impl Cases {
         ensures kept { self.old.spare ≤ self.new.spare }
     {
         let term = self.terms.first_up_to(self.tenant, today, Kind::Expiry)?;
-        let Some(filed) = self.cases.take(&term.number.get()) else {
-            unreachable!();
-        };
-        let Some(digest) = receipt(filed.report().case.trail().as_slice()) else {
-            unreachable!();
-        };
-        self.asked.take(&term.number.get());
-        self.terms.remove(&term);
-        self.receipts.remove(self.tenant, &digest);
+        self.remove(term.number);
         Some(term.number)
     }
 }

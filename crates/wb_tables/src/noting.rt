@@ -4,30 +4,32 @@ ghost use Rattle.wb_model.specs.Trails.{expires as expires_by};
 
 use crate::filed::Filed;
 use crate::tenancy::Report;
-use wb_base::{Day, Moment};
+use wb_base::{Calendar, Day, Moment};
 use wb_list::ItemChange;
 use wb_model::{Act, Actor, CaseFault, CustodyFault, Entry, Move};
 
-/// An act that is planned.
+/// An act that is planned on a tenant's calendar.
 #[derive(Drop)]
-pub(crate) struct Acting {
+pub(crate) struct Acting<'a> {
     pub(crate) at: Moment,
     pub(crate) by: Actor,
     pub(crate) act: Act,
+    pub(crate) calendar: &'a Calendar,
 }
 
-impl ItemChange<Filed> for Acting {
+impl ItemChange<Filed> for Acting<'_> {
     type Answer = Result<Entry, CaseFault>;
 
     ghost use Rattle.wb_case.specs.Plans.{IsInRange};
     ghost use Rattle.wb_tables.specs.Noted.{IsActed};
 
-    ghost asks = { λ acting report. IsInRange acting.act };
+    ghost asks = { λ acting report. IsInRange report.case.items acting.act };
 
-    ghost makes = { λ acting old new answer. IsActed acting.at acting.by acting.act old new answer };
+    ghost makes = { λ acting old new answer. IsActed acting.calendar.now acting.at acting.by acting.act old new answer };
 
     fn change(self, filed: &mut Filed) -> Result<Entry, CaseFault> {
-        filed.report.case.plan(self.at, self.by, self.act)
+        let case = &mut filed.report.case;
+        case.plan(self.at, self.by, self.act, self.calendar)
     }
 }
 

@@ -3,7 +3,7 @@ ghost use Rattle.std.specs.Prelude.{◌≡◌, ◌+◌, ◌<◌, ◌≤◌, ◌=
 ghost use Rattle.wb_access.specs.Sessions.{session_shown};
 ghost use Rattle.wb_model.specs.Changes.{LogsIn};
 ghost use Rattle.wb_model.specs.Host.{is_user, sessions_after};
-ghost use Rattle.wb_model.specs.Tables.{Case, is_there, lasts as lasts_at, session as session_by, stays as stays_by};
+ghost use Rattle.wb_model.specs.Tables.{Case, is_there, lasts as lasts_at, session as session_by, sessions_but, stays as stays_by};
 ghost use Rattle.wb_tables.specs.Kept.{case_of, plain_of, live_plain};
 ghost use Rattle.wb_model.specs.Past.{who_of};
 ghost use Rattle.wb_tables.specs.Logins.{AreEarlier, AreOf, AreThere, NeverFall, IsOf, login_of, session_of, tenant_in, who_seen};
@@ -176,6 +176,14 @@ impl Sessions {
         ensures items { map session_of self.new.items ≡ filter (λ s. not (is_user user s.who)) (map session_of self.old.items) }
     {
         self.table.drop_of(Principal::User(self.tenant, user));
+    }
+
+    /// Drops the sessions of the reporter of a report that is deleted. It looks at each once.
+    pub fn drop_reporter(&mut self, number: Number)
+        ensures tenant { self.new.tenant ≡ self.old.tenant }
+        ensures items { map session_of self.new.items ≡ sessions_but number (map session_of self.old.items) }
+    {
+        self.table.drop_of(Principal::Report(self.tenant, number));
     }
 
     // Drops the sessions that do not last at a time, where these reports are there. It looks at each, and for its report.

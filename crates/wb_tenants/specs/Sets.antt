@@ -1,5 +1,5 @@
 -- The registry as contracts see it, and what its calls set.
-use Rattle.std.specs.Prelude.{◌≡◌, ℕ, ◌==◌, ◌&&◌, Bool, true, List, find, Option, is_some}
+use Rattle.std.specs.Prelude.{◌≡◌, ℕ, ◌==◌, ◌&&◌, Bool, true, List, find, unwrap_or, Option, is_some}
 use Rattle.std.specs.Ordering.{nat_cmp}
 use Rattle.wb_list.specs.Keyed.{insert_item}
 use Rattle.wb_base.specs.declared.form.Form.{Form}
@@ -10,7 +10,7 @@ use Rattle.wb_model.specs.declared.registry.FormItem.{FormItem}
 use Rattle.wb_model.specs.declared.registry.Lists.{Lists}
 use Rattle.wb_model.specs.declared.registry.TenantItem.{TenantItem}
 use Rattle.wb_model.specs.declared.registry.UserItem.{UserItem}
-use Rattle.wb_model.specs.Openings.{registry_of}
+use Rattle.wb_model.specs.Openings.{registry_of, no_settings}
 use Rattle.wb_model.specs.Settings.{user_item, context_item, form_item}
 use Rattle.wb_model.specs.Tables.{user}
 use Rattle.wb_setup.specs.Keys.{tenant_key, key_cmp, user_key, version_key, context_key}
@@ -37,6 +37,10 @@ abbrev pub version_of : ℕ → ℕ → List FormItem → Option FormItem
 version_of id version forms = find (is_version id version) forms
 
 -- ---- the settings
+
+-- what is listed of a tenant
+abbrev pub settings_in : List TenantItem → ℕ → TenantItem
+settings_in tenants t = unwrap_or (find (is_tenant t) tenants) (no_settings t)
 
 -- a tenant with other settings
 abbrev pub set_tenant : SettingsSet → TenantItem → TenantItem

@@ -1,7 +1,7 @@
 //! Copies of forms, whose only fault is want of memory.
 ghost use Rattle.std.specs.Prelude.{◌≡◌, IfOk};
 
-use wb_base::{Choice, Cond, Field, FieldKind, Form, Memory, Step, Text, Trigger};
+use wb_base::{Choice, Cond, Field, FieldKind, Form, Memory, Part, Step, Text, Trigger};
 use wb_list::{Items, TryClone};
 
 /// What can be copied as a part of a form.
@@ -40,12 +40,28 @@ impl Copied for Cond {
     }
 }
 
+impl Copied for Part {
+    fn copied(&self) -> Result<Part, Memory> {
+        let field = self.field.try_clone()?;
+        let option = self.option.try_clone()?;
+        Ok(Part {
+            field,
+            option,
+            points: self.points,
+        })
+    }
+}
+
 impl Copied for Trigger {
     fn copied(&self) -> Result<Trigger, Memory> {
         match self {
             Trigger::Always => Ok(Trigger::Always),
             Trigger::Any(conds) => Ok(Trigger::Any(copy_items(conds)?)),
             Trigger::All(conds) => Ok(Trigger::All(copy_items(conds)?)),
+            Trigger::Score { least, parts } => Ok(Trigger::Score {
+                least: *least,
+                parts: copy_items(parts)?,
+            }),
         }
     }
 }

@@ -1,7 +1,7 @@
 //! Setting one more version of a form.
 ghost use Rattle.std.specs.Prelude.{◌≡◌, ◌≢◌, ◌<◌, Some, None, Err, IsOk, IfOk, IfErr, OnOk, OnErr};
 ghost use Rattle.std.specs.Option.{option_map_or};
-ghost use Rattle.wb_base.specs.FormJson.{form_data};
+ghost use Rattle.wb_base.specs.FormJson.{kept_data};
 ghost use Rattle.wb_model.specs.Openings.{registry_of};
 ghost use Rattle.wb_model.specs.Rows.{row};
 ghost use Rattle.wb_model.specs.Settings.{form_fault as form_fault_in, form_item as form_item_of, next_version};
@@ -10,7 +10,7 @@ ghost use Rattle.wb_tenants.specs.Sets.{HasTenant, with_form};
 
 use crate::Registry;
 use crate::rows::form_row;
-use wb_base::{Form, Memory, Row, Tenant};
+use wb_base::{Form, Format, Memory, Row, Tenant};
 use wb_model::{AdminFault, FormItem};
 
 impl Registry {
@@ -56,11 +56,11 @@ impl Registry {
     fn planned_form(&mut self, tenant: Tenant, id: u32, next: &Form) -> Result<Row, Memory>
         requires { form_fault_in (registry_of self.old.lists tenant).forms id ≡ None }
         ensures lists { self.new.lists ≡ self.old.lists }
-        ensures row { IfOk result (λ kept. kept ≡ row 4 tenant id (next_version id (registry_of self.old.lists tenant).forms) (form_data next.now)) }
+        ensures row { IfOk result (λ kept. kept ≡ row 4 tenant id (next_version id (registry_of self.old.lists tenant).forms) (kept_data next.now)) }
         ensures room { OnOk result (0 < self.new.forms) }
     {
         let version = self.newest_version(tenant, id) + 1;
-        let row = form_row(self.allocator(), tenant, id, version, next)?;
+        let row = form_row(self.allocator(), Format::Weighed, tenant, id, version, next)?;
         self.more_forms.reserve_over(self.lists.forms.len())?;
         Ok(row)
     }
@@ -70,7 +70,7 @@ impl Registry {
         requires { HasTenant self.old.lists tenant }
         ensures lists { self.new.lists ≡ self.old.lists }
         ensures ok { OnOk result (form_fault_in (registry_of self.old.lists tenant).forms id ≡ None) }
-        ensures row { IfOk result (λ kept. kept ≡ row 4 tenant id (next_version id (registry_of self.old.lists tenant).forms) (form_data next.now)) }
+        ensures row { IfOk result (λ kept. kept ≡ row 4 tenant id (next_version id (registry_of self.old.lists tenant).forms) (kept_data next.now)) }
         ensures room { OnOk result (0 < self.new.forms) }
         ensures fault { IfErr result (λ fault. fault ≢ AdminFault.Memory → form_fault_in (registry_of self.old.lists tenant).forms id ≡ Some fault) }
         ensures wants { result ≡ Err AdminFault.Memory → form_fault_in (registry_of self.old.lists tenant).forms id ≡ None }

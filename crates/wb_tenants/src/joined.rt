@@ -37,9 +37,12 @@ impl Added for TenantItem {
     }
 
     fn once_more(&self) -> Result<TenantItem, Memory> {
+        let calendar = self.calendar.try_clone()?;
         let name = self.name.try_clone()?;
         Ok(TenantItem {
             tenant: self.tenant,
+            external: self.external,
+            calendar,
             name,
             notice_days: self.notice_days,
             offset: self.offset,

@@ -1,7 +1,7 @@
 //! Room kept beside a list in the order of a key, into which it moves when an item is added.
-ghost use Rattle.std.specs.Prelude.{◌≡◌, ◌<◌, true, find, is_some, length, IsOk, OnOk};
+ghost use Rattle.std.specs.Prelude.{◌≡◌, ◌<◌, length, IsOk, OnOk};
 ghost use Rattle.std.specs.Vec.{vec_len, vec_capacity};
-ghost use Rattle.wb_list.specs.Keyed.{IsAscending, has_key, insert_item};
+ghost use Rattle.wb_list.specs.Keyed.{IsAscending, insert_item};
 
 use std::alloc::Global;
 use std::marker::Model;
@@ -96,29 +96,4 @@ impl<T: Placed> Spare<T> {
     {
         self.placed_in(list, item);
     }
-}
-
-// Puts an item into a list instead of the one with its key.
-fn replaced_in<T: Placed>(list: &mut Items<T>, item: T)
-    requires order { IsAscending T.Key.cmp T.key_of list.old }
-    requires there { is_some (find (has_key T.Key.cmp T.key_of (T.key_of item)) list.old) ≡ true }
-    ensures { list.new ≡ insert_item T.Key.cmp T.key_of list.old item }
-{
-    let alloc = list.allocator();
-    let mut items = mem::replace(list, Items::new(alloc)).into_vec();
-    match place_of(items.as_slice(), &item) {
-        Ok(at) => replace_at(&mut items, at, item),
-        Err(_) => unreachable!(),
-    }
-    *list = Items::of(items);
-}
-
-/// Puts an item into a list instead of the one with its key. It takes no memory.
-pub fn replace_in<T: Placed>(list: &mut Items<T>, item: T)
-    requires order { IsAscending T.Key.cmp T.key_of list.old }
-    requires there { is_some (find (has_key T.Key.cmp T.key_of (T.key_of item)) list.old) ≡ true }
-    ensures list { list.new ≡ insert_item T.Key.cmp T.key_of list.old item }
-    ensures order { IsAscending T.Key.cmp T.key_of list.new }
-{
-    replaced_in(list, item);
 }

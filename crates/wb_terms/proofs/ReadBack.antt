@@ -1,11 +1,11 @@
--- A day's text reads as that day, and three months after a day is a day again.
+-- A day's text reads as that day, and some months after a day is a day again.
 use Rattle.std.proofs.Common.{◌≡◌, ℕ, zero, suc, ◌+◌, ◌-◌, ◌*◌, ◌/◌, ◌%◌, ◌<◌, ◌≤◌, true, nat_lt, nat_le, Some, min, inl, inr, refl, ap, arith, ℤ, pos, neg_ℤ, ◌+ℤ◌, ◌≤ℤ◌, unsigned_abs}
 use Rattle.std.proofs.lemmas.Bool.{cases_Bool, ltb-true, ltb-false, le-leb}
-use Rattle.jiff_core.specs.Calendar.{days_of_years, days_of_months, day_count, days_from_civil, days_in_month}
+use Rattle.jiff_core.specs.Calendar.{IsBetween, days_of_years, days_of_months, day_count, days_from_civil, days_in_month}
 use Rattle.jiff_core.proofs.SignedLemmas.{signed_arith}
 use Rattle.jiff_core.proofs.CalendarLemmas.{days_from_civil-day_count, day_count-lt_year, days_in_month_bounds}
 use Rattle.jiff_core.proofs.StandardFacts.{known_days}
-use Rattle.wb_base.specs.Days.{CivilDate, IsDay, date_at, date_of}
+use Rattle.wb_base.specs.Days.{CivilDate, date_at, date_of}
 use Rattle.wb_base.specs.DateTexts.{date_text, is_real, number_of, read_date}
 use Rattle.wb_base.specs.Terms.{months_later}
 use Rattle.wb_terms.proofs.CivilDates.{IsDateAt, good_date, count_of}
@@ -31,7 +31,7 @@ unfolding days_from_civil day_count days_of_years days_of_months
 known_2nd = refl
 
 -- a date before the end of a year has that year at most, and one from its first day on that year at least
-year_at_most : (y : ℕ) (last : ℤ) (n : ℕ) (d : CivilDate) → y ≤ 9999 → days_from_civil (pos y) 12 31 ≡ last → IsDateAt n d → pos n ≤ℤ (last +ℤ pos 1) → d.year ≤ y
+pub year_at_most : (y : ℕ) (last : ℤ) (n : ℕ) (d : CivilDate) → y ≤ 9999 → days_from_civil (pos y) 12 31 ≡ last → IsDateAt n d → pos n ≤ℤ (last +ℤ pos 1) → d.year ≤ y
 year_at_most y last n d small known h low = elim (cases_Bool (nat_lt y d.year)) [
   | inl above ↦
       let lt = ltb-true _ _ above in
@@ -88,23 +88,23 @@ known_5230 : days_from_civil (pos 5230) 1 1 ≡ pos 1_190_691
 unfolding days_from_civil day_count days_of_years days_of_months
 known_5230 = refl
 
--- a month of 1970 or later, three months after a day from -1 on
-months_from : (n : ℕ) → 1970 * 12 ≤ (date_at n).year * 12 + ((date_at n).month - 1) + 3
+-- a month of 1970 or later, three months or more after a day from -1 on
+pub months_from : (k n : ℕ) → 3 ≤ k → 1970 * 12 ≤ (date_at n).year * 12 + ((date_at n).month - 1) + k
 unfolding date_at
-months_from zero = omega arith
-months_from (suc n) = let y = year_at_least (suc n) (date_at (suc n)) (good_date (suc n)) (omega arith) in omega (arith, y)
+months_from k zero more = omega (arith, more)
+months_from k (suc n) more = let y = year_at_least (suc n) (date_at (suc n)) (good_date (suc n)) (omega arith) in omega (arith, y)
 
-pub IsDay-three_months : (day : ℤ) → neg_ℤ (pos 1) ≤ℤ day → day ≤ℤ pos 1_190_007 → IsDay (months_later 3 day)
-IsDay-three_months day low high =
+pub months-bounds : (months : ℕ) (day : ℤ) → 3 ≤ months → months ≤ 6 → neg_ℤ (pos 1) ≤ℤ day → day ≤ℤ pos 1_190_007 → IsBetween (neg_ℤ (pos 1)) (pos 1_190_690) (months_later months day)
+months-bounds months day more few low high =
     let k = count_of day (low, omega (arith, signed_arith)) in
     let n = unsigned_abs (day +ℤ pos 1) in
     let d = date_of day in
     let h = good_date n in
     let year : d.year ≤ 5228 = year_at_most 5228 _ n d (omega arith) known_5228 h (omega (arith, signed_arith, k.0)) in
-    let from = months_from n in
-    let m = d.year * 12 + (d.month - 1) + 3 in
+    let from = months_from months n more in
+    let m = d.year * 12 + (d.month - 1) + months in
     let low_year : 1970 ≤ m / 12 = omega arith in
-    let high_year : m / 12 ≤ 5229 = omega (arith, h.month_high) in
+    let high_year : m / 12 ≤ 5229 = omega (arith, h.month_high, few) in
     let low_month : 1 ≤ m % 12 + 1 = omega arith in
     let high_month : m % 12 + 1 ≤ 12 = omega arith in
     let long = days_in_month_bounds (pos (m / 12)) (m % 12 + 1) in

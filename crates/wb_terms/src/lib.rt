@@ -16,5 +16,5 @@ pub use laws::{
     date_text_reads_back, dates_are_jiffs, months_are_jiffs, read_date_is_exact, texts_are_jiffs,
 };
 pub use term_index::{Term, TermIndex};
-pub use terms::{ack_due, expiry, feedback_due};
-pub use wb_base::Kind;
+pub use terms::{ack_due, expiry, feedback_due, roll};
+pub use wb_base::{Calendar, Kind};

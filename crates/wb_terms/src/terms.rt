@@ -1,41 +1,107 @@
 //! When an acknowledgement, feedback and expiry are due.
-ghost use Rattle.std.specs.Prelude.{◌≡◌, ◌≤◌, pos, neg_ℤ, IfSome};
+ghost use Rattle.std.specs.Prelude.{◌≡◌, ◌≤◌, ◌≤ℤ◌, ◌+ℤ◌, pos, neg_ℤ, IfSome};
 ghost use Rattle.jiff_core.specs.Calendar.{IsBetween};
+ghost use Rattle.wb_base.specs.Calendars.{end, after_weekend as next_open, after_holiday as next_after};
 ghost use Rattle.wb_base.specs.Days.{IsDay, IsEarlyDay};
-ghost use Rattle.wb_base.specs.Terms.{months_later, ack_due as ack_due_of, expiry as expiry_of, feedback_due as feedback_due_of};
+ghost use Rattle.wb_base.specs.Terms.{months_later, feedback_months as months_of, ack_due as ack_due_of, expiry as expiry_of, feedback_due as feedback_due_of};
 
 use crate::days::date_of;
 use jiff_core::civil::Date;
-use wb_base::Day;
+use wb_base::{Calendar, Day};
 
-/// The last day on which receipt may be acknowledged: seven days after the day of that receipt
-/// (Directive (EU) 2019/1937, Article 9(1)(b)).
-pub fn ack_due(received: Day) -> Day
-    requires { IsEarlyDay received }
-    ensures { result ≡ ack_due_of received }
+/// The day itself, or the Monday after it where it is a Saturday or a Sunday.
+fn after_weekend(day: Day) -> Day
+    requires low { neg_ℤ (pos 1) ≤ℤ day }
+    requires high { day ≤ℤ pos 1_199_998 }
+    ensures value { result ≡ next_open day }
+    ensures low { neg_ℤ (pos 1) ≤ℤ result }
+    ensures high { result ≤ℤ (day +ℤ pos 2) }
 {
-    Day::new(received.days() + 7)
+    // 1970-01-01 was a Thursday.
+    match (day.days() + 3).rem_euclid(7) {
+        5 => Day::new(day.days() + 2),
+        6 => Day::new(day.days() + 1),
+        _ => day,
+    }
 }
 
-/// The day three months after a day: the same day of the month, or the month's last where it lacks that day.
-fn three_months_later(day: Day) -> Day
-    requires { IsBetween (neg_ℤ (pos 1)) (pos 1_190_007) day }
-    ensures { result ≡ months_later 3 day }
+/// The day, or what follows where it is this holiday.
+fn after_holiday(day: Day, holiday: Day) -> Day
+    requires low { neg_ℤ (pos 1) ≤ℤ day }
+    requires high { day ≤ℤ pos 1_199_997 }
+    ensures value { result ≡ next_after day holiday }
+    ensures low { neg_ℤ (pos 1) ≤ℤ result }
+    ensures high { result ≤ℤ (day +ℤ pos 3) }
+{
+    if holiday.days() == day.days() {
+        after_weekend(Day::new(holiday.days() + 1))
+    } else {
+        day
+    }
+}
+
+/// The day on which a term ends that would end on this day: where the calendar rolls, the next day that is no Saturday,
+/// Sunday or holiday (after Regulation (EEC, Euratom) No 1182/71, Article 3(4)).
+pub fn roll(day: Day, calendar: &Calendar) -> Day
+    requires { IsBetween (neg_ℤ (pos 1)) (pos 1_190_690) day }
+    ensures { result ≡ end calendar.now day }
+{
+    if !calendar.rolls() {
+        return day;
+    }
+    let mut last = after_weekend(day);
+    for holiday in calendar.holidays() {
+        last = after_holiday(last, *holiday);
+    }
+    last
+}
+
+/// The last day on which receipt may be acknowledged: seven days after the day of that receipt
+/// (Directive (EU) 2019/1937, Article 9(1)(b)), on the tenant's calendar.
+pub fn ack_due(received: Day, calendar: &Calendar) -> Day
+    requires { IsEarlyDay received }
+    ensures { result ≡ ack_due_of received calendar.now }
+{
+    roll(Day::new(received.days() + 7), calendar)
+}
+
+/// The day so many months after a day: the same day of the month, or the month's last where it lacks that day.
+fn months_after(day: Day, months: u32) -> Day
+    requires day { IsBetween (neg_ℤ (pos 1)) (pos 1_190_007) day }
+    requires low { 3 ≤ months }
+    requires high { months ≤ 6 }
+    ensures value { result ≡ months_later months day }
+    ensures bounds { IsBetween (neg_ℤ (pos 1)) (pos 1_190_690) result }
 {
     let date = date_of(day);
-    let month = date.year as u32 * 12 + (date.month as u32 - 1) + 3;
+    let month = date.year as u32 * 12 + (date.month as u32 - 1) + months;
     let later = Date::constrain((month / 12) as i16, (month % 12 + 1) as u8, date.day);
     Day::new(later.to_unix_epoch_day())
 }
 
-/// The last day for feedback: three months after the acknowledgement, or, where there was none, after the
-/// last day on which receipt could be acknowledged (Directive (EU) 2019/1937, Article 9(1)(f)).
-pub fn feedback_due(received: Day, acknowledged: Option<Day>) -> Day
+/// How many months there are for feedback.
+fn feedback_months(extended: bool) -> u32
+    ensures value { result ≡ months_of extended }
+    ensures low { 3 ≤ result }
+    ensures high { result ≤ 6 }
+{
+    if extended { 6 } else { 3 }
+}
+
+/// The last day for feedback: three months after the acknowledgement, or, where there was none, after the seven days for it
+/// (Directive (EU) 2019/1937, Article 9(1)(f)); six where that was extended (Article 11(2)(d)); on the tenant's calendar.
+pub fn feedback_due(
+    received: Day,
+    acknowledged: Option<Day>,
+    extended: bool,
+    calendar: &Calendar,
+) -> Day
     requires received { IsEarlyDay received }
     requires acknowledged { IfSome acknowledged IsEarlyDay }
-    ensures { result ≡ feedback_due_of received acknowledged }
+    ensures { result ≡ feedback_due_of received acknowledged extended calendar.now }
 {
-    three_months_later(acknowledged.unwrap_or(ack_due(received)))
+    let from = acknowledged.unwrap_or(Day::new(received.days() + 7));
+    roll(months_after(from, feedback_months(extended)), calendar)
 }
 
 /// The day on which a report expires that is kept for `retention` days, from 1 to 3650, after a day.

@@ -3,7 +3,7 @@ ghost use Rattle.wb_base.specs.Days.{IsEarlyDay};
 use super::*;
 use std::process::Abort;
 use std::test::Fail;
-use wb_base::{Day, Moment, Number, Tenant};
+use wb_base::{Day, Moment, Number, Tenant, are_holidays};
 
 // A day to which terms may be added, by its text.
 fn early(rt: &impl Abort, text: &str) -> Day
@@ -84,16 +84,17 @@ fn terms_end_on_their_days(rt: HostRuntime) {
         ("1970-01-01", None, "1970-01-08", "1970-04-08"),
         ("5199-12-31", None, "5200-01-07", "5200-04-07"),
     ];
+    let plain = Calendar::plain(rt.alloc());
     for (received, acknowledged, answered, fed_back) in rows {
         let day = early(&rt, received);
         assert_eq!(rt;
-            date_text(ack_due(day)).as_slice(),
+            date_text(ack_due(day, &plain)).as_slice(),
             answered.as_bytes(),
             "received {received}"
         );
         let feedback = match acknowledged {
-            Some(text) => feedback_due(day, Some(early(&rt, text))),
-            None => feedback_due(day, None),
+            Some(text) => feedback_due(day, Some(early(&rt, text)), false, &plain),
+            None => feedback_due(day, None, false, &plain),
         };
         assert_eq!(rt;
             date_text(feedback).as_slice(),
@@ -101,6 +102,46 @@ fn terms_end_on_their_days(rt: HostRuntime) {
             "received {received}"
         );
     }
+}
+
+#[test]
+fn terms_roll_past_days_that_are_off(rt: HostRuntime) -> Result<(), Fail> {
+    let alloc = rt.alloc();
+    let received = early(&rt, "2025-11-23");
+    // the holidays, the last day for an acknowledgement, for feedback, and for feedback that was extended
+    let rows = [
+        ([].as_slice(), "2025-12-01", "2026-03-02", "2026-06-01"),
+        (&["2025-12-01"], "2025-12-02", "2026-03-02", "2026-06-01"),
+        (
+            &["2025-11-30", "2025-12-01", "2025-12-02", "2026-05-29"],
+            "2025-12-03",
+            "2026-03-02",
+            "2026-06-01",
+        ),
+        (
+            &["2026-02-27", "2026-03-02", "2026-06-05"],
+            "2025-12-01",
+            "2026-03-03",
+            "2026-06-01",
+        ),
+    ];
+    for (holidays, answered, fed_back, extended) in rows {
+        let mut days = Vec::new(alloc);
+        for text in holidays {
+            days.push(early(&rt, text))?;
+        }
+        assert!(rt; are_holidays(&days));
+        let calendar = Calendar::of(true, days);
+        let told = [
+            (ack_due(received, &calendar), answered),
+            (feedback_due(received, None, false, &calendar), fed_back),
+            (feedback_due(received, None, true, &calendar), extended),
+        ];
+        for (day, text) in told {
+            assert_eq!(rt; date_text(day).as_slice(), text.as_bytes(), "{text}");
+        }
+    }
+    Ok(())
 }
 
 #[test]

@@ -2,7 +2,7 @@
 ghost use Rattle.std.specs.Prelude.{◌≡◌, true};
 ghost use Rattle.wb_base.specs.FormFaults.{is_good};
 
-use crate::forms::{branches, question, starter, text};
+use crate::forms::{branches, question, scored, starter, text};
 use crate::written::{answers, given};
 use std::alloc::Global;
 use std::process::Abort;
@@ -47,6 +47,23 @@ fn answers_to_the_starter_form(rt: HostRuntime) {
         ("doc=!true what=x cat=!true", AnswerFault::WRONG_KIND, "cat"),
         ("what=x doc=@a.txt:QUI=", 0, ""),
         ("what=x doc=@a.txt:QUI", AnswerFault::WRONG_KIND, "doc"),
+    ];
+    for (written, code, field) in table {
+        let fault = check(alloc, &form, &answers(&rt, alloc, written)).err();
+        expect(&rt, is_fault(fault, code, field), written);
+    }
+}
+
+#[test]
+fn a_scored_field_is_shown_where_the_points_of_the_chosen_options_are_enough(rt: HostRuntime) {
+    let alloc = rt.alloc();
+    let form = scored(&rt, alloc);
+    let table = [
+        ("f=[a,c g=x", AnswerFault::HIDDEN, "g"),
+        ("f=[a,b g=x", 0, ""),
+        ("f=[b g=x", AnswerFault::HIDDEN, "g"),
+        ("f=[b,c g=x", 0, ""),
+        ("g=x", AnswerFault::HIDDEN, "g"),
     ];
     for (written, code, field) in table {
         let fault = check(alloc, &form, &answers(&rt, alloc, written)).err();

@@ -258,3 +258,14 @@ pub fn question(rt: &impl Abort, alloc: Global, kind: &str) -> Form
     );
     read(rt, alloc, written.expect(rt, "memory").as_str())
 }
+
+/// A form whose field `g` is shown where the options of `f` that are chosen give three points: `a` and `c` give one each, `b` two.
+pub fn scored(rt: &impl Abort, alloc: Global) -> Form
+    ensures { is_good result ≡ true }
+{
+    read(
+        rt,
+        alloc,
+        r#"{"steps":[{"title":"T","fields":[{"id":"f","label":"F","kind":"multi","options":[{"id":"a","label":"A"},{"id":"b","label":"B"},{"id":"c","label":"C"}]},{"id":"g","label":"G","kind":"text","show":{"score":{"least":3,"parts":[{"field":"f","option":"a","points":1},{"field":"f","option":"b","points":2},{"field":"f","option":"c","points":1}]}}}]}]}"#,
+    )
+}

@@ -115,11 +115,17 @@ fn replies_have_their_heads_and_lines(rt: HostRuntime) -> Result<(), Fail> {
         b"HTTP/1.1 405 Method Not Allowed\r\nContent-Type: application/json\r\nCache-Control: no-store\r\nContent-Length: 20\r\nAllow: POST, DELETE\r\nConnection: close\r\n\r\n".as_slice()
     );
     assert_eq!(rt; reply_line(201, 142).as_bytes(), b"@201 142\n".as_slice());
-    let none = reply_head(405, PathNo::try_new(28), 0, false);
-    assert!(rt;
-        none.as_bytes()
-            .ends_with(b"Content-Length: 0\r\nAllow: PUT\r\n\r\n")
-    );
+    for (number, end) in [
+        (
+            10,
+            b"Content-Length: 0\r\nAllow: GET, DELETE\r\n\r\n".as_slice(),
+        ),
+        (28, b"Content-Length: 0\r\nAllow: PUT\r\n\r\n"),
+        (29, b"Content-Length: 0\r\nAllow: POST\r\n\r\n"),
+    ] {
+        let refused = reply_head(405, PathNo::try_new(number), 0, false);
+        assert!(rt; refused.as_bytes().ends_with(end), "{number}");
+    }
     let faults = [
         (
             WireFault::BadHead,

@@ -19,4 +19,6 @@ mod request_bodies;
 #[cfg(test)]
 mod requests;
 #[cfg(test)]
+mod scored_fields;
+#[cfg(test)]
 mod written;

@@ -16,21 +16,28 @@ fn outcome(alloc: Global, text: &str) -> Result<(u8, Text), Fail> {
     }
 }
 
-fn expect(rt: &impl Abort, alloc: Global, text: &str, code: u8, field: &str) -> Result<(), Fail> {
+/// Whether a text has this fault, or none where the code is 0.
+pub fn expect(
+    rt: &impl Abort,
+    alloc: Global,
+    text: &str,
+    code: u8,
+    field: &str,
+) -> Result<(), Fail> {
     let (got, at) = outcome(alloc, text)?;
     assert_eq!(rt; got, code, "the code of {text}");
     assert_eq!(rt; at.as_str(), field, "the field of {text}");
     Ok(())
 }
 
-// A form of one step with these fields.
-fn with_fields(alloc: Global, fields: &str) -> Result<String, Fail> {
+/// A form of one step with these fields.
+pub fn with_fields(alloc: Global, fields: &str) -> Result<String, Fail> {
     let form = format!(in alloc; r#"{{"steps":[{{"title":"T","fields":[{fields}]}}]}}"#)?;
     Ok(form)
 }
 
-// A text between two others, so many times, with commas between.
-fn list_of(
+/// A text between two others, so many times, with commas between.
+pub fn list_of(
     alloc: Global,
     before: &str,
     unit: &str,
@@ -420,7 +427,8 @@ fn length_of_the_shown_text(rt: HostRuntime) -> Result<(), Fail> {
     Ok(())
 }
 
-fn shown(rt: &impl Abort, alloc: Global, text: &str) -> Result<String, Fail> {
+/// The form that a text is, as it is shown.
+pub fn shown(rt: &impl Abort, alloc: Global, text: &str) -> Result<String, Fail> {
     let value = Value::from_str(alloc, text)?;
     match Form::read(alloc, &value) {
         Ok(form) => Ok(form.show(alloc)?.to_string(alloc)?),

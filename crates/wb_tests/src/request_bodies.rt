@@ -32,12 +32,12 @@ const USERS: Kind = Of(
 const MAY: Kind = Of(
     &[
         "[]",
-        "[\"share\",\"postpone\",\"transfer\"]",
-        "[\"transfer\"]",
+        "[\"share\",\"postpone\",\"transfer\",\"delete\"]",
+        "[\"delete\"]",
     ],
     &[
-        "[\"share\",\"share\"]",
-        "[\"delete\"]",
+        "[\"delete\",\"delete\"]",
+        "[\"Delete\"]",
         "[1]",
         "{}",
         "\"share\"",
@@ -124,6 +124,10 @@ const ROUTES: &[(&str, &[Key])] = &[
         &[("context", Whole(1, 64), false)],
     ),
     (
+        "POST /t/1/reports/1/extension",
+        &[("reason", Text(1, 1_024), false)],
+    ),
+    (
         "POST /t/1/reports/1/access",
         &[("reason", Text(1, 1_024), false)],
     ),
@@ -196,6 +200,7 @@ const BARE: &[&str] = &[
     "GET /t/1/reports",
     "GET /t/1/due",
     "GET /t/1/reports/1",
+    "DELETE /t/1/reports/1",
     "DELETE /t/1/sessions",
     "POST /t/1/reports/1/acknowledgement",
     "DELETE /t/1/reports/1/readers/300",

@@ -39,6 +39,7 @@ const PATHS: &[(&str, u8)] = &[
     ("/t/1/admin/users/2", 26),
     ("/t/1/admin/contexts/2", 27),
     ("/t/1/admin/forms/2?a=/t/x", 28),
+    ("/t/1/reports/2/extension", 29),
     ("/t/1/nothing", 0),
     ("/t/1/reports/2/nothing", 0),
     ("/t/1/reports/2/comments/3", 0),

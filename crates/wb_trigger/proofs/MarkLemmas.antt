@@ -1,17 +1,18 @@
 -- The list of truth values that is made field by field is that of the definition.
-use Rattle.std.proofs.Common.{◌≡◌, ℕ, zero, suc, ◌+◌, ◌<◌, ◌≤◌, Bool, true, false, ◌&&◌, ◌||◌, List, [], ◌∷◌, ◌++◌, length, get_or, take, drop, set, refl, sym, ap, ◌∙◌, arith, append_assoc, length-append, length-drop, add-one, drop-cons, slice_get, Some, None, ◌-◌, min}
+use Rattle.std.proofs.Common.{◌≡◌, ℕ, zero, suc, ◌+◌, ◌<◌, ◌≤◌, Bool, true, false, ◌&&◌, ◌||◌, List, [], ◌∷◌, ◌++◌, length, get_or, take, drop, set, refl, sym, ap, ◌∙◌, arith, append_assoc, length-append, length-drop, add-one, drop-cons, slice_get, Some, None, ◌-◌, min, nat_le, if◌then◌else◌, inl, inr}
+use Rattle.std.proofs.lemmas.Bool.{le-leb, lt-leb}
+use Rattle.std.proofs.lemmas.Bool.Decides.{leb_tells}
+use Rattle.wb_base.proofs.Parts.{next}
 use Rattle.std.proofs.Math.Bool.{or-false}
 use Rattle.std.proofs.lemmas.List.{drop-drop, drop_all, take_all, take_more, take_more_set}
 use Rattle.std.proofs.lemmas.Option.{slice_get_within, get_or_from_slice_get}
 use Rattle.wb_base.specs.FormFields.{fields_of}
 use Rattle.wb_base.specs.declared.form.Step.{Step}
-use Rattle.std.specs.List.{list_any, list_all}
 use Rattle.wb_base.specs.declared.form.Field.{Field}
-use Rattle.wb_base.specs.declared.form.Cond.{Cond}
+use Rattle.wb_base.specs.declared.form.Part.{Part}
 use Rattle.wb_base.specs.declared.form.Trigger.{Trigger}
-use Rattle.wb_base.specs.declared.form.Trigger.TheVariants.{Always, Any, All}
-use Rattle.wb_base.specs.FormFields.{is_field}
-use Rattle.wb_base.specs.ShownFields.{Look, is_met, is_triggered, shows, is_shown, shown_from}
+use Rattle.wb_base.specs.FormFields.{is_field, parts_of, least_of}
+use Rattle.wb_base.specs.ShownFields.{Look, is_met, points_met, is_triggered, shows, is_shown, shown_from}
 use Rattle.wb_trigger.specs.Marks.{any_shown}
 
 or_swap : (a b c d : Bool) → a ≡ c → b ≡ d → (a || b) ≡ (d || c)
@@ -42,21 +43,39 @@ any_shown-marks (f ∷ fs) gs [] more id e = absurd (omega (arith, e))
 any_shown-marks (f ∷ fs) gs (b ∷ marks) more id e = ap (λ v. (is_field id f && b) || v) (any_shown-marks fs gs marks more id (omega (arith, e))) ∙ or_group (is_field id f && b) (any_shown fs marks id) (any_shown gs more id)
 
 module _ (answers : Look) (p q : List ℕ → Bool) (h : (id : List ℕ) → p id ≡ q id) where
-  met-same : (c : Cond) → is_met p answers c ≡ is_met q answers c
-  met-same c = rw (h c.field) refl
-
-  any-same : (cs : List Cond) → list_any (is_met p answers) cs ≡ list_any (is_met q answers) cs
-  any-same [] = refl
-  any-same (c ∷ cs) = rw (met-same c, any-same cs) refl
-
-  all-same : (cs : List Cond) → list_all (is_met p answers) cs ≡ list_all (is_met q answers) cs
-  all-same [] = refl
-  all-same (c ∷ cs) = rw (met-same c, all-same cs) refl
+  points-same : (ps : List Part) → points_met p answers ps ≡ points_met q answers ps
+  points-same [] = refl
+  points-same (c ∷ ps) = rw (h c.field, points-same ps) refl
 
   pub triggered-same : (t : Trigger) → is_triggered p answers t ≡ is_triggered q answers t
-  triggered-same Always = refl
-  triggered-same (Any cs) = any-same cs
-  triggered-same (All cs) = all-same cs
+  triggered-same t = ap (nat_le (least_of t)) (points-same (parts_of t))
+
+-- what is missing once some points are there
+counted : (m p rest : ℕ) → nat_le (m - p) rest ≡ nat_le m (p + rest)
+counted m p rest = elim (leb_tells m (p + rest)) [
+  | inl enough ↦ le-leb (m - p) rest (omega (arith, enough.1)) ∙ sym enough.0
+  | inr short ↦ lt-leb (m - p) rest (omega (arith, short.1)) ∙ sym short.0
+]
+
+none-more : (n : ℕ) → 0 + n ≡ n
+none-more n = omega arith
+
+module _ (shows : List ℕ → Bool) (look : Look) (ps : List Part) (k m : ℕ) (p : Part) (here : slice_get ps k ≡ Some p) where
+  abbrev rest : ℕ
+  rest = points_met shows look (drop (k + 1) ps)
+
+  whole : points_met shows look (drop k ps) ≡ (if is_met shows look p then p.points else 0) + rest
+  whole = ap (points_met shows look) (next ps k p here)
+
+  points-met : is_met shows look p ≡ true → nat_le (m - p.points) rest ≡ nat_le m (points_met shows look (drop k ps))
+  points-met met = counted m p.points rest ∙ sym (ap (nat_le m) (whole ∙ ap (λ b. (if b then p.points else 0) + rest) met))
+
+  points-unmet : is_met shows look p ≡ false → nat_le m rest ≡ nat_le m (points_met shows look (drop k ps))
+  points-unmet unmet = sym (ap (nat_le m) (whole ∙ ap (λ b. (if b then p.points else 0) + rest) unmet ∙ none-more rest))
+
+  pub points-left : (b : Bool) (left : ℕ) → b ≡ is_met shows look p → left ≡ (if b then m - p.points else m) → nat_le left rest ≡ nat_le m (points_met shows look (drop k ps))
+  points-left true left met is = ap (λ n. nat_le n rest) is ∙ points-met (sym met)
+  points-left false left met is = ap (λ n. nat_le n rest) is ∙ points-unmet (sym met)
 
 regrouped : (A : Look) (done : List Field) (marks : List Bool) (f : Field) (b : Bool) (fs : List Field) (cs : List Bool) (v : Bool) (t : Trigger)
     → v ≡ is_triggered (any_shown ((done ++ f ∷ []) ++ fs) ((marks ++ b ∷ []) ++ cs)) A t → v ≡ is_triggered (any_shown (done ++ f ∷ fs) (marks ++ b ∷ cs)) A t

@@ -1,16 +1,17 @@
 //! Which fields are shown.
-ghost use Rattle.std.specs.Prelude.{◌≡◌, true, ◌<◌, ◌≤◌, take, length, min};
-ghost use Rattle.std.specs.List.{list_any, list_all};
+ghost use Rattle.std.specs.Prelude.{◌≡◌, true, ◌<◌, ◌≤◌, ◌-◌, if◌then◌else◌, take, length, min};
+ghost use Rattle.std.specs.List.{list_any};
 ghost use Rattle.std.specs.Option.{option_copied};
 ghost use Rattle.wb_base.specs.AnswerList.{answer_to, is_text};
 ghost use Rattle.wb_base.specs.FormFields.{fields_of};
+ghost use Rattle.wb_base.specs.FormParts.{part_at};
 ghost use Rattle.wb_base.specs.FormFaults.{is_good};
 ghost use Rattle.wb_base.specs.ShownFields.{Look, holds as holds_of, is_met as is_met_of, is_triggered as is_triggered_of, all_shown, shown_at};
 ghost use Rattle.wb_base.specs.AnswerFaults.{answer_of_both};
 ghost use Rattle.wb_trigger.specs.Marks.{any_shown as any_shown_of};
 
 use crate::fields::field_at;
-use wb_base::{Answers, Cond, Field, Form, Given, Step, Text, Trigger};
+use wb_base::{Answers, Field, Form, Given, PartOf, Step, Text, Trigger};
 
 /// The greatest number of fields that a form has.
 pub const MAX_FIELDS: usize = 256;
@@ -106,46 +107,35 @@ fn holds(option: &Text, given: Option<&Given>) -> bool
     }
 }
 
-/// Whether a condition is met.
-fn is_met<L: Lookup>(steps: &[Step], marks: &[bool], answers: &L, cond: &Cond) -> bool
-    ensures { result ≡ is_met_of (any_shown_of (fields_of steps.now) marks.now) (L.look answers.now) cond.now }
+/// Whether a part is met.
+fn is_met<L: Lookup>(steps: &[Step], marks: &[bool], answers: &L, part: &PartOf) -> bool
+    ensures { result ≡ is_met_of (any_shown_of (fields_of steps.now) marks.now) (L.look answers.now) (part_at part.now) }
 {
-    shows(steps, marks, &cond.field) && holds(&cond.option, answers.answer(&cond.field))
+    shows(steps, marks, part.field) && holds(part.option, answers.answer(part.field))
 }
 
-/// Whether one of the conditions is met.
-fn any_met<L: Lookup>(steps: &[Step], marks: &[bool], answers: &L, conds: &[Cond]) -> bool
-    ensures { result ≡ list_any (is_met_of (any_shown_of (fields_of steps.now) marks.now) (L.look answers.now)) conds.now }
+/// The points that are still missing after a part.
+fn left(missing: usize, is_met: bool, points: u16) -> usize
+    ensures { result ≡ (if is_met then missing - points else missing) }
 {
-    for cond in conds {
-        if is_met(steps, marks, answers, cond) {
-            return true;
-        }
+    if is_met {
+        missing.saturating_sub(points as usize)
+    } else {
+        missing
     }
-    false
 }
 
-/// Whether all conditions are met.
-fn all_met<L: Lookup>(steps: &[Step], marks: &[bool], answers: &L, conds: &[Cond]) -> bool
-    ensures { result ≡ list_all (is_met_of (any_shown_of (fields_of steps.now) marks.now) (L.look answers.now)) conds.now }
-{
-    for cond in conds {
-        if !is_met(steps, marks, answers, cond) {
-            return false;
-        }
-    }
-    true
-}
-
-/// Whether a trigger shows its field.
+/// Whether a trigger shows its field: the points of the parts that are met are as many as it wants.
 fn is_triggered<L: Lookup>(steps: &[Step], marks: &[bool], answers: &L, show: &Trigger) -> bool
     ensures { result ≡ is_triggered_of (any_shown_of (fields_of steps.now) marks.now) (L.look answers.now) show.now }
 {
-    match show {
-        Trigger::Always => true,
-        Trigger::Any(conds) => any_met(steps, marks, answers, conds.as_slice()),
-        Trigger::All(conds) => all_met(steps, marks, answers, conds.as_slice()),
+    let mut missing = show.least();
+    for at in 0..show.len() {
+        let part = show.part(at);
+        let is_met = is_met(steps, marks, answers, &part);
+        missing = left(missing, is_met, part.points);
     }
+    missing == 0
 }
 
 /// Of each of the first fields, as many as asked for, whether it is shown.

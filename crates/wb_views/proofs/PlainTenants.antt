@@ -4,6 +4,7 @@ use Rattle.std.proofs.lemmas.Bool.{or_from}
 use Rattle.serde_json.specs.Data.{number, string}
 use Rattle.serde_json.specs.Find.{of_integer}
 use Rattle.serde_json.specs.Written.{has_float}
+use Rattle.wb_base.specs.declared.form.Format.TheVariants.{Plain}
 use Rattle.wb_form.proofs.NoFloats.{whole-form}
 use Rattle.wb_json.proofs.NoFloats.{in-list}
 use Rattle.wb_model.specs.declared.registry.ContextItem.{ContextItem}
@@ -21,7 +22,7 @@ in-public g = or_from _ _ (in-list public_context (λ c. refl) (filter (λ (c : 
 
 pub in-context : (c : ContextItem) (form : FormItem) → has_float (context_view c form) ≡ false
 unfolding context_view
-in-context c form = or_from _ _ (whole-form form.form) refl
+in-context c form = or_from _ _ (whole-form Plain form.form) refl
 
 in-admin_context : (c : ContextItem) → has_float (admin_context c) ≡ false
 in-admin_context c = or_from _ _ (in-list whole (λ n. refl) c.recipients) refl

@@ -1,4 +1,4 @@
-//! The dialogue of a report: its comments, acknowledgements, feedback and notices.
+//! The dialogue of a report: its comments, acknowledgements, feedback, extensions and notices.
 ghost use Rattle.std.specs.Prelude.{◌≡◌, map, option_map, option_and_then, slice_get, IfOk};
 ghost use Rattle.wb_model.specs.Trails as trails;
 ghost use Rattle.wb_views.specs.Seen.{remark_seen};
@@ -52,6 +52,7 @@ fn remark_of(entry: &Entry) -> Option<Remark<'_>>
         ),
         Deed::Acknowledged { .. } => ("recipient", "acknowledgement", "", false),
         Deed::Feedback { text } => ("recipient", "feedback", text.as_str(), false),
+        Deed::Extended { reason, .. } => ("recipient", "extension", reason.as_str(), false),
         Deed::Granted {
             reason,
             withheld: None,

@@ -5,6 +5,7 @@ use Rattle.std.specs.Str.Parse.{digits_value}
 use Rattle.std.proofs.lemmas.Bool.{cases_Bool, and_parts, and_from}
 use Rattle.httparse.specs.Grammar.{RequestHead}
 use Rattle.httparse.proofs.GrammarLemmas.{request_unique}
+use Rattle.serde_json.specs.Data.{Data}
 use Rattle.wb_base.specs.declared.callers.Presented.{Presented}
 use Rattle.wb_base.specs.declared.callers.Presented.TheVariants as presented
 use Rattle.wb_base.specs.AnswerList.{is_text}
@@ -14,13 +15,14 @@ use Rattle.wb_model.specs.declared.command.Command.{Command}
 use Rattle.wb_model.specs.declared.route.Route.{Route}
 use Rattle.wb_model.specs.declared.wire.WireFault.{WireFault}
 use Rattle.wb_model.specs.declared.wire.WireFault.TheVariants as faults
+use Rattle.wb_model.specs.Bodies.{json}
 use Rattle.wb_model.specs.RouteBodies.{Numbers, bare, shaped}
 use Rattle.wb_model.specs.Fits.{fits, fits_command, fits_session, is_path_number}
 use Rattle.wb_model.specs.Heads.{Fields, BeginsWithHead, closes, closes_by, path, fields_of, values, is_number, is_token, token, presented_by, session}
 use Rattle.wb_model.specs.Readings.{Reading, Asks, Reads, Closes, and_then, sized, Located, located_by, located, located_or_fault, routed, body_by, command_by, command, asks, reading_by, reading_of}
 use Rattle.wb_model.specs.Routes.{Path, number_of_path, path_at, segments, path_number, are_numbers, number_under, route}
 use Rattle.wb_model.specs.Commands.{is_health}
-use Rattle.wb_wire.proofs.ShapeLemmas.{GoodForms, AreNumbers, IsOfBody, shaped_of, bare_fits}
+use Rattle.wb_wire.proofs.ShapeLemmas.{GoodForms, GoodAnswers, HasGoodAnswers, body_answers, AreNumbers, IsOfBody, shaped_of, bare_fits}
 
 -- ---- one head, one reading
 
@@ -108,18 +110,23 @@ place_fits text p is = by_number (number_of_path text) is
     by_number None e = absurd cc
     by_number (Some number) e = by_row number (path_at number) e
 
+-- the value of a body has good answers under its keys
+value_answers : GoodAnswers → (rest : List ℕ) (said : Option ℕ) (d : Data) → body_by rest said ≡ Ok d → HasGoodAnswers d
+value_answers ordered rest None d is = absurd cc
+value_answers ordered rest (Some said) d is = body_answers ordered rest d (ok_or_some (json rest) faults.BadJson d is)
+
 -- the command of a body
-body_command : GoodForms → (at : Numbers) (rest : List ℕ) (said : Option ℕ) (r : Route) (c : Command) → AreNumbers at → and_then (λ d. ok_or (shaped r at d) faults.BadShape) (body_by rest said) ≡ Ok c → IsOfBody c
-body_command good at rest said r c h is =
+body_command : GoodForms → GoodAnswers → (at : Numbers) (rest : List ℕ) (said : Option ℕ) (r : Route) (c : Command) → AreNumbers at → and_then (λ d. ok_or (shaped r at d) faults.BadShape) (body_by rest said) ≡ Ok c → IsOfBody c
+body_command good ordered at rest said r c h is =
     let value = and_then_ok (λ d. ok_or (shaped r at d) faults.BadShape) (body_by rest said) c is in
-    let all = shaped_of good r at value.0 h in
+    let all = shaped_of good r at value.0 (value_answers ordered rest said value.0 value.1) h in
     if_given IsOfBody (shaped r at value.0) c all.given (ok_or_some (shaped r at value.0) faults.BadShape c value.2)
 
-command_fits : GoodForms → (at : Numbers) (rest : List ℕ) (said : Option ℕ) (r : Route) (c : Command) → AreNumbers at → command at rest said r ≡ Ok c → fits_command c ≡ true
-command_fits good at rest said r c h is = by (bare r at) (bare_fits r at h) is
+command_fits : GoodForms → GoodAnswers → (at : Numbers) (rest : List ℕ) (said : Option ℕ) (r : Route) (c : Command) → AreNumbers at → command at rest said r ≡ Ok c → fits_command c ≡ true
+command_fits good ordered at rest said r c h is = by (bare r at) (bare_fits r at h) is
   where
     by : (o : Option Command) → IfSome o (λ x. fits_command x ≡ true) → command_by r at rest said o ≡ Ok c → fits_command c ≡ true
-    by None all e = (body_command good at rest said r c h e).0
+    by None all e = (body_command good ordered at rest said r c h e).0
     by (Some x) all e = (let same : x ≡ c = cc in subst (λ y. fits_command y ≡ true) same all)
 
 -- how what is asked came about: the place, its route and the command
@@ -145,10 +152,10 @@ asking method text fields rest c is =
       commands = by.2;
     }
 
-asks_fit : GoodForms → (method text : List ℕ) (fields : Fields) (rest : List ℕ) (c : Command) → asks method text fields rest ≡ Ok c → fits_command c ≡ true
-asks_fit good method text fields rest c is =
+asks_fit : GoodForms → GoodAnswers → (method text : List ℕ) (fields : Fields) (rest : List ℕ) (c : Command) → asks method text fields rest ≡ Ok c → fits_command c ≡ true
+asks_fit good ordered method text fields rest c is =
     let a = asking method text fields rest c is in
-    command_fits good a.place.at rest a.said a.asked c (place_fits text a.place a.found) a.commands
+    command_fits good ordered a.place.at rest a.said a.asked c (place_fits text a.place a.found) a.commands
 
 -- what is read as asked
 pub asked_by : (presented : Presented) (close : Bool) (r : Result Command WireFault) (a : Asked) → reading_by presented close r ≡ Asks a → (r ≡ Ok a.command) × (a.session ≡ presented)
@@ -157,25 +164,25 @@ asked_by presented close (Ok c) a is =
     (ap (λ (x : Asked). Ok x.command) same, ap (λ (x : Asked). x.session) (sym same))
 asked_by presented close (Err fault) a is = absurd cc
 
-pub reads_fit : GoodForms → (bytes : List ℕ) (asked : Asked) → Reads bytes (Asks asked) → fits asked ≡ true
-reads_fit good bytes asked (inl x) =
+pub reads_fit : GoodForms → GoodAnswers → (bytes : List ℕ) (asked : Asked) → Reads bytes (Asks asked) → fits asked ≡ true
+reads_fit good ordered bytes asked (inl x) =
     let h = x.0 in
     let by = asked_by (session (fields_of h)) (closes_by h.minor (fields_of h)) (asks h.method (path h) (fields_of h) x.1) asked (sym x.3) in
     and_from (fits_command asked.command) (fits_session asked.session)
-    (asks_fit good h.method (path h) (fields_of h) x.1 asked.command by.0)
+    (asks_fit good ordered h.method (path h) (fields_of h) x.1 asked.command by.0)
     (ap fits_session by.1 ∙ session_fits (values (codes "x-session") (fields_of h)))
-reads_fit good bytes asked (inr x) = absurd (cc (x.1))
+reads_fit good ordered bytes asked (inr x) = absurd (cc (x.1))
 
 -- what the body of a route asks is not the host's health
-pub body_not_health : GoodForms → (method text : List ℕ) (fields : Fields) (rest : List ℕ) (place : Located) (r : Route) (c : Command) → located text ≡ Some place → route method place.methods ≡ Some r → bare r place.at ≡ None
+pub body_not_health : GoodForms → GoodAnswers → (method text : List ℕ) (fields : Fields) (rest : List ℕ) (place : Located) (r : Route) (c : Command) → located text ≡ Some place → route method place.methods ≡ Some r → bare r place.at ≡ None
     → asks method text fields rest ≡ Ok c → is_health c ≡ false
-body_not_health good method text fields rest place r c found routes none is =
+body_not_health good ordered method text fields rest place r c found routes none is =
     let a = asking method text fields rest c is in
     let same_place : a.place ≡ place = (let t : Some a.place ≡ Some place = sym a.found ∙ found in cc) in
     let same_route : a.asked ≡ r = (let t : Some a.asked ≡ Some r = sym a.routes ∙ ap (λ (p : Located). route method p.methods) same_place ∙ routes in cc) in
     let made : command place.at rest a.said r ≡ Ok c = ap (λ (p : Located). command p.at rest a.said r) (sym same_place) ∙ ap (command a.place.at rest a.said) (sym same_route) ∙ a.commands in
     let of_body : and_then (λ d. ok_or (shaped r place.at d) faults.BadShape) (body_by rest a.said) ≡ Ok c = rw none at made in
-    (body_command good place.at rest a.said r c (place_fits text place found) of_body).1
+    (body_command good ordered place.at rest a.said r c (place_fits text place found) of_body).1
 
 -- ---- from the parts
 

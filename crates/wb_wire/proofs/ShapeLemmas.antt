@@ -1,10 +1,11 @@
 -- What the body of a route asks fits, and it never asks for the host's health.
-use Rattle.std.proofs.Common.{◌≡◌, ℕ, ◌==◌, ◌&&◌, not, nat_le, Bool, true, false, List, [], ◌∷◌, length, Option, Some, None, IfSome, option_map, option_and_then, refl, sym, ap, subst, ◌∙◌, arith, codes, if◌then◌else◌, inl, inr}
-use Rattle.std.proofs.lemmas.Bool.{cases_Bool, and_parts, and_from, ne_eqb}
-use Rattle.serde_json.specs.Data.{Data, null, boolean, number, string, array, object, Members, no_members, member}
-use Rattle.serde_json.specs.Find.{get, as_str, as_bool, as_number, as_u64, as_i64, as_object}
-use Rattle.wb_base.specs.declared.answers.Given.{Given}
-use Rattle.wb_base.specs.declared.answers.Given.TheVariants as given
+use Rattle.std.proofs.Common.{◌≡◌, ℕ, ◌==◌, not, nat_le, Bool, true, false, List, [], length, Option, Some, None, IfSome, option_map, option_and_then, refl, sym, ap, subst, ◌∙◌, codes, if◌then◌else◌, inl, inr}
+use Rattle.std.specs.Str.{is_utf8}
+use Rattle.std.proofs.lemmas.Bool.{cases_Bool, and_parts}
+use Rattle.serde_json.specs.Data.{Data}
+use Rattle.serde_json.specs.Find.{get, as_str, as_bool, as_number, as_u64}
+use Rattle.serde_json.specs.Read.{read}
+use Rattle.serde_json.specs.Written.{has_float}
 use Rattle.wb_base.specs.declared.callers.Role.{Role}
 use Rattle.wb_base.specs.declared.callers.Role.TheVariants as roles
 use Rattle.wb_base.specs.declared.faults.FormFault.{FormFault}
@@ -23,9 +24,10 @@ use Rattle.wb_model.specs.declared.entry.Status.{Status}
 use Rattle.wb_model.specs.declared.entry.Status.TheVariants as statuses
 use Rattle.wb_model.specs.declared.route.Route.{Route}
 use Rattle.wb_model.specs.declared.route.Route.TheVariants as routes
-use Rattle.wb_model.specs.Fits.{fits_command, are_distinct, is_between, has_bytes, is_path_number, is_given, are_given, is_settable, is_staff_role, fits_password, fits_withhold, fits_settings, fits_user, fits_context, fits_form}
+use Rattle.wb_model.specs.AnswerRanges.{are_answers}
+use Rattle.wb_model.specs.Fits.{fits_command, are_distinct, is_between, has_bytes, is_path_number, is_settable, is_staff_role, fits_password, fits_withhold, fits_settings, fits_user, fits_context, fits_form}
 use Rattle.wb_model.specs.Bodies as bodies
-use Rattle.wb_model.specs.Bodies.{of_size, of_keys, under, if_under, given_text, file, answer, with_entry, entries, answers, some_answers, form_by, form_if, form}
+use Rattle.wb_model.specs.Bodies.{under, if_under, json, without_floats, answers, some_answers, form_by, form_if, form}
 use Rattle.wb_model.specs.RouteBodies.{Numbers, bare, shaped}
 use Rattle.wb_model.specs.Commands.{is_health}
 
@@ -119,56 +121,46 @@ password_kept d p is = by (get (codes "password") d) is
 
 -- ---- answers
 
-text_given : (text : List ℕ) (g : Given) → given_text text ≡ Some g → is_given g ≡ true
-text_given [] g is = absurd cc
-text_given (c ∷ text) g is =
-    let some : length (c ∷ text) == 0 ≡ false = ne_eqb (length (c ∷ text)) 0 (λ e. absurd (omega (arith, e))) in
-    let same : Some (given.Text (c ∷ text)) ≡ Some g = rw some at is in
-    let text_is : given.Text (c ∷ text) ≡ g = cc in
-    subst (λ x. is_given x ≡ true) text_is (rw some refl)
+-- answers under a key of what was read are in order, each in its range
+abbrev pub GoodAnswers : Type 0
+GoodAnswers = (text key : List ℕ) (value inner : Data) (a : Answered) → read text ≡ Some value → get key value ≡ Some inner → answers inner ≡ Some a → are_answers a ≡ true
 
-file_given : (d : Data) (g : Given) → file d ≡ Some g → is_given g ≡ true
-file_given d g is =
-    let content = under (codes "data") as_str d in
-    let name = under (codes "name") as_str d in
-    let first = then_some (λ n. option_map (λ c. given.File n c) content) name g (if_some (size d == 2) _ g is) in
-    let last = map_some (λ c. given.File first.0 c) content g first.2 in
-    ap is_given (sym last.2)
+abbrev pub HasGoodAnswers : Data → Type 0
+HasGoodAnswers d = (key : List ℕ) (inner : Data) (a : Answered) → get key d ≡ Some inner → answers inner ≡ Some a → are_answers a ≡ true
 
-answer_given : (d : Data) (g : Given) → answer d ≡ Some (Some g) → is_given g ≡ true
-answer_given null g is = absurd cc
-answer_given (boolean flag) g is = (let same : given.Flag flag ≡ g = cc in ap is_given (sym same))
-answer_given (number n) g is = (let found = map_some (λ z. Some (given.Whole z)) (as_i64 n) (Some g) is in let same : given.Whole found.0 ≡ g = cc in ap is_given (sym same))
-answer_given (string s) g is = text_given s g cc
-answer_given (array ds) g is = (let found = map_some (λ texts. Some (given.List texts)) (list_of as_str (array ds)) (Some g) is in let same : given.List found.0 ≡ g = cc in ap is_given (sym same))
-answer_given (object ms) g is = (let found = map_some Some (file (object ms)) (Some g) is in file_given (object ms) g (found.1 ∙ cc))
+json_read : (bytes : List ℕ) (d : Data) → json bytes ≡ Some d → read bytes ≡ Some d
+json_read bytes d is =
+    let found = then_some without_floats (read bytes) d (if_some (is_utf8 bytes) (option_and_then without_floats (read bytes)) d is) in
+    found.1 ∙ by found.0 (has_float found.0) found.2
+  where
+    by : (x : Data) (float : Bool) → (if float then None else Some x) ≡ Some d → Some x ≡ Some d
+    by x true e = absurd cc
+    by x false e = e
 
-with_given : (id : List ℕ) (given : Option Given) (rest : Answered) → ((g : Given) → given ≡ Some g → is_given g ≡ true) → are_given rest ≡ true → are_given (with_entry id given rest) ≡ true
-with_given id None rest good all = all
-with_given id (Some g) rest good all = and_from (is_given g) (are_given rest) (good g refl) all
+pub body_answers : GoodAnswers → (bytes : List ℕ) (d : Data) → json bytes ≡ Some d → HasGoodAnswers d
+body_answers good bytes d is = λ key inner a. good bytes key d inner a (json_read bytes d is)
 
-entries_given : (ms : Members) (a : Answered) → entries ms ≡ Some a → are_given a ≡ true
-entries_given no_members a is = let none : [] ≡ a = cc in subst (λ l. are_given l ≡ true) none refl
-entries_given (member id d ms) a is =
-    let given = then_some (λ g. option_map (with_entry id g) (entries ms)) (answer d) a is in
-    let rest = map_some (with_entry id given.0) (entries ms) a given.2 in
-    subst (λ l. are_given l ≡ true) rest.2 (with_given id given.0 rest.0 (λ g some. answer_given d g (given.1 ∙ ap Some some)) (entries_given ms rest.0 rest.1))
+answers_fit : (d : Data) (a : Answered) → HasGoodAnswers d → under (codes "answers") answers d ≡ Some a → are_answers a ≡ true
+answers_fit d a good is = let found = then_some answers (get (codes "answers") d) a is in good (codes "answers") found.0 a found.1 found.2
 
-answers_kept : (v : Data) (a : Answered) → answers v ≡ Some a → are_given a ≡ true
-answers_kept v a is = let found = then_some entries (as_object v) a is in entries_given found.0 a found.2
-
-some_kept : (v : Data) (a : Answered) → some_answers v ≡ Some a → (are_given a && not (length a == 0)) ≡ true
+some_kept : (v : Data) (a : Answered) → some_answers v ≡ Some a → (answers v ≡ Some a) × (not (length a == 0) ≡ true)
 some_kept v a is =
     let found = then_some (keep (λ x. not (length x == 0))) (answers v) a is in
     let some = kept (λ (x : Answered). not (length x == 0)) found.0 a found.2 in
     let same : found.0 ≡ a = (let t = subst (λ b. (if b then Some found.0 else None) ≡ Some a) (test found.0 found.2) found.2 in cc) in
-    and_from (are_given a) (not (length a == 0)) (answers_kept v a (found.1 ∙ ap Some same)) some
+    (found.1 ∙ ap Some same, some)
   where
     test : (x : Answered) → keep (λ (y : Answered). not (length y == 0)) x ≡ Some a → not (length x == 0) ≡ true
     test x e = elim (cases_Bool (not (length x == 0))) [
       | inl good ↦ good
       | inr bad ↦ (let none : None ≡ Some a = rw bad at e in absurd cc)
     ]
+
+some_fit : (d : Data) (a : Answered) → HasGoodAnswers d → under (codes "answers") some_answers d ≡ Some a → (are_answers a ≡ true) × (not (length a == 0) ≡ true)
+some_fit d a good is =
+    let found = then_some some_answers (get (codes "answers") d) a is in
+    let some = some_kept found.0 a found.2 in
+    (good (codes "answers") found.0 a found.1 some.0, some.1)
 
 -- ---- forms
 
@@ -213,15 +205,15 @@ login_of t d ht = elim (cases_Bool (size d == 1)) [
   | inr other ↦ rw other (test_if IsOfBody _ _ (then_if IsOfBody _ _ (λ u e. map_if IsOfBody (λ p. commands.Login t u p) _ (λ p f. (rw (ht, text_fits 1 64 (codes "user") d u e, text_fits 1 128 (codes "password") d p f) refl, refl)))))
 ]
 
-submission_of : (t : ℕ) (d : Data) → is_path_number t ≡ true → IsRead (bodies.submission t d)
-submission_of t d ht = test_if IsOfBody _ _ (then_if IsOfBody _ _ (λ c e. map_if IsOfBody (λ a. commands.Submit t c a) _ (λ a f. (rw (ht, whole_fits 1 64 (codes "context") d c e, under_kept are_given answers (codes "answers") answers_kept d a f) refl, refl))))
+submission_of : (t : ℕ) (d : Data) → HasGoodAnswers d → is_path_number t ≡ true → IsRead (bodies.submission t d)
+submission_of t d good ht = test_if IsOfBody _ _ (then_if IsOfBody _ _ (λ c e. map_if IsOfBody (λ a. commands.Submit t c a) _ (λ a f. (rw (ht, whole_fits 1 64 (codes "context") d c e, answers_fit d a good f) refl, refl))))
 
 own_comment_of : (t : ℕ) (d : Data) → is_path_number t ≡ true → IsRead (bodies.own_comment t d)
 own_comment_of t d ht = test_if IsOfBody _ _ (map_if IsOfBody (λ s. commands.OwnComment t s) _ (λ s e. (rw (ht, text_fits 1 4_096 (codes "text") d s e) refl, refl)))
 
-identity_of : (t : ℕ) (d : Data) → is_path_number t ≡ true → IsRead (bodies.identity t d)
-identity_of t d ht = test_if IsOfBody _ _ (map_if IsOfBody (λ a. commands.GiveIdentity t a) _ (λ a e.
-    let both = and_parts (are_given a) (not (length a == 0)) (under_kept (λ x. are_given x && not (length x == 0)) some_answers (codes "answers") some_kept d a e) in
+identity_of : (t : ℕ) (d : Data) → HasGoodAnswers d → is_path_number t ≡ true → IsRead (bodies.identity t d)
+identity_of t d good ht = test_if IsOfBody _ _ (map_if IsOfBody (λ a. commands.GiveIdentity t a) _ (λ a e.
+    let both = some_fit d a good e in
     (rw (ht, both.0, both.1) refl, refl)))
 
 comment_of : (t n : ℕ) (d : Data) → is_path_number t ≡ true → is_path_number n ≡ true → IsRead (bodies.comment t n d)
@@ -241,6 +233,9 @@ share_of t n d ht hn = test_if IsOfBody _ _ (map_if IsOfBody (λ u. commands.Sha
 
 transfer_of : (t n : ℕ) (d : Data) → is_path_number t ≡ true → is_path_number n ≡ true → IsRead (bodies.transfer t n d)
 transfer_of t n d ht hn = test_if IsOfBody _ _ (map_if IsOfBody (λ c. commands.Transfer t n c) _ (λ c e. (rw (ht, hn, whole_fits 1 64 (codes "context") d c e) refl, refl)))
+
+extend_of : (t n : ℕ) (d : Data) → is_path_number t ≡ true → is_path_number n ≡ true → IsRead (bodies.extend t n d)
+extend_of t n d ht hn = test_if IsOfBody _ _ (map_if IsOfBody (λ r. commands.Extend t n r) _ (λ r e. (rw (ht, hn, text_fits 1 1_024 (codes "reason") d r e) refl, refl)))
 
 ask_of : (t n : ℕ) (d : Data) → is_path_number t ≡ true → is_path_number n ≡ true → IsRead (bodies.ask t n d)
 ask_of t n d ht hn = test_if IsOfBody _ _ (map_if IsOfBody (λ r. commands.Ask t n r) _ (λ r e. (rw (ht, hn, text_fits 1 1_024 (codes "reason") d r e) refl, refl)))
@@ -274,24 +269,25 @@ abbrev pub AreNumbers : Numbers → Type 0
 AreNumbers at = (name : List ℕ) → is_path_number (at name) ≡ true
 
 -- what the body of a route asks
-pub shaped_of : GoodForms → (r : Route) (at : Numbers) (d : Data) → AreNumbers at → IsRead (shaped r at d)
-shaped_of good routes.Login at d h = login_of _ d (h (codes "{t}"))
-shaped_of good routes.Submit at d h = submission_of _ d (h (codes "{t}"))
-shaped_of good routes.OwnComment at d h = own_comment_of _ d (h (codes "{t}"))
-shaped_of good routes.GiveIdentity at d h = identity_of _ d (h (codes "{t}"))
-shaped_of good routes.Comment at d h = comment_of _ _ d (h (codes "{t}")) (h (codes "{n}"))
-shaped_of good routes.Label at d h = label_of _ _ d (h (codes "{t}")) (h (codes "{n}"))
-shaped_of good routes.SetStatus at d h = status_of _ _ d (h (codes "{t}")) (h (codes "{n}"))
-shaped_of good routes.Feedback at d h = feedback_of _ _ d (h (codes "{t}")) (h (codes "{n}"))
-shaped_of good routes.Share at d h = share_of _ _ d (h (codes "{t}")) (h (codes "{n}"))
-shaped_of good routes.Transfer at d h = transfer_of _ _ d (h (codes "{t}")) (h (codes "{n}"))
-shaped_of good routes.Ask at d h = ask_of _ _ d (h (codes "{t}")) (h (codes "{n}"))
-shaped_of good routes.Decide at d h = decide_of _ _ _ d (h (codes "{t}")) (h (codes "{n}")) (h (codes "{k}"))
-shaped_of good routes.SetSettings at d h = set_if fits_settings (λ s. commands.SetSettings (at (codes "{t}")) s) _ (settings_of d) (λ s e. (rw (h (codes "{t}"), e) refl, refl))
-shaped_of good routes.SetUser at d h = set_if fits_user (λ u. commands.SetUser (at (codes "{t}")) (at (codes "{u}")) u) _ (user_of d) (λ u e. (rw (h (codes "{t}"), h (codes "{u}"), e) refl, refl))
-shaped_of good routes.SetContext at d h = set_if fits_context (λ c. commands.SetContext (at (codes "{t}")) (at (codes "{c}")) c) _ (context_of d) (λ c e. (rw (h (codes "{t}"), h (codes "{c}"), e) refl, refl))
-shaped_of good routes.SetForm at d h = form_of_body good _ _ d (h (codes "{t}")) (h (codes "{f}"))
-shaped_of good _ at d h = record { given = tt }
+pub shaped_of : GoodForms → (r : Route) (at : Numbers) (d : Data) → HasGoodAnswers d → AreNumbers at → IsRead (shaped r at d)
+shaped_of good routes.Login at d ordered h = login_of _ d (h (codes "{t}"))
+shaped_of good routes.Submit at d ordered h = submission_of _ d ordered (h (codes "{t}"))
+shaped_of good routes.OwnComment at d ordered h = own_comment_of _ d (h (codes "{t}"))
+shaped_of good routes.GiveIdentity at d ordered h = identity_of _ d ordered (h (codes "{t}"))
+shaped_of good routes.Comment at d ordered h = comment_of _ _ d (h (codes "{t}")) (h (codes "{n}"))
+shaped_of good routes.Label at d ordered h = label_of _ _ d (h (codes "{t}")) (h (codes "{n}"))
+shaped_of good routes.SetStatus at d ordered h = status_of _ _ d (h (codes "{t}")) (h (codes "{n}"))
+shaped_of good routes.Feedback at d ordered h = feedback_of _ _ d (h (codes "{t}")) (h (codes "{n}"))
+shaped_of good routes.Share at d ordered h = share_of _ _ d (h (codes "{t}")) (h (codes "{n}"))
+shaped_of good routes.Transfer at d ordered h = transfer_of _ _ d (h (codes "{t}")) (h (codes "{n}"))
+shaped_of good routes.Extend at d ordered h = extend_of _ _ d (h (codes "{t}")) (h (codes "{n}"))
+shaped_of good routes.Ask at d ordered h = ask_of _ _ d (h (codes "{t}")) (h (codes "{n}"))
+shaped_of good routes.Decide at d ordered h = decide_of _ _ _ d (h (codes "{t}")) (h (codes "{n}")) (h (codes "{k}"))
+shaped_of good routes.SetSettings at d ordered h = set_if fits_settings (λ s. commands.SetSettings (at (codes "{t}")) s) _ (settings_of d) (λ s e. (rw (h (codes "{t}"), e) refl, refl))
+shaped_of good routes.SetUser at d ordered h = set_if fits_user (λ u. commands.SetUser (at (codes "{t}")) (at (codes "{u}")) u) _ (user_of d) (λ u e. (rw (h (codes "{t}"), h (codes "{u}"), e) refl, refl))
+shaped_of good routes.SetContext at d ordered h = set_if fits_context (λ c. commands.SetContext (at (codes "{t}")) (at (codes "{c}")) c) _ (context_of d) (λ c e. (rw (h (codes "{t}"), h (codes "{c}"), e) refl, refl))
+shaped_of good routes.SetForm at d ordered h = form_of_body good _ _ d (h (codes "{t}")) (h (codes "{f}"))
+shaped_of good _ at d ordered h = record { given = tt }
 
 -- the command of a route without a body fits
 pub bare_fits : (r : Route) (at : Numbers) → AreNumbers at → IfSome (bare r at) (λ c. fits_command c ≡ true)
@@ -306,6 +302,7 @@ bare_fits routes.ReadReport at h = rw (h (codes "{t}"), h (codes "{n}")) refl
 bare_fits routes.Acknowledge at h = rw (h (codes "{t}"), h (codes "{n}")) refl
 bare_fits routes.Unshare at h = rw (h (codes "{t}"), h (codes "{n}"), h (codes "{u}")) refl
 bare_fits routes.Postpone at h = rw (h (codes "{t}"), h (codes "{n}")) refl
+bare_fits routes.Delete at h = rw (h (codes "{t}"), h (codes "{n}")) refl
 bare_fits routes.ReadIdentity at h = rw (h (codes "{t}"), h (codes "{n}")) refl
 bare_fits routes.Requests at h = rw (h (codes "{t}")) refl
 bare_fits routes.Admin at h = rw (h (codes "{t}")) refl

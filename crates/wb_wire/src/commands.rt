@@ -9,7 +9,7 @@ use crate::segments::number_under;
 use serde_json::Value;
 use std::alloc::Global;
 use wb_bodies::{
-    BodyNo, ask, comment, context_set, decide, feedback, identity, label, login, new_form,
+    BodyNo, ask, comment, context_set, decide, extend, feedback, identity, label, login, new_form,
     new_status, own_comment, settings_set, share, submission, transfer, user_set,
 };
 use wb_model::{Command, Route};
@@ -55,6 +55,7 @@ pub fn bare(route: Route, numbers: &Numbers) -> Option<Command>
             u: numbers.at(b"{u}"),
         }),
         Route::Postpone => Some(Command::Postpone { t, n }),
+        Route::Delete => Some(Command::Delete { t, n }),
         Route::ReadIdentity => Some(Command::ReadIdentity { t, n }),
         Route::Requests => Some(Command::Requests { t }),
         Route::Admin => Some(Command::Admin { t }),
@@ -84,6 +85,7 @@ pub fn shaped(
         Route::Feedback => feedback(alloc, t, n, value),
         Route::Share => share(t, n, value),
         Route::Transfer => transfer(t, n, value),
+        Route::Extend => extend(alloc, t, n, value),
         Route::Ask => ask(alloc, t, n, value),
         Route::Decide => decide(alloc, t, n, numbers.at(b"{k}"), value),
         Route::SetSettings => Ok(Command::SetSettings {

@@ -8,6 +8,7 @@ ghost use Rattle.wb_model.specs.Readings.{Reading, Asks, Reads, Closes};
 ghost use Rattle.wb_wire.specs.SetupText.{setup_text, IsSetup};
 
 use wb_form::good_forms_are_those_that_are_read;
+use wb_model::answers_that_are_read_stand_in_order;
 
 /// No frame's text begins another's, so a text parts into frames in one way.
 pub fn one_frame()
@@ -30,4 +31,5 @@ pub fn what_is_asked_fits()
     ensures { (bytes : List ℕ) (asked : Asked) → Reads bytes (Asks asked) → fits asked ≡ true }
 {
     good_forms_are_those_that_are_read();
+    answers_that_are_read_stand_in_order();
 }

@@ -23,7 +23,7 @@ macro_rules! path {
     };
 }
 
-static PATHS: [Path; 28] = [
+static PATHS: [Path; 29] = [
     path!("/health", "GET" Health),
     path!("/t/{t}", "GET" Public),
     path!("/t/{t}/contexts/{c}", "GET" ContextOf),
@@ -33,7 +33,7 @@ static PATHS: [Path; 28] = [
     path!("/t/{t}/report/comments", "POST" OwnComment),
     path!("/t/{t}/report/identity", "PUT" GiveIdentity),
     path!("/t/{t}/due", "GET" DueList),
-    path!("/t/{t}/reports/{n}", "GET" ReadReport),
+    path!("/t/{t}/reports/{n}", "GET" ReadReport, "DELETE" Delete),
     path!("/t/{t}/reports/{n}/comments", "POST" Comment),
     path!("/t/{t}/reports/{n}/label", "PUT" Label),
     path!("/t/{t}/reports/{n}/status", "PUT" SetStatus),
@@ -52,6 +52,7 @@ static PATHS: [Path; 28] = [
     path!("/t/{t}/admin/users/{u}", "PUT" SetUser),
     path!("/t/{t}/admin/contexts/{c}", "PUT" SetContext),
     path!("/t/{t}/admin/forms/{f}", "PUT" SetForm),
+    path!("/t/{t}/reports/{n}/extension", "POST" Extend),
 ];
 
 // All paths, in the order of their numbers.
@@ -64,7 +65,7 @@ fn paths() -> &'static [Path]
 /// The paths that a router holds: all but `/health`, numbered from 2.
 pub fn routed_paths() -> &'static [Path]
     ensures patterns { patterns_of result.now ≡ drop 1 patterns }
-    ensures count { length result.now ≡ 27 }
+    ensures count { length result.now ≡ 28 }
 {
     &PATHS[1..]
 }

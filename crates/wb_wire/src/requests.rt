@@ -25,7 +25,7 @@ use serde_json::Value;
 use std::alloc::Global;
 use wb_bodies::{BodyNo, read_json};
 use wb_form::good_forms_are_those_that_are_read;
-use wb_model::{Asked, Command, PathNo, Route};
+use wb_model::{Asked, Command, PathNo, Route, answers_that_are_read_stand_in_order};
 
 /// Why a request is not read, and whether the connection closes after the reply.
 #[derive(Clone, Copy, Debug, PartialEq, Eq)]
@@ -144,6 +144,7 @@ fn read_command(alloc: Global, routes: &Routes, parts: &Parts) -> Result<Command
         return Err(WireFault::NoMethod(place.number));
     };
     good_forms_are_those_that_are_read();
+    answers_that_are_read_stand_in_order();
     let numbers = place.numbers();
     if let Some(command) = bare(route, &numbers) {
         return Ok(command);

@@ -46,7 +46,7 @@ fn add(router: &mut Router<PathNo>, pattern: &str, number: PathNo) -> Result<(),
 // Puts paths into the router, numbered from this one.
 fn add_all(router: &mut Router<PathNo>, paths: &[Path], first: u8) -> Result<(), Memory>
     requires low { 1 ≤ first }
-    requires high { first + length paths.now ≤ 29 }
+    requires high { first + length paths.now ≤ 30 }
     requires fits { all_fit (patterns_of paths.now) first router.old ≡ true }
     ensures { OnOk result (router.new ≡ with_patterns (patterns_of paths.now) first router.old) }
 {

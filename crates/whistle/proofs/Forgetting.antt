@@ -1,14 +1,14 @@
 -- From the purge of a report on, replies and hosts are those of the script in which its submission only drew a number, from the law of scripts.
-use Rattle.std.proofs.Common.{zero, suc, ◌≡◌, ℕ, true, List, [], ◌∷◌, Some, refl, sym, ap, ◌∙◌}
+use Rattle.std.proofs.Common.{zero, suc, ◌≡◌, ℕ, true, false, List, [], ◌∷◌, Some, refl, sym, ap, ◌∙◌}
 use Rattle.std.specs.Prelude.{map}
 use Rattle.wb_base.specs.declared.words.Words.{Words}
 use Rattle.wb_model.specs.declared.wire.ScriptFrame.{ScriptFrame}
-use Rattle.wb_model.specs.Past.{Past}
-use Rattle.wb_model.specs.Pasts.{AllOpened, standing_hosts}
+use Rattle.wb_model.specs.Past.{Past, live}
+use Rattle.wb_model.specs.Pasts.{AllOpened, standing_hosts, part, time}
 use Rattle.wb_model.specs.Playing.{IsPlaceOf, ArePlacesOf}
 use Rattle.wb_model.specs.Readings.{Reading, Reads}
 use Rattle.wb_model.specs.Scripts.{Place, script_replies, past_after}
-use Rattle.wb_model.specs.Absence.{Item, Stands, Skips, replies, past_with, without_place, AreApart, BeginsAt, DrawOthersAfter, is_purged_after, replies_after}
+use Rattle.wb_model.specs.Absence.{Item, Stands, Skips, replies, past_with, without_place, AreApart, BeginsAt, DrawOthersAfter, is_purged_after, replies_after, holds, NoneIsLost}
 use Rattle.whistle.specs.Headline.{Framed, Skipped, without_frame, IsItemOf, AreItemsOf, LosesAlike, LoseAlike, bytes_of, ForgetsReports}
 use Rattle.whistle.proofs.Identities.{of_one}
 
@@ -44,12 +44,18 @@ module _ (one_reading : (bytes : List ℕ) (a b : Reading) → Reads bytes a →
   items_are (suc i) t (f ∷ fs) (p ∷ ps) (x ∷ xs) h lost k = ap (λ y. y ∷ xs) (framed f p x h.0 lost.0 k.0) ∙ ap (λ ys. Stands p ∷ ys) (items_are i t fs ps xs h.1 lost.1 k.1)
 
   module _ (by_replies : (i t r : ℕ) (past : Past AllOpened) (places : List Place) → AreApart t past → BeginsAt i t r past places → DrawOthersAfter i t r past places
-      → replies_after i t r past places (map Some (script_replies past places)) ≡ replies_after i t r past places (replies past (without_place i t places))) where
-    module _ (by_hosts : (i t r : ℕ) (past : Past AllOpened) (places : List Place) → AreApart t past → BeginsAt i t r past places → DrawOthersAfter i t r past places → is_purged_after i t r past places ≡ true
-        → standing_hosts (past_with past (without_place i t places)) ≡ standing_hosts (past_after past places)) where
-      pub forgets : (past : Past AllOpened) → ((t : ℕ) → AreApart t past) → (frames : List ScriptFrame) (places : List Place) → ArePlacesOf frames places → ForgetsReports past frames places
-      forgets past apart frames places placed i t r items are lost begins others =
-          let same : items ≡ without_place i t places = items_are i t frames places items placed lost are in (
-            ap bytes_of (by_replies i t r past places (apart t) begins others) ∙ ap (λ xs. bytes_of (replies_after i t r past places (replies past xs))) (sym same),
-            λ purged. ap (λ xs. standing_hosts (past_with past xs)) same ∙ by_hosts i t r past places (apart t) begins others purged,
-          )
+      → replies_after i t r past places (map Some (script_replies past places)) ≡ replies_after i t r past places (replies past (without_place i t places)))
+      (by_hosts : (i t r : ℕ) (past : Past AllOpened) (places : List Place) → AreApart t past → BeginsAt i t r past places → DrawOthersAfter i t r past places → holds t r (past_after past places) ≡ false
+      → standing_hosts (past_with past (without_place i t places)) ≡ standing_hosts (past_after past places))
+      (by_purge : (i t r : ℕ) (past : Past AllOpened) (places : List Place) → AreApart t past → BeginsAt i t r past places → DrawOthersAfter i t r past places → is_purged_after i t r past places ≡ true
+      → holds t r (past_after past places) ≡ false)
+      (by_life : (i t r : ℕ) (past : Past AllOpened) (places : List Place) → BeginsAt i t r past places → NoneIsLost places → live (part t (past_after past places)) r (time (past_after past places)) ≡ false
+      → holds t r (past_after past places) ≡ false) where
+    pub forgets : (past : Past AllOpened) → ((t : ℕ) → AreApart t past) → (frames : List ScriptFrame) (places : List Place) → ArePlacesOf frames places → ForgetsReports past frames places
+    forgets past apart frames places placed i t r items are lost begins others =
+        let same : items ≡ without_place i t places = items_are i t frames places items placed lost are in record {
+          replies = ap bytes_of (by_replies i t r past places (apart t) begins others) ∙ ap (λ xs. bytes_of (replies_after i t r past places (replies past xs))) (sym same);
+          hosts = λ gone. ap (λ xs. standing_hosts (past_with past xs)) same ∙ by_hosts i t r past places (apart t) begins others gone;
+          purged = by_purge i t r past places (apart t) begins others;
+          gone = by_life i t r past places begins;
+        }

@@ -1,11 +1,11 @@
 -- The laws of scripts, said of what a run played from the past that it opened.
-use Rattle.std.proofs.Common.{◌≡◌, ℕ, true, List, Some, subst, sym}
+use Rattle.std.proofs.Common.{◌≡◌, ℕ, true, false, List, Some, subst, sym}
 use Rattle.std.specs.Prelude.{map}
 use Rattle.wb_base.specs.declared.rows.Row.{Row}
 use Rattle.wb_model.specs.declared.wire.ScriptFrame.{ScriptFrame}
-use Rattle.wb_model.specs.Absence.{replies, past_with, without_place, AreApart, BeginsAt, DrawOthersAfter, is_purged_after, replies_after}
-use Rattle.wb_model.specs.Past.{Past, Opening}
-use Rattle.wb_model.specs.Pasts.{AllOpened, standing_hosts}
+use Rattle.wb_model.specs.Absence.{replies, past_with, without_place, AreApart, BeginsAt, DrawOthersAfter, is_purged_after, replies_after, holds, NoneIsLost}
+use Rattle.wb_model.specs.Past.{Past, Opening, live}
+use Rattle.wb_model.specs.Pasts.{AllOpened, standing_hosts, part, time}
 use Rattle.wb_model.specs.Playing.{ArePlacesOf, AreLossesTold}
 use Rattle.wb_model.specs.Readings.{Reading, Reads}
 use Rattle.wb_model.specs.Rows.{rows, rows_but}
@@ -23,12 +23,16 @@ module _ (one_reading : (bytes : List ℕ) (a b : Reading) → Reads bytes a →
     (opening : (t : ℕ) (o : AllOpened) → AreApart t (Opening o))
     (by_replies : (i t r : ℕ) (past : Past AllOpened) (places : List Place) → AreApart t past → BeginsAt i t r past places → DrawOthersAfter i t r past places
     → replies_after i t r past places (map Some (script_replies past places)) ≡ replies_after i t r past places (replies past (without_place i t places)))
-    (by_hosts : (i t r : ℕ) (past : Past AllOpened) (places : List Place) → AreApart t past → BeginsAt i t r past places → DrawOthersAfter i t r past places → is_purged_after i t r past places ≡ true
+    (by_hosts : (i t r : ℕ) (past : Past AllOpened) (places : List Place) → AreApart t past → BeginsAt i t r past places → DrawOthersAfter i t r past places → holds t r (past_after past places) ≡ false
     → standing_hosts (past_with past (without_place i t places)) ≡ standing_hosts (past_after past places))
+    (by_purge : (i t r : ℕ) (past : Past AllOpened) (places : List Place) → AreApart t past → BeginsAt i t r past places → DrawOthersAfter i t r past places → is_purged_after i t r past places ≡ true
+    → holds t r (past_after past places) ≡ false)
+    (by_life : (i t r : ℕ) (past : Past AllOpened) (places : List Place) → BeginsAt i t r past places → NoneIsLost places → live (part t (past_after past places)) r (time (past_after past places)) ≡ false
+    → holds t r (past_after past places) ≡ false)
   where
     pub laws_of : (loaded : List Row) (setup : List ℕ) (start : Past AllOpened) → IsOpenedBy loaded setup start → Laws start
     laws_of loaded setup start opened = record {
       losses = told start;
       identities = keeps one_reading alike alike_rows start;
-      absence = forgets one_reading by_replies by_hosts start (λ t. subst (AreApart t) (sym opened.opens) (opening t opened.opening));
+      absence = forgets one_reading by_replies by_hosts by_purge by_life start (λ t. subst (AreApart t) (sym opened.opens) (opening t opened.opening));
     }

@@ -6,12 +6,12 @@ use Rattle.wb_model.specs.declared.command.Asked.{Asked}
 use Rattle.wb_model.specs.declared.wire.ScriptFrame.{ScriptFrame}
 use Rattle.wb_model.specs.Requests.{Frame}
 use Rattle.wb_model.specs.Tenants.{OneLaterAlike, FirstAlike}
-use Rattle.wb_model.specs.Past.{Past}
-use Rattle.wb_model.specs.Pasts.{AllOpened, standing_hosts}
+use Rattle.wb_model.specs.Past.{Past, live}
+use Rattle.wb_model.specs.Pasts.{AllOpened, standing_hosts, part, time}
 use Rattle.wb_model.specs.Playing.{IsPlaceOf, ArePlacesOf, written}
 use Rattle.wb_model.specs.Readings.{Asks, Reads}
 use Rattle.wb_model.specs.Rows.{rows, rows_but}
-use Rattle.wb_model.specs.Absence.{Item, Stands, Skips, BeginsAt, DrawOthersAfter, replies, past_with, replies_after, is_purged_after}
+use Rattle.wb_model.specs.Absence.{Item, Stands, Skips, BeginsAt, DrawOthersAfter, replies, past_with, replies_after, is_purged_after, holds, NoneIsLost}
 use Rattle.wb_model.specs.Scripts.{Place, Reply, play, script_replies, past_after}
 use Rattle.wb_model.specs.ScriptsAlike.{is_accepted, hidden_replies}
 
@@ -116,10 +116,17 @@ LoseAlike (p ∷ ps) (y ∷ ys) = LosesAlike p y × LoseAlike ps ys
 abbrev pub bytes_of : List (Option Reply) → List (Option (List ℕ))
 bytes_of xs = map (λ (x : Option Reply). option_map written x) xs
 
--- where a submission among the frames that were played as these places drew the number r of tenant t, no later submission to t draws
--- its receipt while the report is live, and the report is purged later: from that place on the replies are byte for byte those of the
--- script in which it only drew the number and the same is lost at each place, and the hosts at the end are the same
+-- the script in which a submission only drew a number has these replies from the place on at which its report is purged; and the same
+-- hosts at the end, where those that were left do not hold the report. They do not once it is purged, nor where nothing is lost and the
+-- report, expired or deleted, is not live at the end
+pub record IsForgotten (past : Past AllOpened) (places : List Place) (i t r : ℕ) (items : List Item) : Type 0 where
+  pub replies : bytes_of (replies_after i t r past places (map Some (script_replies past places))) ≡ bytes_of (replies_after i t r past places (replies past items))
+  pub hosts : holds t r (past_after past places) ≡ false → standing_hosts (past_with past items) ≡ standing_hosts (past_after past places)
+  pub purged : is_purged_after i t r past places ≡ true → holds t r (past_after past places) ≡ false
+  pub gone : NoneIsLost places → live (part t (past_after past places)) r (time (past_after past places)) ≡ false → holds t r (past_after past places) ≡ false
+
+-- where a submission among the frames that were played as these places drew the number r of tenant t, and no later submission to t draws
+-- its receipt while the report is live, the report is forgotten: byte for byte, by the script in which it only drew the number and the
+-- same is lost at each place
 abbrev pub ForgetsReports : Past AllOpened → List ScriptFrame → List Place → Type 0
-ForgetsReports past frames places = (i t r : ℕ) (items : List Item) → AreItemsOf (without_frame i t frames) items → LoseAlike places items → BeginsAt i t r past places → DrawOthersAfter i t r past places →
-    (bytes_of (replies_after i t r past places (map Some (script_replies past places))) ≡ bytes_of (replies_after i t r past places (replies past items)))
-    × (is_purged_after i t r past places ≡ true → standing_hosts (past_with past items) ≡ standing_hosts (past_after past places))
+ForgetsReports past frames places = (i t r : ℕ) (items : List Item) → AreItemsOf (without_frame i t frames) items → LoseAlike places items → BeginsAt i t r past places → DrawOthersAfter i t r past places → IsForgotten past places i t r items

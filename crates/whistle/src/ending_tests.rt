@@ -77,7 +77,7 @@ fn a_frame_that_is_not_of_the_form_ends_the_run(rt: HostRuntime) -> Result<(), F
 }
 
 // The status of a script that is a setup alone, over a keeper.
-fn opened(alloc: Global, setup: &[u8], keeper: &mut MemKeeper) -> Result<Status, Fail> {
+pub(crate) fn opened(alloc: Global, setup: &[u8], keeper: &mut MemKeeper) -> Result<Status, Fail> {
     let ends = Ends {
         size: 1_000,
         reads: &[],
@@ -102,10 +102,10 @@ fn a_setup_that_opens_no_host_ends_the_run(rt: HostRuntime) -> Result<(), Fail> 
     );
     assert!(rt; keeper.rows().is_empty());
     assert!(rt; opened(alloc, setup.as_bytes(), &mut keeper)? == Status::Done);
-    assert!(rt; keeper.rows().len() == 9);
+    assert!(rt; keeper.rows().len() == 10);
     // A host that is opened on what is kept puts nothing more.
     assert!(rt; opened(alloc, setup.as_bytes(), &mut keeper)? == Status::Done);
-    assert!(rt; keeper.rows().len() == 9 && keeper.faults() == 0);
+    assert!(rt; keeper.rows().len() == 10 && keeper.faults() == 0);
     for call in [1, 2] {
         let mut failing = keeper_failing_at(alloc, [call].to_vec(alloc)?);
         assert!(rt; opened(alloc, setup.as_bytes(), &mut failing)? == Status::OpenFault);
@@ -123,8 +123,8 @@ fn a_setup_alone_leaves_its_rows(rt: HostRuntime) -> Result<(), Fail> {
     for row in keeper.rows() {
         kinds.push(row.key.kind)?;
     }
-    // The settings, the numbering, four users, a form and two contexts.
-    let wanted = [1, 2, 3, 3, 3, 3, 4, 5, 5];
+    // The format, the settings, the numbering, four users, a form and two contexts.
+    let wanted = [0, 1, 2, 3, 3, 3, 3, 4, 5, 5];
     assert!(rt; status == Status::Done && kinds.as_slice() == wanted.as_slice());
     Ok(())
 }

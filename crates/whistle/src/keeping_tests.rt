@@ -97,7 +97,7 @@ fn a_failing_call_of_the_keeper_loses_its_turn_alone(rt: HostRuntime) -> Result<
     let alloc = rt.alloc();
     for (call, told, rows) in FAILING {
         let script = script_told(alloc, told)?;
-        assert!(rt; leaves(alloc, &script, &[*call], 9, rows)?, "{call}");
+        assert!(rt; leaves(alloc, &script, &[*call], 10, rows)?, "{call}");
     }
     Ok(())
 }
@@ -107,7 +107,7 @@ fn a_comment_that_was_lost_and_comes_again_is_shown_once(rt: HostRuntime) -> Res
     let alloc = rt.alloc();
     let mut script = script_told(alloc, LOST_ONCE)?;
     push_turn(alloc, &mut script, &((864_001, 6, 6), 3, OWN, MORE_VIEW))?;
-    assert!(rt; leaves(alloc, &script, &[5], 9, &[(6, 2, 1), (6, 2, 2)])?);
+    assert!(rt; leaves(alloc, &script, &[5], 10, &[(6, 2, 1), (6, 2, 2)])?);
     Ok(())
 }
 

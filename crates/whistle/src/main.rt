@@ -105,7 +105,11 @@ fn main(rt: HostRuntime) -> ExitCode {
 #[cfg(test)]
 mod ending_tests;
 #[cfg(test)]
+mod format_tests;
+#[cfg(test)]
 mod generated_tests;
+#[cfg(test)]
+mod handling_tests;
 #[cfg(test)]
 mod hostile_tests;
 #[cfg(test)]

@@ -8,7 +8,7 @@ use crate::tests::VIEW;
 use std::alloc::Global;
 use std::test::Fail;
 
-const SET: Told = (200, DONE);
+pub(crate) const SET: Told = (200, DONE);
 
 const ASK: Asked = ("POST /t/1/reports/1/access", r#"{"reason":"Interview"}"#);
 
@@ -127,16 +127,17 @@ fn an_identity_opens_by_a_grant(rt: HostRuntime) -> Result<(), Fail> {
     Ok(())
 }
 
-const DAN: Asked = (
+pub(crate) const DAN: Asked = (
     "POST /t/1/sessions",
     r#"{"user":"dan","password":"dan-pass"}"#,
 );
 
-const ADMIN_1: &str = r#"{"role":"admin","session":"1-00000000000000000000000000000001"}"#;
+pub(crate) const ADMIN_1: &str =
+    r#"{"role":"admin","session":"1-00000000000000000000000000000001"}"#;
 
 const ADMIN_5: &str = r#"{"role":"admin","session":"5-00000000000000000000000000000005"}"#;
 
-const BEN: Asked = (
+pub(crate) const BEN: Asked = (
     "POST /t/1/sessions",
     r#"{"user":"ben","password":"ben-pass"}"#,
 );
@@ -157,11 +158,11 @@ const REFUSED: &[Turn] = &[
     ((0, 8, 8), 0, ("GET /t/1/nothing", ""), NOT_THERE),
 ];
 
-const ACKNOWLEDGE: Asked = ("POST /t/1/reports/1/acknowledgement", "");
+pub(crate) const ACKNOWLEDGE: Asked = ("POST /t/1/reports/1/acknowledgement", "");
 
 const SHARE: Asked = ("POST /t/1/reports/1/readers", r#"{"user":2}"#);
 
-const CLOSE: Asked = ("PUT /t/1/reports/1/status", r#"{"status":"closed"}"#);
+pub(crate) const CLOSE: Asked = ("PUT /t/1/reports/1/status", r#"{"status":"closed"}"#);
 
 const COMMENT: Asked = ("POST /t/1/reports/1/comments", r#"{"text":"Late"}"#);
 
@@ -173,7 +174,7 @@ const ALREADY: Told = (409, r#"{"code":"already","kept":"2025-01-01"}"#);
 
 const SHARED: Told = (409, r#"{"code":"already","kept":2}"#);
 
-const CLOSED: Told = (409, r#"{"code":"closed","kept":null}"#);
+pub(crate) const CLOSED: Told = (409, r#"{"code":"closed","kept":null}"#);
 
 const LAST_READER: Told = (409, r#"{"code":"last_reader","kept":null}"#);
 
@@ -263,7 +264,7 @@ const CHECKED: &[Turn] = &[
     ((0, 4, 4), 0, ("POST /t/1/reports", PHONE), NO_NAME),
 ];
 
-const FIRST_VERSION: Told = (200, r#"{"version":1}"#);
+pub(crate) const FIRST_VERSION: Told = (200, r#"{"version":1}"#);
 
 const SEALED_TRIGGER: Told = (422, r#"{"code":"sealed_trigger","field":"what"}"#);
 

@@ -77,7 +77,7 @@ pub(crate) fn push_turn(alloc: Global, script: &mut Script, turn: &Turn) -> Resu
 }
 
 // The first of these turns, at most so many.
-fn first<'a>(turns: &'a [Turn<'a>], count: usize) -> &'a [Turn<'a>] {
+pub(crate) fn first<'a>(turns: &'a [Turn<'a>], count: usize) -> &'a [Turn<'a>] {
     &turns[..count.min(turns.len())]
 }
 
@@ -204,7 +204,7 @@ const LONGER_RETURNED: &[Turn] = &[
     ((40, 5, 5), 4, OWN, (200, LONGER_OWN_VIEW)),
 ];
 
-const BAD_LOGIN: Told = (401, r#"{"code":"bad_login"}"#);
+pub(crate) const BAD_LOGIN: Told = (401, r#"{"code":"bad_login"}"#);
 
 const REPORTER_2: &str = r#"{"role":"reporter","session":"2-00000000000000000000000000000002"}"#;
 
@@ -395,7 +395,7 @@ fn a_report_expires_by_the_clock_of_its_tenant(rt: HostRuntime) -> Result<(), Fa
     let setup = two_tenants(alloc)?;
     for (turns, rows) in DOCKED_ROWS {
         let script = script_on(alloc, &setup, first(DOCKED, *turns))?;
-        assert!(rt; leaves(alloc, &script, &[], 18, rows)?, "{turns}");
+        assert!(rt; leaves(alloc, &script, &[], 19, rows)?, "{turns}");
     }
     Ok(())
 }

@@ -49,7 +49,7 @@ fn a_host_at_an_address_that_is_taken_leaves_what_it_opened(rt: HostRuntime) -> 
     fs::write(&rt, "served.toml", HARBOUR)?;
     fs::write(&rt, "bad.toml", "=")?;
     let served = end_of(&rt, &rt, "served.toml", address.as_str(), "served.db")?;
-    assert!(rt; served == 11 && kept(&rt, "served.db")? == 9);
+    assert!(rt; served == 11 && kept(&rt, "served.db")? == 10);
     let unread = end_of(&rt, &rt, "no.toml", address.as_str(), "unread.db")?;
     assert!(rt; unread == 3 && kept(&rt, "unread.db")? == 0);
     let refused = end_of(&rt, &rt, "bad.toml", address.as_str(), "refused.db")?;

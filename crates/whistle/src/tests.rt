@@ -356,7 +356,7 @@ fn an_expired_report_is_gone_and_so_are_its_rows(rt: HostRuntime) -> Result<(), 
         let mut keeper = rows_in_memory(alloc);
         let (status, written) = play_over(alloc, &script, &WHOLE, &mut keeper)?;
         assert!(rt; status == Status::Done && written == output, "{turns}");
-        assert!(rt; kept(alloc, &keeper, 9)?.as_slice() == *wanted, "{turns}");
+        assert!(rt; kept(alloc, &keeper, 10)?.as_slice() == *wanted, "{turns}");
     }
     Ok(())
 }
@@ -391,7 +391,7 @@ fn a_turn_that_the_keeper_fails_is_lost_and_can_be_made_again(rt: HostRuntime) -
     let (status, written) = play_over(alloc, &script, &WHOLE, &mut keeper)?;
     assert!(rt; status == Status::Done);
     assert!(rt; written == output);
-    assert!(rt; kept(alloc, &keeper, 9)?.is_empty());
+    assert!(rt; kept(alloc, &keeper, 10)?.is_empty());
     assert!(rt; keeper.faults() == 2);
     Ok(())
 }

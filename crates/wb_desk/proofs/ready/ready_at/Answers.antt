@@ -18,3 +18,6 @@ plan_turn-requires-clause-named c = c.requires.place.id c.index-tenancies-place.
 
 pub returns-clause-tenants_left : goal.returns-clause-tenants_left
 returns-clause-tenants_left c = set_same c.args.place c.args.tenancies.now c.plan_turn.new.tenancy c.index-tenancies-place.result c.requires.place.within c.plan_turn.ensures.place
+
+pub plan_turn-requires-clause-early : goal.plan_turn-requires-clause-early
+plan_turn-requires-clause-early c = (place_at c.requires.places.0 0 c.args.place c.args.sealed.now.items c.args.tenancies.now c.index-tenancies-place.result c.requires.places.2 c.requires.place.within).days

@@ -1,5 +1,5 @@
-use Rattle.std.proofs.Common.{◌≡◌, refl, sym, ap, ◌∙◌, subst}
-use Rattle.wb_model.specs.Changes.{Begins, Notes, LogsIn, LogsOut, Configures}
+use Rattle.std.proofs.Common.{◌≡◌, None, refl, sym, ap, ◌∙◌, subst}
+use Rattle.wb_model.specs.Changes.{Begins, Notes, Deletes, LogsIn, LogsOut, Configures}
 use Rattle.wb_model.specs.Host.{changed}
 use Rattle.wb_plan.specs.Plans.{IsFit, HasRoom, begins, given_of}
 use Rattle.wb_tables.specs.Configured.{setting_of}
@@ -56,6 +56,13 @@ returns-in-Notes-clause-tables c =
     let n = c.in-Notes.noted in
     subst (λ change. tables_of c.note_entry.new.sealed.items (place_of c.note_entry.new.tenancy) ≡ changed c.args.time (planned_change c.args.tenancy.now change) (given_of change) (tables_of c.args.sealed.now.items (place_of c.args.tenancy.now))) (sym c.in-Notes.is)
     (tables_made c.args.sealed.now.items c.note_entry.new.sealed.items (place_of c.args.tenancy.now) (place_of c.note_entry.new.tenancy) c.args.time (Notes n.number n.entry) n.secret c.note_entry.ensures.id (c.note_entry.ensures.plain c.args.time) (λ k. c.note_entry.ensures.here k))
+
+-- ---- a report goes
+
+pub returns-in-Deletes-clause-tables : goal.returns-in-Deletes-clause-tables
+returns-in-Deletes-clause-tables c =
+    subst (λ change. tables_of c.delete_report.new.sealed.items (place_of c.delete_report.new.tenancy) ≡ changed c.args.time (planned_change c.args.tenancy.now change) (given_of change) (tables_of c.args.sealed.now.items (place_of c.args.tenancy.now))) (sym c.in-Deletes.is)
+    (tables_made c.args.sealed.now.items c.delete_report.new.sealed.items (place_of c.args.tenancy.now) (place_of c.delete_report.new.tenancy) c.args.time (Deletes c.in-Deletes.number) None c.delete_report.ensures.id (c.delete_report.ensures.plain c.args.time) (λ k. c.delete_report.ensures.here k))
 
 -- ---- a session begins, or ends
 

@@ -6,8 +6,8 @@ use Rattle.wb_form.proofs.rules.has_without.Goals as goal
 
 pub returns-in-Some : goal.returns-in-Some
 returns-in-Some c =
-    let has : c.has_option.result ≡ list_any (is_option c.args.cond.now.option) (options_of c.in-Some.field.now.kind) = c.has_option.ensures ∙ ap (list_any (is_option c.args.cond.now.option)) c.options_of.ensures in
-    ap not has ∙ sym (c.in-Some.ensures (λ (f : Field). not (list_any (is_option c.args.cond.now.option) (options_of f.kind))))
+    let has : c.has_option.result ≡ list_any (is_option c.args.part.now.option.now) (options_of c.in-Some.field.now.kind) = c.has_option.ensures ∙ ap (list_any (is_option c.args.part.now.option.now)) c.options_of.ensures in
+    ap not has ∙ sym (c.in-Some.ensures (λ (f : Field). not (list_any (is_option c.args.part.now.option.now) (options_of f.kind))))
 
 pub returns-in-None : goal.returns-in-None
-returns-in-None c = sym (c.in-None.ensures (λ (f : Field). not (list_any (is_option c.args.cond.now.option) (options_of f.kind))))
+returns-in-None c = sym (c.in-None.ensures (λ (f : Field). not (list_any (is_option c.args.part.now.option.now) (options_of f.kind))))

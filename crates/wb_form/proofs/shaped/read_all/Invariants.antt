@@ -6,4 +6,4 @@ use Rattle.wb_form.proofs.shaped.read_all.Given as goal
 
 abbrev pub invariant-loop-value : goal.invariant-loop-value
 invariant-loop-value g l =
-    all_of g.T.Shaped.shape (items_view l.value-items) ≡ then_rest g.T.Shaped.shape l.found (items_view (drop l.value-index l.value-items))
+    all_of (g.T.Shaped.shape l.format) (items_view l.value-items) ≡ then_rest (g.T.Shaped.shape l.format) l.found (items_view (drop l.value-index l.value-items))

@@ -3,4 +3,4 @@ use Rattle.serde_json.specs.View.{view}
 use Rattle.wb_form.proofs.show.list_value.Given as goal
 
 abbrev pub invariant-loop-item : goal.invariant-loop-item
-invariant-loop-item g l = map view l.values.items ≡ map g.T.Showing.json (take l.item-index l.items)
+invariant-loop-item g l = map view l.values.items ≡ map (g.T.Showing.json l.format) (take l.item-index l.items)

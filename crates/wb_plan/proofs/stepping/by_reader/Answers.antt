@@ -7,7 +7,7 @@ use Rattle.wb_tables.specs.declared.tenancy.Who.TheVariants as kept
 use Rattle.wb_tables.specs.Kept.{case_of, place_of, tables_of}
 use Rattle.wb_looks.specs.Looks.{at_of}
 use Rattle.wb_plan.specs.Steps.{IsAsked}
-use Rattle.wb_plan.proofs.Families.{answers_fit, identity_step, names_unanswered, sealed_there}
+use Rattle.wb_plan.proofs.Families.{answers_fit, erased_fit, erased_step, identity_step, names_unanswered, sealed_there}
 use Rattle.wb_plan.proofs.Steps.{asked_step}
 use Rattle.wb_plan.proofs.stepping.by_reader.Goals as goal
 
@@ -52,3 +52,10 @@ returns-in_ok-acting-in_default c =
           (c.in_ok-acting-in_default.ensures.sound c.args.user) h) c.writing-in_default.ensures;
       fit = IfOk-weaker c.writing-in_default.result _ _ (λ step h. answers_fit c.args.tenancy.now (kept.User c.args.user) c.args.report.now asks step h) c.writing-in_default.ensures;
     }
+
+pub returns-in-Delete-clause-step : goal.returns-in-Delete-clause-step
+returns-in-Delete-clause-step c =
+    erased_step c.args.tenancy.now.configuration.tenant (purged c.args.at.now.time (tables_of c.args.sealed.now.items (place_of c.args.tenancy.now))) (at_of c.args.at.now) c.args.asked.now (TheUser c.args.user) c.args.report.now c.in-Delete.t c.in-Delete.n c.erasing.result c.in-Delete.is c.erasing.ensures
+
+pub returns-in-Delete-clause-fit : goal.returns-in-Delete-clause-fit
+returns-in-Delete-clause-fit c = erased_fit c.args.tenancy.now c.args.report.now c.erasing.result c.erasing.ensures

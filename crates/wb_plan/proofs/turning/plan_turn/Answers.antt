@@ -42,7 +42,7 @@ returns-in-Writes-clause-roomy c =
     let there = there-found c.in-Writes.writing.number p.cases ∙ ap is_some h.there in
     ok_both c.write_in.result
     (λ plan f g. record {
-      fit = written_fit c.args.at.now.time c.write_in.new.tenancy h.case.trail c.args.at.now.time c.in-Writes.writing plan (subst (λ (y : PlainTenancy). is_there c.in-Writes.writing.number (live_plain c.args.at.now.time y.plain).cases ≡ true) (sym c.write_in.ensures.place) there) (f h.case.trail found);
+      fit = written_fit c.args.at.now.time c.write_in.new.tenancy x.configuration.registry.settings.calendar h.case.trail c.args.at.now.time c.in-Writes.writing plan (subst (λ (y : PlainTenancy). is_there c.in-Writes.writing.number (live_plain c.args.at.now.time y.plain).cases ≡ true) (sym c.write_in.ensures.place) there) (f h.case.trail found);
       room = g h.case.trail found;
     }) c.write_in.ensures.plan c.write_in.ensures.roomy
 

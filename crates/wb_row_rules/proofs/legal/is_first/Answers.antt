@@ -13,12 +13,12 @@ not_all a b x v ha hb hx = rw (ha, hb) (hx ∙ hb)
 
 pub returns-then-right_days : goal.returns-then-right_days
 returns-then-right_days c = let s = c.in-Submitted in
-    let on : c.day_of-today.result ≡ day_of c.args.entry.now.at c.args.offset = search rules in
-    let days : right_days (day_of c.args.entry.now.at c.args.offset) s.received s.ack_due s.feedback_due s.expires ≡ c.right_days.result = sym (c.right_days.ensures ∙ ap (λ today. right_days today s.received s.ack_due s.feedback_due s.expires) on) in
-    rw s.is (all (legal.is_reporter c.args.entry.now.by) (right_days (day_of c.args.entry.now.at c.args.offset) s.received s.ack_due s.feedback_due s.expires) c.are_readers.result (legal.are_readers s.readers) (sym c.is_reporter.ensures ∙ c.if-not-is_reporter.false) (days ∙ c.if-right_days.true) (c.are_readers.ensures ∙ ap legal.are_readers c.as_slice.ensures))
+    let on : c.day_of-today.result ≡ day_of c.args.entry.now.at c.args.days.now.offset = search rules in
+    let days : right_days c.args.days.now.calendar.now (day_of c.args.entry.now.at c.args.days.now.offset) s.received s.ack_due s.feedback_due s.expires ≡ c.right_days.result = sym (c.right_days.ensures ∙ ap (λ today. right_days c.args.days.now.calendar.now today s.received s.ack_due s.feedback_due s.expires) on) in
+    rw s.is (all (legal.is_reporter c.args.entry.now.by) (right_days c.args.days.now.calendar.now (day_of c.args.entry.now.at c.args.days.now.offset) s.received s.ack_due s.feedback_due s.expires) c.are_readers.result (legal.are_readers s.readers) (sym c.is_reporter.ensures ∙ c.if-not-is_reporter.false) (days ∙ c.if-right_days.true) (c.are_readers.ensures ∙ ap legal.are_readers c.as_slice.ensures))
 
 pub returns-else-right_days : goal.returns-else-right_days
 returns-else-right_days c = let s = c.in-Submitted in
-    let on : c.day_of-today.result ≡ day_of c.args.entry.now.at c.args.offset = search rules in
-    let days : right_days (day_of c.args.entry.now.at c.args.offset) s.received s.ack_due s.feedback_due s.expires ≡ c.right_days.result = sym (c.right_days.ensures ∙ ap (λ today. right_days today s.received s.ack_due s.feedback_due s.expires) on) in
-    rw s.is (not_all (legal.is_reporter c.args.entry.now.by) (right_days (day_of c.args.entry.now.at c.args.offset) s.received s.ack_due s.feedback_due s.expires) c.right_days.result (legal.are_readers s.readers) (sym c.is_reporter.ensures ∙ c.if-not-is_reporter.false) (days ∙ c.if-right_days.false) (sym days))
+    let on : c.day_of-today.result ≡ day_of c.args.entry.now.at c.args.days.now.offset = search rules in
+    let days : right_days c.args.days.now.calendar.now (day_of c.args.entry.now.at c.args.days.now.offset) s.received s.ack_due s.feedback_due s.expires ≡ c.right_days.result = sym (c.right_days.ensures ∙ ap (λ today. right_days c.args.days.now.calendar.now today s.received s.ack_due s.feedback_due s.expires) on) in
+    rw s.is (not_all (legal.is_reporter c.args.entry.now.by) (right_days c.args.days.now.calendar.now (day_of c.args.entry.now.at c.args.days.now.offset) s.received s.ack_due s.feedback_due s.expires) c.right_days.result (legal.are_readers s.readers) (sym c.is_reporter.ensures ∙ c.if-not-is_reporter.false) (days ∙ c.if-right_days.false) (sym days))

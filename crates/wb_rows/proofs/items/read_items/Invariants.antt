@@ -13,6 +13,6 @@ after items (Err fault) = Err fault
 
 abbrev pub invariant-loop-row : goal.invariant-loop-row
 invariant-loop-row l = record {
-  items : items_in l.rows ≡ after l.items.items (items_in (drop l.row-index l.rows));
+  items : items_in l.format l.rows ≡ after l.items.items (items_in l.format (drop l.row-index l.rows));
   fits : list_all is_in_range l.items.items ≡ true;
 }

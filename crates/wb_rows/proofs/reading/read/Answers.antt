@@ -1,131 +1,52 @@
-use Rattle.std.proofs.Common.{rules, ◌≡◌, ◌≢◌, true, Ok, Err, IfErr, map, sym, ap, ◌∙◌, subst, List}
-use Rattle.std.specs.List.{list_all}
+use Rattle.std.proofs.Common.{map, sym, ap, ◌∙◌, subst, List}
 use Rattle.std.specs.List.Sorted.{IsStrictlySortedBy}
-use Rattle.wb_base.specs.KeptRows.{key_cmp}
-use Rattle.wb_custody.specs.SealedAnswers.{pair_cmp, sealed_place}
-use Rattle.wb_list.specs.Keyed.{IsAscending}
-use Rattle.wb_model.specs.SetUps.{is_tenant_item, is_form_item}
-use Rattle.wb_rows.specs.declared.items.Kept.{Kept}
-use Rattle.wb_row_rules.specs.Places.{entry_key}
-use Rattle.wb_rows.specs.ReadItems.{items_in}
-use Rattle.wb_kinds.specs.declared.item.Item.{Item}
-use Rattle.wb_kinds.specs.Items.{is_in_range}
+use Rattle.wb_base.specs.KeptRows.{key_cmp, key_of}
 use Rattle.wb_base.specs.declared.rows.Row.{Row}
-use Rattle.wb_row_rules.specs.declared.faults.RowFault.{RowFault}
-use Rattle.wb_row_rules.specs.declared.faults.RowFault.TheVariants as faults
-use Rattle.wb_rows.specs.Held.{Held, held_by}
-use Rattle.wb_rows.specs.KeptItems.{kept_of}
-use Rattle.wb_rows.proofs.KeptSetUp.{read-set-up}
-use Rattle.wb_rows.proofs.LegalReports.{read-legal}
-use Rattle.wb_rows.specs.Judged.{judged, judged_items, judged_kept}
-use Rattle.wb_rows.proofs.Judging.{err-then, ok-then}
-use Rattle.wb_rows.proofs.OpenedTables.{read-kept, read-others, read-whole}
-use Rattle.wb_rows.proofs.RowsBack.{rows-back}
-use Rattle.wb_rows.proofs.TablesBack.{not-refused, same-read}
-use Rattle.wb_rows.proofs.FitItems.{tenants-fit, forms-fit}
-use Rattle.wb_rows.proofs.ItemOrder.{items_ascend, lists-order, entries-order, sealed-order}
-use Rattle.wb_setup.specs.Keys.{AreInOrder}
+use Rattle.wb_rows.specs.Held.{held_by}
+use Rattle.wb_rows.specs.Judged.{judged}
+use Rattle.wb_rows.specs.Left.{left}
+use Rattle.wb_rows.proofs.Judging.{ok-then, err-then}
+use Rattle.wb_rows.proofs.LeftRows.{past_judged}
+use Rattle.wb_rows.proofs.Parted.{own-sorted}
+use Rattle.wb_rows.proofs.TablesBack.{tables-back, old-back, same-read, not-refused}
 use Rattle.wb_rows.proofs.reading.read.Goals as goal
 
-pub judge-requires-clause-tenants : goal.judge-requires-clause-tenants
-judge-requires-clause-tenants c = subst (λ (k : Kept). list_all is_tenant_item k.lists.tenants ≡ true) (sym c.in_ok-kept.ensures) (tenants-fit c.in_ok-items.items.items c.in_ok-items.ensures.fits)
+pub read_own-requires : goal.read_own-requires
+read_own-requires c = own-sorted _ _ c.in-Ok.format c.in-Ok.ensures.ok (subst (λ (rs : List Row). IsStrictlySortedBy key_cmp (map key_of rs)) (sym c.as_slice.ensures.value) c.requires)
 
-pub judge-requires-clause-forms : goal.judge-requires-clause-forms
-judge-requires-clause-forms c = subst (λ (k : Kept). list_all is_form_item k.lists.forms ≡ true) (sym c.in_ok-kept.ensures) (forms-fit c.in_ok-items.items.items c.in_ok-items.ensures.fits)
+-- ---- rows that are parted
 
-pub judge-requires-clause-lists : goal.judge-requires-clause-lists
-judge-requires-clause-lists c =
-    let read : items_in c.args.rows.items ≡ Ok c.in_ok-items.items.items = sym (ap items_in c.as_slice.ensures.value) ∙ c.in_ok-items.ensures.ok in
-    subst (λ (k : Kept). AreInOrder k.lists) (sym c.in_ok-kept.ensures) (lists-order c.in_ok-items.items.items c.in_ok-items.ensures.fits (items_ascend c.args.rows.items c.in_ok-items.items.items read c.requires))
+pub returns-in-Ok-clause-ok : goal.returns-in-Ok-clause-ok
+returns-in-Ok-clause-ok c = ok-then c.read_own.result c.read_own.ensures.ok (λ tables is. ap judged (sym c.as_slice.ensures.value) ∙ (c.in-Ok.ensures.ok.judged ∙ is))
 
-pub judge-requires-clause-entries : goal.judge-requires-clause-entries
-judge-requires-clause-entries c =
-    let read : items_in c.args.rows.items ≡ Ok c.in_ok-items.items.items = sym (ap items_in c.as_slice.ensures.value) ∙ c.in_ok-items.ensures.ok in
-    subst (λ (k : Kept). IsStrictlySortedBy key_cmp (map entry_key k.entries)) (sym c.in_ok-kept.ensures) (entries-order c.in_ok-items.items.items c.in_ok-items.ensures.fits (items_ascend c.args.rows.items c.in_ok-items.items.items read c.requires))
+pub returns-in-Ok-clause-err : goal.returns-in-Ok-clause-err
+returns-in-Ok-clause-err c = err-then c.read_own.result c.read_own.ensures.err (λ fault is known. ap judged (sym c.as_slice.ensures.value) ∙ (c.in-Ok.ensures.ok.judged ∙ is known))
 
-pub judge-requires-clause-sealed : goal.judge-requires-clause-sealed
-judge-requires-clause-sealed c =
-    let read : items_in c.args.rows.items ≡ Ok c.in_ok-items.items.items = sym (ap items_in c.as_slice.ensures.value) ∙ c.in_ok-items.ensures.ok in
-    subst (λ (k : Kept). IsAscending pair_cmp sealed_place k.sealed) (sym c.in_ok-kept.ensures) (sealed-order c.in_ok-items.items.items c.in_ok-items.ensures.fits (items_ascend c.args.rows.items c.in_ok-items.items.items read c.requires))
+pub returns-in-Ok-clause-back : goal.returns-in-Ok-clause-back
+returns-in-Ok-clause-back c = λ at h good same. ok-then c.read_own.result (returns-in-Ok-clause-ok c) (λ tables is. same-read c.args.rows.items h (ap judged (sym same) ∙ tables-back at h good) (held_by tables) is)
 
--- the items that are read are in their ranges
-module _ (rows : List Row) (own : List Item) (read : items_in rows ≡ Ok own) (fit : list_all is_in_range own ≡ true) where
-  fits : (all : List Item) → items_in rows ≡ Ok all → list_all is_in_range all ≡ true
-  fits all e = let same : own ≡ all = cc (read, e) in subst (λ l. list_all is_in_range l ≡ true) same fit
+pub returns-in-Ok-clause-unrefused : goal.returns-in-Ok-clause-unrefused
+returns-in-Ok-clause-unrefused c = λ at h good same. err-then c.read_own.result (returns-in-Ok-clause-err c) (λ fault is. not-refused c.args.rows.items h (ap judged (sym same) ∙ tables-back at h good) fault is)
 
-  -- and the tables that are judged of them are those of the rows
-  of_rows : (seen : List Row) (kept : Kept) (h : Held) → seen ≡ rows → kept ≡ kept_of own → judged_kept seen kept ≡ Ok h → judged rows ≡ Ok h
-  of_rows seen kept h same sorted is = ap (judged_items rows) read ∙ ((λ i. judged_kept (sym same i) (sym sorted i)) ∙ is)
+pub returns-in-Ok-clause-left : goal.returns-in-Ok-clause-left
+returns-in-Ok-clause-left c = λ past read_back same. ok-then c.read_own.result (returns-in-Ok-clause-ok c) (λ tables is. same-read c.args.rows.items (left past) (ap judged (sym same) ∙ past_judged past read_back) (held_by tables) is)
 
-  -- and a fault that is judged is theirs
-  fault_of_rows : (seen : List Row) (kept : Kept) (fault : RowFault) → seen ≡ rows → kept ≡ kept_of own → judged_kept seen kept ≡ Err fault → judged rows ≡ Err fault
-  fault_of_rows seen kept fault same sorted is = ap (judged_items rows) read ∙ ((λ i. judged_kept (sym same i) (sym sorted i)) ∙ is)
+pub returns-in-Ok-clause-unrefused_left : goal.returns-in-Ok-clause-unrefused_left
+returns-in-Ok-clause-unrefused_left c = λ past read_back same. err-then c.read_own.result (returns-in-Ok-clause-err c) (λ fault is. not-refused c.args.rows.items (left past) (ap judged (sym same) ∙ past_judged past read_back) fault is)
 
-pub returns-clause-rows : goal.returns-clause-rows
-returns-clause-rows c =
-    let rows = c.args.rows.items in
-    let own = c.in_ok-items.items.items in
-    let read : items_in rows ≡ Ok own = sym (ap items_in c.as_slice.ensures.value) ∙ c.in_ok-items.ensures.ok in
-    let fit = c.in_ok-items.ensures.fits in
-    ok-then c.judge.result c.judge.ensures.ok (λ tables is. rows-back rows (held_by tables) c.requires (fits rows own read fit) (of_rows rows own read fit _ _ (held_by tables) c.as_slice-2.ensures.value c.in_ok-kept.ensures is))
+pub returns-in-Ok-clause-back_plain : goal.returns-in-Ok-clause-back_plain
+returns-in-Ok-clause-back_plain c = λ at h good unscored same. ok-then c.read_own.result (returns-in-Ok-clause-ok c) (λ tables is. same-read c.args.rows.items h (ap judged (sym same) ∙ old-back at h good unscored) (held_by tables) is)
 
-pub returns-clause-set_up : goal.returns-clause-set_up
-returns-clause-set_up c =
-    let rows = c.args.rows.items in
-    let own = c.in_ok-items.items.items in
-    let read : items_in rows ≡ Ok own = sym (ap items_in c.as_slice.ensures.value) ∙ c.in_ok-items.ensures.ok in
-    let fit = c.in_ok-items.ensures.fits in
-    ok-then c.judge.result c.judge.ensures.ok (λ tables is. read-set-up rows (held_by tables) c.requires (fits rows own read fit) (of_rows rows own read fit _ _ (held_by tables) c.as_slice-2.ensures.value c.in_ok-kept.ensures is))
+pub returns-in-Ok-clause-unrefused_plain : goal.returns-in-Ok-clause-unrefused_plain
+returns-in-Ok-clause-unrefused_plain c = λ at h good unscored same. err-then c.read_own.result (returns-in-Ok-clause-err c) (λ fault is. not-refused c.args.rows.items h (ap judged (sym same) ∙ old-back at h good unscored) fault is)
 
-pub returns-clause-legal : goal.returns-clause-legal
-returns-clause-legal c =
-    let rows = c.args.rows.items in
-    let own = c.in_ok-items.items.items in
-    let read : items_in rows ≡ Ok own = sym (ap items_in c.as_slice.ensures.value) ∙ c.in_ok-items.ensures.ok in
-    let fit = c.in_ok-items.ensures.fits in
-    ok-then c.judge.result c.judge.ensures.ok (λ tables is. read-legal rows (held_by tables) (of_rows rows own read fit _ _ (held_by tables) c.as_slice-2.ensures.value c.in_ok-kept.ensures is))
-
-pub returns-clause-kept : goal.returns-clause-kept
-returns-clause-kept c =
-    let rows = c.args.rows.items in
-    let own = c.in_ok-items.items.items in
-    let read : items_in rows ≡ Ok own = sym (ap items_in c.as_slice.ensures.value) ∙ c.in_ok-items.ensures.ok in
-    let fit = c.in_ok-items.ensures.fits in
-    ok-then c.judge.result c.judge.ensures.ok (λ tables is. read-kept rows (held_by tables) c.requires (fits rows own read fit) (of_rows rows own read fit _ _ (held_by tables) c.as_slice-2.ensures.value c.in_ok-kept.ensures is))
-
-pub returns-clause-others : goal.returns-clause-others
-returns-clause-others c =
-    let rows = c.args.rows.items in
-    let own = c.in_ok-items.items.items in
-    let read : items_in rows ≡ Ok own = sym (ap items_in c.as_slice.ensures.value) ∙ c.in_ok-items.ensures.ok in
-    let fit = c.in_ok-items.ensures.fits in
-    ok-then c.judge.result c.judge.ensures.ok (λ tables is. read-others rows (held_by tables) c.requires (fits rows own read fit) (of_rows rows own read fit _ _ (held_by tables) c.as_slice-2.ensures.value c.in_ok-kept.ensures is))
-
-pub returns-clause-whole : goal.returns-clause-whole
-returns-clause-whole c =
-    let rows = c.args.rows.items in
-    let own = c.in_ok-items.items.items in
-    let read : items_in rows ≡ Ok own = sym (ap items_in c.as_slice.ensures.value) ∙ c.in_ok-items.ensures.ok in
-    let fit = c.in_ok-items.ensures.fits in
-    ok-then c.judge.result c.judge.ensures.ok (λ tables is. read-whole rows (held_by tables) c.requires (fits rows own read fit) (of_rows rows own read fit _ _ (held_by tables) c.as_slice-2.ensures.value c.in_ok-kept.ensures is))
-
-pub returns-clause-back : goal.returns-clause-back
-returns-clause-back c = λ at h good same.
-    let rows = c.args.rows.items in
-    let own = c.in_ok-items.items.items in
-    let read : items_in rows ≡ Ok own = sym (ap items_in c.as_slice.ensures.value) ∙ c.in_ok-items.ensures.ok in
-    let fit = c.in_ok-items.ensures.fits in
-    ok-then c.judge.result c.judge.ensures.ok (λ tables is. same-read at h good rows (held_by tables) same (of_rows rows own read fit _ _ (held_by tables) c.as_slice-2.ensures.value c.in_ok-kept.ensures is))
+-- ---- rows whose first says no format that is known
 
 pub returns-clause-unrefused : goal.returns-clause-unrefused
-returns-clause-unrefused c = λ at h good same.
-    let rows = c.args.rows.items in
-    let own = c.in_ok-items.items.items in
-    let read : items_in rows ≡ Ok own = sym (ap items_in c.as_slice.ensures.value) ∙ c.in_ok-items.ensures.ok in
-    let fit = c.in_ok-items.ensures.fits in
-    err-then c.judge.result c.judge.ensures.err (λ fault is. not-refused at h good rows fault same (λ known. fault_of_rows rows own read fit _ _ fault c.as_slice-2.ensures.value c.in_ok-kept.ensures (is known)))
+returns-clause-unrefused c = λ at h good same. not-refused c.args.rows.items h (ap judged (sym same) ∙ tables-back at h good) c.in-Err.fault (λ known. ap judged (sym c.as_slice.ensures.value) ∙ c.in-Err.ensures.err)
 
-pub returns-in_err-items-clause-unrefused : goal.returns-in_err-items-clause-unrefused
-returns-in_err-items-clause-unrefused c = λ at h good same.
-    let err : IfErr c.from_residual.result (λ fault. fault ≢ faults.Memory → judged c.args.rows.items ≡ Err fault) = search rules in
-    err-then c.from_residual.result err (λ fault is. not-refused at h good c.args.rows.items fault same is)
+pub returns-clause-unrefused_left : goal.returns-clause-unrefused_left
+returns-clause-unrefused_left c = λ past read_back same. not-refused c.args.rows.items (left past) (ap judged (sym same) ∙ past_judged past read_back) c.in-Err.fault (λ known. ap judged (sym c.as_slice.ensures.value) ∙ c.in-Err.ensures.err)
+
+pub returns-clause-unrefused_plain : goal.returns-clause-unrefused_plain
+returns-clause-unrefused_plain c = λ at h good unscored same. not-refused c.args.rows.items h (ap judged (sym same) ∙ old-back at h good unscored) c.in-Err.fault (λ known. ap judged (sym c.as_slice.ensures.value) ∙ c.in-Err.ensures.err)

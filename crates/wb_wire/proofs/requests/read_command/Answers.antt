@@ -58,4 +58,4 @@ returns-in-Err-clause-health c =
     let found : located (path_of p.target.now) ≡ Some place = ap located (sym c.path_of.ensures) ∙ (sym c.find_place.ensures ∙ ap (option_map place_value) c.in-Some.is) in
     let routes : route p.method.now place.methods ≡ Some asked = sym c.route.ensures ∙ c.in-Some-route.is in
     let none : bare asked place.at ≡ None = ap (λ (at : Numbers). bare asked at) (sym c.numbers-numbers.ensures) ∙ (sym c.bare.ensures ∙ c.in_default-bare.is) in
-    λ memory command is. body_not_health c.good_forms_are_those_that_are_read.ensures.good p.method.now (path_of p.target.now) (fields_in p) p.rest.now place asked command found routes none is
+    λ memory command is. body_not_health c.good_forms_are_those_that_are_read.ensures.good c.answers_that_are_read_stand_in_order.ensures.member p.method.now (path_of p.target.now) (fields_in p) p.rest.now place asked command found routes none is

@@ -1,12 +1,13 @@
-use Rattle.std.proofs.Common.{◌≡◌, List, map, refl, sym, ap, ◌∙◌, subst}
+use Rattle.std.proofs.Common.{◌≡◌, ◌≤◌, List, map, refl, sym, ap, ◌∙◌, subst}
 use Rattle.std.specs.Prelude.{All}
-use Rattle.wb_base.specs.KeptRows.{all_changed, IsGoodChange}
+use Rattle.std.specs.List.Sorted.{IsStrictlySortedBy}
+use Rattle.wb_base.specs.KeptRows.{all_changed, key_cmp, key_of, IsGoodChange}
+use Rattle.wb_base.specs.declared.rows.Row.{Row as KeptRow}
 use Rattle.wb_base.specs.declared.rows.Change.{Change}
-use Rattle.wb_model.specs.Rows.{rows_of}
-use Rattle.wb_model.specs.Legal.{ascends}
-use Rattle.wb_model.specs.SetUps.{has_tenant, tenant_ids}
+use Rattle.wb_model.specs.Rows.{rows_of, rows_in}
 use Rattle.wb_model.specs.Tenants.{Hosts}
 use Rattle.wb_rows.specs.Held.{held_by}
+use Rattle.wb_rows.specs.Judged.{format_of}
 use Rattle.wb_rows.specs.Openings.{tables_of, tenancies_of, time_of, with_setup}
 use Rattle.wb_tables.specs.Kept.{place_of, tenancy_of}
 use Rattle.wb_tables.specs.Standing.{hosts_of}
@@ -14,14 +15,11 @@ use Rattle.wb_desk.specs.Desks.{IsDesk}
 use Rattle.wb_opening.specs.HeldPlaces.{held_places}
 use Rattle.wb_desk.specs.Openings.{IsOpenedOver}
 use Rattle.wb_desk.specs.Turns.{standing}
-use Rattle.wb_desk.proofs.KeptOpenings.{AreRead, is_desk, opened_over, same_tenancies, sound, old_tables, new_tables}
-use Rattle.wb_opening.proofs.NewTenants.{setup_puts_good, rows_after, new_in_order, tenancy_ids}
+use Rattle.wb_desk.proofs.KeptOpenings.{AreRead, is_desk, opened_over, same_tenancies}
 use Rattle.wb_desk.proofs.desk.Desk.open.Goals as goal
 
 pub keep-requires : goal.keep-requires
-keep-requires g c =
-    let setup = c.args.setup.now.lists in
-    subst (λ (changes : List Change). All IsGoodChange changes) (sym (c.as_slice.ensures.value ∙ c.in_ok-time.ensures.batch)) (setup_puts_good setup c.in_ok-kept.kept.registry.lists)
+keep-requires g c = subst (λ (changes : List Change). All IsGoodChange changes) (sym c.as_slice-2.ensures.value) c.in_ok-time.ensures.good
 
 pub begin-requires-clause-receipts : goal.begin-requires-clause-receipts
 begin-requires-clause-receipts g c = λ t.
@@ -38,7 +36,7 @@ invariant_of-result g c =
     let same : standing 0 c.in_ok-time.field-0.time (map place_of c.in_ok-time.field-0.tenancies.items) c.in_ok-time.field-0.sealed.items ≡ standing 0 (time_of h) (held_places (with_setup setup h)) c.in_ok-kept.kept.sealed.items =
     λ i. standing 0 (made.time i) (made.places i) (made.sealed i).items in
     subst IsDesk (sym same) (is_desk setup h read (c.a_kept_tenant_stays_whole.ensures setup h.lists) (c.kept_rows_and_a_setup_make_an_opening.ensures setup h.lists c.requires.set_up told.set_up) c.setups_and_kept_rows_make_openings.ensures.setups c.setups_and_kept_rows_make_openings.ensures.kept_rows
-    c.in_ok-kept.kept.sealed.items refl)
+    c.in_ok-kept.kept.sealed.items refl (subst (λ n. n ≤ 99_999_999_999) made.time c.seconds-seconds.ensures.high) (c.openings_are_read_back.ensures setup h c.requires.set_up c.requires.stored told.set_up told.stored told.readable told.others))
 
 pub returns-clause-past : goal.returns-clause-past
 returns-clause-past g c =
@@ -66,14 +64,11 @@ returns-clause-kept g c = λ honest rows held_before.
     let stays = c.a_kept_tenant_stays_whole.ensures setup h.lists in
     let set_up = c.kept_rows_and_a_setup_make_an_opening.ensures setup h.lists c.requires.set_up told.set_up in
     let law = c.setups_and_kept_rows_make_openings.ensures in
-    let old = old_tables setup h read stays set_up law.setups law.kept_rows in
-    let new = new_tables setup h read stays set_up law.setups law.kept_rows in
-    let whole = with_setup setup h in
-    let in_order = new_in_order setup h old new (λ t. (sound setup h read stays set_up law.setups law.kept_rows t).ordered) (λ t. (sound setup h read stays set_up law.setups law.kept_rows t).versions) in
-    let ids = ap ascends (tenancy_ids whole (tenant_ids whole.lists)) ∙ set_up.order in
     let back = c.keep.ensures.back honest in
     let loaded = c.in_ok-rows.ensures.all back rows held_before in
     let after = c.in_ok-keep.ensures.ok honest rows (c.load.ensures.same back rows held_before) in
-    let puts = rows_after setup h old new rows (told.whole ∙ loaded) (c.new_tenants_put_their_rows.ensures (λ x. has_tenant h.lists x.id) (tenancies_of whole) ids in_order) in
+    let whole = ap (λ format. rows_in format (tenancies_of h)) (c.format_of-format.ensures ∙ ap format_of c.as_slice.ensures.value) ∙ (told.whole ∙ loaded) in
+    let up = subst (λ (xs : List KeptRow). IsStrictlySortedBy key_cmp (map key_of xs)) loaded c.in_ok-rows.ensures.ascending in
+    let puts = made.rows told.others rows up whole in
     let list = (λ i. map (tenancy_of (made.sealed i).items) (made.places i)) ∙ same_tenancies setup h read stays set_up law.setups law.kept_rows c.in_ok-kept.kept.sealed.items refl in
-    subst (g.K.Keeper.holds c.keep.new.keeper) (ap (all_changed rows) (c.as_slice.ensures.value ∙ made.batch) ∙ (puts ∙ sym (ap rows_of list))) after
+    subst (g.K.Keeper.holds c.keep.new.keeper) (ap (all_changed rows) c.as_slice-2.ensures.value ∙ (puts ∙ sym (ap rows_of list))) after

@@ -17,7 +17,7 @@ turn-requires-clause-places g c = (
   c.self.inside.turns,
   omega arith,
   subst (λ (ks : List KeptTenancy). ArePlaces c.self.inside.turns 0 c.self.inside.sealed.items (map place_of ks)) (sym c.deref_mut.ensures.value)
-      (places_hold (record { turns = c.self.inside.turns; time = c.self.inside.time; tenants = map place_of c.self.inside.tenancies.items; sealed = c.self.inside.sealed.items }) c.self.invariant.past c.self.invariant.set_up),
+      (places_hold (record { turns = c.self.inside.turns; time = c.self.inside.time; tenants = map place_of c.self.inside.tenancies.items; sealed = c.self.inside.sealed.items }) c.self.invariant.past c.self.invariant.time c.self.invariant.set_up),
 )
 
 pub invariant_of-self : goal.invariant_of-self
@@ -31,7 +31,7 @@ invariant_of-self g c =
     let same = ap (λ (x : Standing). x.turns) c.self.view_is in
     let below : d.turns < 1_000_000_000_000_000 = omega (arith, same, c.requires.below) in
     let law = c.hosts_stand_for_their_past.ensures in
-    let next = desk_goes_on law.turn law.loss c.verdicts_keep_trails_legal.ensures.scripts d f at c.args.asked.now c.turn.result (map place_of c.turn.new.tenancies) c.turn.new.sealed.items c.self.invariant below c.requires.fits frame turn in
+    let next = desk_goes_on law.turn law.loss c.verdicts_keep_trails_legal.ensures.scripts c.hosts_hold_what_is_read_back.ensures.scripts c.hosts_hold_what_is_read_back.ensures.openings d f at c.args.asked.now c.turn.result (map place_of c.turn.new.tenancies) c.turn.new.sealed.items c.self.invariant below c.requires.fits frame turn in
     let rest = drop (length c.turn.new.tenancies) c.self.inside.tenancies.items in
     let kept : c.self.inside.tenancies.len ≡ length c.turn.new.tenancies = cc c.turn.auto.tenancies in
     let written = ap (λ n. take n (c.turn.new.tenancies ++ rest)) kept ∙ take-append_seam c.turn.new.tenancies rest in

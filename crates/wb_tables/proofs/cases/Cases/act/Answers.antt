@@ -7,13 +7,14 @@ use Rattle.wb_tables.specs.Indexed.{Reports, IsIndexed, AreCustodied, AreAsked}
 use Rattle.wb_tables.specs.Lives.{case_of}
 use Rattle.wb_tables.specs.Receipted.{AreReceipted}
 use Rattle.wb_tables.proofs.CaseLists.{number_of}
-use Rattle.wb_tables.proofs.NotedReports.{found_there, trail_is, kept_cases, acted_ready, acted_custodied}
+use Rattle.wb_tables.proofs.NotedReports.{early_found, found_there, trail_is, kept_cases, acted_ready, acted_custodied}
 use Rattle.wb_tables.proofs.cases.Cases.act.Goals as goal
 
 pub change-requires : goal.change-requires
 change-requires c =
     let there = found_there c.args.number c.self.inside.cases.items (rw (← ap (λ (r : Reports). r.items) c.self.view_is) at c.requires.there) in
-    record { there = (there.0, subst (λ n. find (has_key nat_cmp number_of n) c.self.inside.cases.items ≡ Some there.0) (sym c.get.ensures.value) there.1, c.requires.range) }
+    let early = early_found c.args.number c.self.inside.cases.items there.0 (rw (← ap (λ (r : Reports). r.items) c.self.view_is) at c.requires.early) there.1 in
+    record { there = (there.0, subst (λ n. find (has_key nat_cmp number_of n) c.self.inside.cases.items ≡ Some there.0) (sym c.get.ensures.value) there.1, c.requires.range there.0.case.items early) }
 
 pub invariant_of-self : goal.invariant_of-self
 invariant_of-self c =
@@ -21,7 +22,7 @@ invariant_of-self c =
     let found = subst (λ n. find (has_key nat_cmp number_of n) c.self.inside.cases.items ≡ Some made.0) c.get.ensures.value made.2 in
     let same = ap (map case_of) made.5 ∙ kept_cases c.args.number c.self.inside.cases.items made.0 made.1 c.change.ensures.ascending found made.3 made.4.items in (
       subst (λ cs. IsIndexed c.self.inside.tenant cs c.self.inside.terms.items) (sym same) c.self.invariant.0,
-      subst AreCustodied (sym made.5) (acted_custodied c.args.number c.args.at c.args.by c.args.act c.self.inside.cases.items made.0 made.1 c.change.result c.self.invariant.1 found made.4),
+      subst AreCustodied (sym made.5) (acted_custodied c.args.calendar.now c.args.number c.args.at c.args.by c.args.act c.self.inside.cases.items made.0 made.1 c.change.result c.self.invariant.1 found made.4),
       subst (λ cs. AreReceipted c.self.inside.tenant cs c.self.inside.receipts.items) (sym same) c.self.invariant.2,
       subst (λ cs. AreAsked cs c.self.inside.asked.items) (sym same) c.self.invariant.3,
     )
@@ -36,10 +37,10 @@ pub returns-clause-plan : goal.returns-clause-plan
 returns-clause-plan c = λ trail is.
     let made = c.change.ensures.changed in
     let found = subst (λ n. find (has_key nat_cmp number_of n) c.self.inside.cases.items ≡ Some made.0) c.get.ensures.value made.2 in
-    subst (λ (es : List Entry). GivesPlan es c.args.at c.args.by c.args.act c.change.result) (trail_is c.args.number c.self.inside.cases.items made.0 trail found (rw (← ap (λ (r : Reports). r.items) c.self.view_is) at is)) made.4.plan
+    subst (λ (es : List Entry). GivesPlan c.args.calendar.now es c.args.at c.args.by c.args.act c.change.result) (trail_is c.args.number c.self.inside.cases.items made.0 trail found (rw (← ap (λ (r : Reports). r.items) c.self.view_is) at is)) made.4.plan
 
 pub returns-clause-ready : goal.returns-clause-ready
 returns-clause-ready c =
     let made = c.change.ensures.changed in
     let found = subst (λ n. find (has_key nat_cmp number_of n) c.self.inside.cases.items ≡ Some made.0) c.get.ensures.value made.2 in
-    rw made.5 (acted_ready c.args.number c.args.at c.args.by c.args.act c.self.inside.cases.items made.0 made.1 c.change.result found made.3 made.4)
+    rw made.5 (acted_ready c.args.calendar.now c.args.number c.args.at c.args.by c.args.act c.self.inside.cases.items made.0 made.1 c.change.result found made.3 made.4)
