@@ -1,0 +1,17 @@
+pub mod Deleting
+pub mod Empty
+pub mod Kept
+pub mod KeptDeletes
+pub mod KeptFiles
+pub mod KeptPuts
+pub mod Layouts
+pub mod Making
+pub mod Once
+pub mod Parts
+pub mod Readings
+pub mod Selecting
+pub mod Stands
+pub mod Texts
+pub mod ToldRows
+pub mod Upserting
+pub mod Values
