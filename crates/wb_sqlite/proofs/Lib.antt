@@ -1,8 +1,12 @@
 pub mod Above
+pub mod Batches
+pub mod Loading
 pub mod Making
+pub mod NewFiles
 pub mod Reading
 pub mod SentConnection
 pub mod SentKeeper
 pub mod SentSchema
 pub mod SentStatements
 pub mod SentStore
+pub mod Stays

@@ -8,7 +8,8 @@ use Rattle.sqlite.specs.Held.{Held, state}
 use Rattle.sqlite.specs.State.{Shown, IsUnchanged}
 use Rattle.sqlite.specs.Stream.{returned, HasEnded}
 use Rattle.wb_base.specs.declared.rows.Row.{Row}
-use Rattle.wb_sqlite.specs.Readings.{AreInTurn, Reads}
+use Rattle.wb_sqlite.specs.Readings.{Reads}
+use Rattle.wb_stored.specs.StoredRows.{AreInTurn}
 
 -- a statement that wrote has all its rows at hand
 pub record HasAtHand {S : Type 0} (g : Ghosts S) (text : List ℕ) (old now : Held S) (given : List SqlRow) : Type 0 where

@@ -1,6 +1,7 @@
 pub mod Counts
-pub mod StoredRows
 pub mod Statements
 pub mod Readings
 pub mod Standing
+pub mod NewFiles
 pub mod PathFiles
+pub mod Staying

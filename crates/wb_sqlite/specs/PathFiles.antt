@@ -8,6 +8,7 @@ use Rattle.wb_sqlite.specs.contracts.path_file.PathFile as file
 use Rattle.wb_sqlite.specs.declared.path_file.PathFile.{PathFile}
 use Rattle.wb_sqlite.specs.Readings.{LoadsOpen}
 use Rattle.wb_sqlite.specs.Statements.{CommitsOpen, KeepsOpen}
+use Rattle.wb_sqlite.specs.NewFiles.{IsHonestIfOpen, HoldsIfOpen}
 
 -- the file, with its connection once it is open, and how many calls failed
 pub record Filed : Type 0 where
@@ -32,3 +33,11 @@ Commits changes old new = CommitsOpen over_files changes old.conn new.conn
 -- it is open only if it was, and is then as it was last committed, while the disk is clean and the database is open
 abbrev pub Keeps : PathFile → PathFile → Type 0
 Keeps old new = KeepsOpen over_files old.conn new.conn
+
+-- it was not opened, or its database has answered truly so far, as that of a new file, and still serves
+abbrev pub IsHonestFile : PathFile → Type 0
+IsHonestFile file = IsHonestIfOpen over_files file.conn
+
+-- the rows that it holds: none before it is opened, since it is taken to be new
+abbrev pub FileHolds : PathFile → List Row → Type 0
+FileHolds file rows = HoldsIfOpen over_files file.conn rows

@@ -1,24 +1,13 @@
 -- What a load is in the database: the tables are made where they were not there, and each is read whole, in the order of its key.
-use Rattle.std.specs.Prelude.{◌≡◌, ℕ, List, [], ◌∷◌, ◌++◌, Option, Some, None, codes}
+use Rattle.std.specs.Prelude.{◌≡◌, ℕ, List, [], ◌++◌, Option, Some, None}
 use Rattle.sqlite_value.specs.Order.{Row as SqlRow}
 use Rattle.sqlite_trees.specs.declared.store.Store.{Ghosts}
 use Rattle.sqlite.specs.Held.{Held, state}
 use Rattle.sqlite.specs.State.{HasCleanDisk, Shown}
 use Rattle.wb_base.specs.declared.rows.Row.{Row}
 use Rattle.wb_sqlite.specs.Statements.{CommitsAll}
-use Rattle.wb_sqlite.specs.StoredRows.{IsRecordRow, IsSealedRow}
-
-abbrev pub read_record : List ℕ
-read_record = codes "SELECT kind, tenant, a, b, body FROM record ORDER BY kind, tenant, a, b"
-
-abbrev pub read_sealed : List ℕ
-read_sealed = codes "SELECT tenant, a, body FROM sealed ORDER BY tenant, a"
-
--- each stored row, in turn, is the kept row at its place, and there are as many
-abbrev pub AreInTurn : (SqlRow → Row → Type 0) → List SqlRow → List Row → Type 0
-AreInTurn IsOf [] [] = Unit {0}
-AreInTurn IsOf (c ∷ cs) (r ∷ rs) = IsOf c r × AreInTurn IsOf cs rs
-AreInTurn IsOf _ _ = ⊥
+use Rattle.wb_stored.specs.StoredRows.{IsRecordRow, IsSealedRow, AreInTurn}
+pub use Rattle.wb_stored.specs.Texts.{read_record, read_sealed}
 
 -- all rows that a query shows, each as the kept row that it is, stand behind those that were read before
 pub record Reads {S : Type 0} (g : Ghosts S) (IsOf : SqlRow → Row → Type 0) (text : List ℕ) (old new : Held S) (before after : List Row) : Type 0 where

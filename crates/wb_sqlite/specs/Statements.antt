@@ -1,5 +1,5 @@
 -- What a batch of changes is in the database: its statements in turn, in one transaction.
-use Rattle.std.specs.Prelude.{◌≡◌, ℕ, pos, List, [], ◌∷◌, ◌++◌, Option, Some, None, Ok, IsTrue, codes, ◌==◌, if◌then◌else◌, true, ⊤}
+use Rattle.std.specs.Prelude.{◌≡◌, ℕ, pos, List, [], ◌∷◌, ◌++◌, Option, Some, None, Ok, IsTrue, ◌==◌, if◌then◌else◌, true, ⊤}
 use Rattle.sqlite_value.specs.declared.value.Value.TheVariants.{Int, Text}
 use Rattle.sqlite_value.specs.Order.{Row as SqlRow}
 use Rattle.sqlite_trees.specs.declared.store.Store.{Ghosts}
@@ -8,6 +8,7 @@ use Rattle.sqlite.specs.State.{ExecutesInside, HasCleanDisk}
 use Rattle.wb_base.specs.declared.rows.Row.{Row}
 use Rattle.wb_base.specs.declared.rows.Change.{Change}
 use Rattle.wb_base.specs.declared.rows.Change.TheVariants.{Put, DropReport}
+use Rattle.wb_stored.specs.Texts as sql
 
 -- a statement and its parameters
 pub record Statement : Type 0 where
@@ -16,10 +17,10 @@ pub record Statement : Type 0 where
 
 -- the two tables
 abbrev pub make_record : Statement
-make_record = record { text = codes "CREATE TABLE IF NOT EXISTS record (kind INTEGER NOT NULL, tenant INTEGER NOT NULL, a INTEGER NOT NULL, b INTEGER NOT NULL, body TEXT NOT NULL, PRIMARY KEY (kind, tenant, a, b))"; given = [] }
+make_record = record { text = sql.make_record; given = [] }
 
 abbrev pub make_sealed : Statement
-make_sealed = record { text = codes "CREATE TABLE IF NOT EXISTS sealed (tenant INTEGER NOT NULL, a INTEGER NOT NULL, body TEXT NOT NULL, PRIMARY KEY (tenant, a))"; given = [] }
+make_sealed = record { text = sql.make_sealed; given = [] }
 
 abbrev pub make_tables : List Statement
 make_tables = make_record ∷ make_sealed ∷ []
@@ -27,22 +28,22 @@ make_tables = make_record ∷ make_sealed ∷ []
 -- the text under a row's key
 abbrev pub put_record : Row → Statement
 put_record row = record {
-  text = codes "INSERT INTO record (kind, tenant, a, b, body) VALUES (?1, ?2, ?3, ?4, ?5) ON CONFLICT (kind, tenant, a, b) DO UPDATE SET body = excluded.body";
+  text = sql.put_record;
   given = Int (pos row.key.kind) ∷ Int (pos row.key.tenant) ∷ Int (pos row.key.a) ∷ Int (pos row.key.b) ∷ Text row.text ∷ [];
 }
 
 abbrev pub put_sealed : Row → Statement
 put_sealed row = record {
-  text = codes "INSERT INTO sealed (tenant, a, body) VALUES (?1, ?2, ?3) ON CONFLICT (tenant, a) DO UPDATE SET body = excluded.body";
+  text = sql.put_sealed;
   given = Int (pos row.key.tenant) ∷ Int (pos row.key.a) ∷ Text row.text ∷ [];
 }
 
 -- a report's trail, and its sealed answers
 abbrev pub drop_trail : ℕ → ℕ → Statement
-drop_trail tenant number = record { text = codes "DELETE FROM record WHERE kind = 6 AND tenant = ?1 AND a = ?2"; given = Int (pos tenant) ∷ Int (pos number) ∷ [] }
+drop_trail tenant number = record { text = sql.drop_trail; given = Int (pos tenant) ∷ Int (pos number) ∷ [] }
 
 abbrev pub drop_sealed : ℕ → ℕ → Statement
-drop_sealed tenant number = record { text = codes "DELETE FROM sealed WHERE tenant = ?1 AND a = ?2"; given = Int (pos tenant) ∷ Int (pos number) ∷ [] }
+drop_sealed tenant number = record { text = sql.drop_sealed; given = Int (pos tenant) ∷ Int (pos number) ∷ [] }
 
 -- the statements of a change
 abbrev pub statements_of : Change → List Statement

@@ -1,12 +1,18 @@
 //! What a keeper asks of a database.
-ghost use Rattle.std.specs.Prelude.{◌≡◌, [], false, IsTrue, IfOk, OnOk, OnErr};
+ghost use Rattle.std.specs.Prelude.{◌≡◌, ◌⊎◌, [], false, List, All, IsTrue, IfOk, OnOk, OnErr};
 ghost use Rattle.sqlite.specs.Held.{state};
 ghost use Rattle.sqlite.specs.State.{HasCleanDisk};
+ghost use Rattle.sqlite.specs.Given.{IsPlain};
+ghost use Rattle.sqlite.specs.Listing.{understood};
 ghost use Rattle.wb_list.specs.Keyed.{IsAscending};
-ghost use Rattle.wb_base.specs.KeptRows.{key_cmp, key_of};
+ghost use Rattle.wb_base.specs.declared.rows.Row.{Row as KeptRow};
+ghost use Rattle.wb_base.specs.KeptRows.{key_cmp, key_of, all_changed, IsGoodChange};
 ghost use Rattle.wb_sqlite.specs.Readings.{LoadsAll, Reads, read_record, read_sealed};
 ghost use Rattle.wb_sqlite.specs.Statements.{CommitsAll, IsAsCommitted};
-ghost use Rattle.wb_sqlite.specs.StoredRows.{IsRecordRow, IsSealedRow};
+ghost use Rattle.wb_sqlite.specs.Staying.{StaysAs};
+ghost use Rattle.wb_stored.specs.StoredRows.{IsRecordRow, IsSealedRow};
+ghost use Rattle.wb_stored.specs.Told.{HoldsRows, LeavesRows};
+ghost use Rattle.sqlite_trees.specs.Tree.{Trees};
 
 use crate::refusal::Refusal;
 use crate::statements::{READ_RECORD, READ_SEALED, expect_all, make, make_all};
@@ -23,8 +29,11 @@ pub(crate) fn apply_all<S: Alter>(
 ) -> Result<(), Refusal>
     requires { conn.old.in_transaction ≡ false }
     ensures idle { conn.new.in_transaction ≡ false }
+    ensures clean { HasCleanDisk (state S.Store conn.new) → HasCleanDisk (state S.Store conn.old) }
+    ensures back { HasCleanDisk (state S.Store conn.new) → IsTrue (state S.Store conn.new).is_open → IsTrue (state S.Store conn.old).is_open }
     ensures made { HasCleanDisk (state S.Store conn.new) → OnOk result (CommitsAll S.Store changes.now conn.old conn.new) }
     ensures kept { HasCleanDisk (state S.Store conn.new) → IsTrue (state S.Store conn.new).is_open → OnErr result (IsAsCommitted S.Store conn.old conn.new) }
+    ensures crash { HasCleanDisk (state S.Store conn.new) → All IsGoodChange changes.now → (rows : List KeptRow) → HoldsRows (state S.Store conn.old) rows → (db : Trees) → (state S.Store conn.new).may_leave db → (state S.Store conn.old).may_leave db ⊎ LeavesRows db (all_changed rows changes.now) }
 {
     let mut tx = conn.transaction();
     make(&mut tx)?;
@@ -38,7 +47,9 @@ fn make_tables<S: Alter>(conn: &mut Connection<S>) -> Result<(), Refusal>
     requires { conn.old.in_transaction ≡ false }
     ensures idle { conn.new.in_transaction ≡ false }
     ensures clean { HasCleanDisk (state S.Store conn.new) → HasCleanDisk (state S.Store conn.old) }
+    ensures back { HasCleanDisk (state S.Store conn.new) → IsTrue (state S.Store conn.new).is_open → IsTrue (state S.Store conn.old).is_open }
     ensures made { HasCleanDisk (state S.Store conn.new) → OnOk result (CommitsAll S.Store [] conn.old conn.new) }
+    ensures kept { HasCleanDisk (state S.Store conn.new) → IsTrue (state S.Store conn.new).is_open → OnErr result (IsAsCommitted S.Store conn.old conn.new) }
 {
     let mut tx = conn.transaction();
     make(&mut tx)?;
@@ -56,6 +67,8 @@ fn read_record<S: Alter>(
     requires { conn.old.in_transaction ≡ false }
     ensures idle { conn.new.in_transaction ≡ false }
     ensures clean { HasCleanDisk (state S.Store conn.new) → HasCleanDisk (state S.Store conn.old) }
+    ensures back { HasCleanDisk (state S.Store conn.new) → IsTrue (state S.Store conn.new).is_open → IsTrue (state S.Store conn.old).is_open }
+    ensures stays { HasCleanDisk (state S.Store conn.new) → IsPlain (understood (state S.Store conn.old).now.schema read_record) → StaysAs (state S.Store conn.old) (state S.Store conn.new) }
     ensures read { HasCleanDisk (state S.Store conn.new) → OnOk result (Reads S.Store IsRecordRow read_record conn.old conn.new rows.old.items rows.new.items) }
 {
     let mut given = conn.query(READ_RECORD, &[])?;
@@ -78,6 +91,8 @@ fn read_sealed<S: Alter>(
     requires { conn.old.in_transaction ≡ false }
     ensures idle { conn.new.in_transaction ≡ false }
     ensures clean { HasCleanDisk (state S.Store conn.new) → HasCleanDisk (state S.Store conn.old) }
+    ensures back { HasCleanDisk (state S.Store conn.new) → IsTrue (state S.Store conn.new).is_open → IsTrue (state S.Store conn.old).is_open }
+    ensures stays { HasCleanDisk (state S.Store conn.new) → IsPlain (understood (state S.Store conn.old).now.schema read_sealed) → StaysAs (state S.Store conn.old) (state S.Store conn.new) }
     ensures read { HasCleanDisk (state S.Store conn.new) → OnOk result (Reads S.Store IsSealedRow read_sealed conn.old conn.new rows.old.items rows.new.items) }
 {
     let mut given = conn.query(READ_SEALED, &[])?;
@@ -98,8 +113,12 @@ pub(crate) fn load_all<S: Alter>(
 ) -> Result<Vec<Row>, Refusal>
     requires { conn.old.in_transaction ≡ false }
     ensures idle { conn.new.in_transaction ≡ false }
+    ensures clean { HasCleanDisk (state S.Store conn.new) → HasCleanDisk (state S.Store conn.old) }
+    ensures back { HasCleanDisk (state S.Store conn.new) → IsTrue (state S.Store conn.new).is_open → IsTrue (state S.Store conn.old).is_open }
     ensures ascending { IfOk result (λ rows. IsAscending key_cmp key_of rows.items) }
     ensures loads { HasCleanDisk (state S.Store conn.new) → IfOk result (λ rows. LoadsAll S.Store conn.old conn.new rows.items) }
+    ensures same { HasCleanDisk (state S.Store conn.new) → IsTrue (state S.Store conn.new).is_open → (rows : List KeptRow) → HoldsRows (state S.Store conn.old) rows → HoldsRows (state S.Store conn.new) rows }
+    ensures all { HasCleanDisk (state S.Store conn.new) → IsTrue (state S.Store conn.new).is_open → (rows : List KeptRow) → HoldsRows (state S.Store conn.old) rows → IfOk result (λ loaded. loaded.items ≡ rows) }
 {
     make_tables(conn)?;
     let mut rows = Sorted::new(alloc);

@@ -1,16 +1,18 @@
 //! The file at a path, as a database of rows.
-ghost use Rattle.std.specs.Prelude.{◌≡◌, false, None, IfOk, OnOk, OnErr, IfSome};
+ghost use Rattle.std.specs.Prelude.{◌≡◌, false, None, List, [], IfOk, OnOk, OnErr, IfSome};
 ghost use Rattle.std.proofs.Props.{props};
 ghost use Rattle.wb_list.specs.Keyed.{IsAscending};
+ghost use Rattle.wb_base.specs.declared.rows.Row.{Row as KeptRow};
 ghost use Rattle.wb_base.specs.KeptRows.{key_cmp, key_of};
 ghost use Rattle.sqlite.specs.Files.{over_files};
+ghost use Rattle.wb_sqlite.specs.NewFiles.{IsHonestIfOpen, HoldsIfOpen};
 ghost use Rattle.wb_sqlite.specs.Readings.{LoadsOpen};
 ghost use Rattle.wb_sqlite.specs.Statements.{CommitsOpen, KeepsOpen};
 
 use crate::database::{apply_all, load_all};
 use crate::one_byte::is_foreign_byte;
 use crate::refusal::Refusal;
-use sqlite::{Connection, File, FileStore};
+use sqlite::{Connection, File, FileStore, Unknown};
 use wb_base::{Change, Row, Text};
 
 /// The file at a path, with its connection once a load of it was Ok. It holds the connection for a type with a model: there
@@ -54,11 +56,16 @@ impl PathFile {
     fn open(&mut self) -> Result<Vec<Row>, Refusal>
         ensures ascending { IfOk result (λ rows. IsAscending key_cmp key_of rows.items) }
         ensures loads { IfOk result (λ rows. LoadsOpen over_files self.new.conn rows.items) }
+        ensures none { IfOk result (λ rows. IsHonestIfOpen over_files self.new.conn → (rows.items ≡ []) × HoldsIfOpen over_files self.new.conn []) }
+        ensures kept { OnErr result (self.new.conn ≡ self.old.conn) }
     {
         if is_foreign_byte(&self.rt, self.path.as_str())? {
             return Err(Refusal::FAULT);
         }
-        let mut conn = Connection::open(&self.rt, self.path.as_str())?;
+        let mut conn = match Connection::open_from(&self.rt, self.path.as_str(), false, Unknown) {
+            Ok(conn) => conn,
+            Err((error, _)) => return Err(Refusal::from(error)),
+        };
         let rows = load_all(self.rt.alloc(), &mut conn)?;
         self.conn = Some(conn);
         Ok(rows)
@@ -68,6 +75,9 @@ impl PathFile {
     pub(crate) fn load(&mut self) -> Result<Vec<Row>, Refusal>
         ensures ascending { IfOk result (λ rows. IsAscending key_cmp key_of rows.items) }
         ensures loads { IfOk result (λ rows. LoadsOpen over_files self.new.conn rows.items) }
+        ensures back { IsHonestIfOpen over_files self.new.conn → IsHonestIfOpen over_files self.old.conn }
+        ensures all { IsHonestIfOpen over_files self.new.conn → (rows : List KeptRow) → HoldsIfOpen over_files self.old.conn rows → IfOk result (λ loaded. loaded.items ≡ rows) }
+        ensures same { IsHonestIfOpen over_files self.new.conn → (rows : List KeptRow) → HoldsIfOpen over_files self.old.conn rows → HoldsIfOpen over_files self.new.conn rows }
     {
         match &mut self.conn {
             None => self.open(),
@@ -79,6 +89,7 @@ impl PathFile {
     pub(crate) fn apply(&mut self, changes: &[Change]) -> Result<(), Refusal>
         ensures made { OnOk result (CommitsOpen over_files changes.now self.old.conn self.new.conn) }
         ensures kept { OnErr result (KeepsOpen over_files self.old.conn self.new.conn) }
+        ensures back { IsHonestIfOpen over_files self.new.conn → IsHonestIfOpen over_files self.old.conn }
     {
         match &mut self.conn {
             None => Err(Refusal::FAULT),

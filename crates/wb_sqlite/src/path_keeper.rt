@@ -1,10 +1,11 @@
 //! A keeper of rows in the file at a path.
-ghost use Rattle.std.specs.Prelude.{◌≡◌, All, IfOk, OnOk, OnErr};
+ghost use Rattle.std.specs.Prelude.{◌≡◌, List, All, IfOk, OnOk, OnErr};
 ghost use Rattle.wb_list.specs.Keyed.{IsAscending};
 ghost use Rattle.wb_base.specs.Outside.{KeeperHasCause};
-ghost use Rattle.wb_base.specs.KeptRows.{key_cmp, key_of, IsGoodChange};
+ghost use Rattle.wb_base.specs.declared.rows.Row.{Row as KeptRow};
+ghost use Rattle.wb_base.specs.KeptRows.{key_cmp, key_of, all_changed, IsGoodChange};
 ghost use Rattle.wb_sqlite.specs.Counts.{count_after};
-ghost use Rattle.wb_sqlite.specs.PathFiles.{IsUnopened, Loads, Commits, Keeps};
+ghost use Rattle.wb_sqlite.specs.PathFiles.{IsUnopened, IsHonestFile, FileHolds, Loads, Commits, Keeps};
 
 use crate::path_file::PathFile;
 use crate::refusal::counted;
@@ -12,7 +13,7 @@ use std::marker::Model;
 use wb_base::{Change, KeepErr, Keeper, Row, Text};
 
 /// A keeper of rows in the file at a path, seen as the file and the count of its faults. `load` opens the file, or makes it.
-/// It tells no rows. As it goes, it copies the log beside the file in, so that the file is whole by itself. It may go to
+/// It tells its rows where the file was new as it was opened. As it goes, it copies the log beside the file in, so that the file is whole by itself. It may go to
 /// another thread: `keeper_send` in `proofs/SentKeeper.antt` says so where a call asks for `Send`.
 #[derive(Drop)]
 pub struct PathKeeper {
@@ -35,6 +36,7 @@ impl PathKeeper {
     pub fn new(rt: &HostRuntime, path: Text) -> PathKeeper
         ensures unopened { IsUnopened result.file }
         ensures count { result.faults ≡ 0 }
+        ensures told { IsHonestFile result.file → (rows : List KeptRow) × FileHolds result.file rows }
     {
         PathKeeper {
             file: PathFile::new(rt, path),
@@ -44,9 +46,11 @@ impl PathKeeper {
 }
 
 impl Keeper for PathKeeper {
-    ghost honest = { λ _. ⊥ };
+    ghost use Rattle.wb_sqlite.specs.PathFiles.{IsHonestFile, FileHolds};
 
-    ghost holds = { λ _ _. ⊥ };
+    ghost honest = { λ k. IsHonestFile k.file };
+
+    ghost holds = { λ k rows. FileHolds k.file rows };
 
     ghost count = { λ k. k.faults };
 
@@ -56,6 +60,9 @@ impl Keeper for PathKeeper {
 
     /// A file that cannot be opened is a fault.
     fn load(&mut self) -> Result<Vec<Row>, KeepErr>
+        ensures back { IsHonestFile self.new.file → IsHonestFile self.old.file }
+        ensures all { IsHonestFile self.new.file → (rows : List KeptRow) → FileHolds self.old.file rows → IfOk result (λ loaded. loaded.items ≡ rows) }
+        ensures same { IsHonestFile self.new.file → (rows : List KeptRow) → FileHolds self.old.file rows → FileHolds self.new.file rows }
         ensures ascending { IfOk result (λ loaded. IsAscending key_cmp key_of loaded.items) }
         ensures cause { KeeperHasCause self.old.faults self.new.faults result }
         ensures count { self.new.faults ≡ count_after self.old.faults result }
@@ -70,6 +77,9 @@ impl Keeper for PathKeeper {
     /// Where no `load` opened the file, it is a fault.
     fn apply(&mut self, changes: &[Change]) -> Result<(), KeepErr>
         requires { All IsGoodChange changes.now }
+        ensures back { IsHonestFile self.new.file → IsHonestFile self.old.file }
+        ensures ok { IsHonestFile self.new.file → (rows : List KeptRow) → FileHolds self.old.file rows → OnOk result (FileHolds self.new.file (all_changed rows changes.now)) }
+        ensures err { IsHonestFile self.new.file → (rows : List KeptRow) → FileHolds self.old.file rows → OnErr result (FileHolds self.new.file rows) }
         ensures cause { KeeperHasCause self.old.faults self.new.faults result }
         ensures count { self.new.faults ≡ count_after self.old.faults result }
         ensures made { OnOk result (Commits changes.now self.old.file self.new.file) }

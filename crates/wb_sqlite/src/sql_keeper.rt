@@ -1,23 +1,33 @@
 //! A keeper of rows over a connection.
-ghost use Rattle.std.specs.Prelude.{◌≡◌, ◌≤◌, false, All, IfOk, OnOk, OnErr, IsTrue};
+ghost use Rattle.std.specs.Prelude.{◌≡◌, ◌≤◌, ◌⊎◌, false, [], List, All, IfOk, OnOk, OnErr, IsTrue};
 ghost use Rattle.sqlite.specs.Held.{state};
 ghost use Rattle.sqlite.specs.State.{HasCleanDisk};
 ghost use Rattle.sqlite.specs.Steps.{IsEmpty, over_memory};
+ghost use Rattle.sqlite.specs.Files.{over_files, image_of};
+ghost use Rattle.sqlite_wal.specs.Files.{image_at, outcomes};
+ghost use Rattle.sqlite_wal.specs.Reads.{AreClean};
+ghost use Rattle.sqlite_wal.specs.Recovery.{Image};
 ghost use Rattle.wb_list.specs.Keyed.{IsAscending};
 ghost use Rattle.wb_base.specs.Outside.{KeeperHasCause};
-ghost use Rattle.wb_base.specs.KeptRows.{key_cmp, key_of, IsGoodChange};
+ghost use Rattle.wb_base.specs.declared.rows.Row.{Row as KeptRow};
+ghost use Rattle.wb_base.specs.KeptRows.{key_cmp, key_of, all_changed, IsGoodChange};
+ghost use Rattle.wb_stored.specs.Told.{IsHonest, HoldsRows, LeavesRows};
+ghost use Rattle.wb_stored.specs.KeptFiles.{FilesHold, FilesHoldAlone};
+ghost use Rattle.sqlite_trees.specs.Tree.{Trees};
 ghost use Rattle.wb_sqlite.specs.Counts.{count_after};
 ghost use Rattle.wb_sqlite.specs.Readings.{LoadsAll};
 ghost use Rattle.wb_sqlite.specs.Statements.{CommitsAll, IsAsCommitted};
 
 use crate::database::{apply_all, load_all};
-use crate::refusal::counted;
-use sqlite::{Alter, Connection, MemStore};
+use crate::refusal::{Refusal, counted};
+use sqlite::{Alter, Connection, FileFrom, FileStore, Files, MemStore, Start};
+use sqlite_disk::Disk;
 use std::alloc::Global;
 use std::marker::Model;
 use wb_base::{Change, KeepErr, Keeper, Memory, Row};
 
-/// A keeper of rows over a connection, seen as the connection and the count of its faults. It tells no rows.
+/// A keeper of rows over a connection, seen as the connection and the count of its faults. It tells the rows of its two tables
+/// while the store is clean and the database is open.
 pub struct SqlKeeper<S: Alter> {
     conn: Connection<S>,
     faults: u64,
@@ -64,6 +74,8 @@ impl SqlKeeper<MemStore> {
     /// A keeper over an empty database in memory.
     pub fn in_memory(alloc: Global) -> Result<SqlKeeper<MemStore>, Memory>
         ensures empty { IfOk result (λ keeper. IsEmpty (state over_memory keeper.conn)) }
+        ensures honest { IfOk result (λ keeper. IsHonest (state over_memory keeper.conn)) }
+        ensures told { IfOk result (λ keeper. HoldsRows (state over_memory keeper.conn) []) }
         ensures count { IfOk result (λ keeper. keeper.faults ≡ 0) }
     {
         let conn = Connection::open_in_memory(alloc)?;
@@ -71,10 +83,53 @@ impl SqlKeeper<MemStore> {
     }
 }
 
-impl<S: Alter + Drop> Keeper for SqlKeeper<S> {
-    ghost honest = { λ _. ⊥ };
+impl<S: Start> SqlKeeper<FileStore<FileFrom<S>>> {
+    /// A keeper over the file at a path, which is opened, or made where there is none. `S` stands for what the file and the log
+    /// beside it hold as they are opened; no clause ties them to the path.
+    pub fn over_file(
+        rt: &HostRuntime,
+        path: &str,
+        start: S,
+    ) -> Result<SqlKeeper<FileStore<FileFrom<S>>>, KeepErr>
+        ensures told { IfOk result (λ keeper. IsHonest (state over_files keeper.conn) → (rows : List KeptRow) → FilesHold (image_at S.Start) rows → HoldsRows (state over_files keeper.conn) rows) }
+        ensures count { IfOk result (λ keeper. keeper.faults ≡ 0) }
+    {
+        match Connection::open_from(rt, path, false, start) {
+            Ok(conn) => Ok(SqlKeeper::over(rt.alloc(), conn)),
+            Err((error, _)) => Err(Refusal::from(error).why),
+        }
+    }
+}
 
-    ghost holds = { λ _ _. ⊥ };
+impl<D: Disk + Drop> SqlKeeper<FileStore<D>> {
+    /// Copies the log into the database file, and gives both files back.
+    pub fn close(self) -> Result<Files<D>, KeepErr>
+        ensures usable { IfOk result (λ files. IsTrue (D.Disk.is_usable files.log) × IsTrue (D.Disk.is_usable files.db)) }
+        ensures closed { IfOk result (λ files. AreClean D.Disk files.log files.db → (rows : List KeptRow) → HoldsRows (state over_files self.conn) rows → FilesHoldAlone (image_of D.Disk files) rows) }
+        ensures left { IfOk result (λ files. AreClean D.Disk files.log files.db → (rows : List KeptRow) → HoldsRows (state over_files self.conn) rows → (image : Image) → outcomes D.Disk files.log files.db image → FilesHoldAlone image rows) }
+    {
+        let SqlKeeper {
+            conn,
+            faults: _,
+            alloc: _,
+        } = self;
+        match conn.close_files() {
+            Ok(files) => Ok(files),
+            Err((error, store)) => {
+                drop(store.close());
+                Err(Refusal::from(error).why)
+            }
+        }
+    }
+}
+
+impl<S: Alter + Drop> Keeper for SqlKeeper<S> {
+    ghost use Rattle.sqlite.specs.Held.{state};
+    ghost use Rattle.wb_stored.specs.Told.{IsHonest, HoldsRows};
+
+    ghost honest = { λ k. IsHonest (state S.Store k.conn) };
+
+    ghost holds = { λ k rows. HoldsRows (state S.Store k.conn) rows };
 
     ghost count = { λ k. k.faults };
 
@@ -83,6 +138,9 @@ impl<S: Alter + Drop> Keeper for SqlKeeper<S> {
     }
 
     fn load(&mut self) -> Result<Vec<Row>, KeepErr>
+        ensures back { IsHonest (state S.Store self.new.conn) → IsHonest (state S.Store self.old.conn) }
+        ensures all { IsHonest (state S.Store self.new.conn) → (rows : List KeptRow) → HoldsRows (state S.Store self.old.conn) rows → IfOk result (λ loaded. loaded.items ≡ rows) }
+        ensures same { IsHonest (state S.Store self.new.conn) → (rows : List KeptRow) → HoldsRows (state S.Store self.old.conn) rows → HoldsRows (state S.Store self.new.conn) rows }
         ensures ascending { IfOk result (λ loaded. IsAscending key_cmp key_of loaded.items) }
         ensures cause { KeeperHasCause self.old.faults self.new.faults result }
         ensures count { self.new.faults ≡ count_after self.old.faults result }
@@ -96,10 +154,15 @@ impl<S: Alter + Drop> Keeper for SqlKeeper<S> {
 
     fn apply(&mut self, changes: &[Change]) -> Result<(), KeepErr>
         requires { All IsGoodChange changes.now }
+        ensures back { IsHonest (state S.Store self.new.conn) → IsHonest (state S.Store self.old.conn) }
+        ensures ok { IsHonest (state S.Store self.new.conn) → (rows : List KeptRow) → HoldsRows (state S.Store self.old.conn) rows → OnOk result (HoldsRows (state S.Store self.new.conn) (all_changed rows changes.now)) }
+        ensures err { IsHonest (state S.Store self.new.conn) → (rows : List KeptRow) → HoldsRows (state S.Store self.old.conn) rows → OnErr result (HoldsRows (state S.Store self.new.conn) rows) }
         ensures cause { KeeperHasCause self.old.faults self.new.faults result }
         ensures count { self.new.faults ≡ count_after self.old.faults result }
         ensures made { HasCleanDisk (state S.Store self.new.conn) → OnOk result (CommitsAll S.Store changes.now self.old.conn self.new.conn) }
         ensures kept { HasCleanDisk (state S.Store self.new.conn) → IsTrue (state S.Store self.new.conn).is_open → OnErr result (IsAsCommitted S.Store self.old.conn self.new.conn) }
+        ensures crash { HasCleanDisk (state S.Store self.new.conn) → (rows : List KeptRow) → HoldsRows (state S.Store self.old.conn) rows → (db : Trees) → (state S.Store self.new.conn).may_leave db → (state S.Store self.old.conn).may_leave db ⊎ LeavesRows db (all_changed rows changes.now) }
+        ensures durable { IsHonest (state S.Store self.new.conn) → (rows : List KeptRow) → HoldsRows (state S.Store self.new.conn) rows → (db : Trees) → (state S.Store self.new.conn).may_leave db → LeavesRows db rows }
     {
         match apply_all(&mut self.conn, changes) {
             Ok(()) => Ok(()),

@@ -10,6 +10,7 @@ use crate::refusal::Refusal;
 use sqlite::types::ValueRef;
 use sqlite::{Alter, Transaction, params};
 use wb_base::{Change, Row};
+use wb_stored::is_sealed;
 
 const MAKE_RECORD: &str =
     "CREATE TABLE IF NOT EXISTS record (kind INTEGER NOT NULL, tenant INTEGER NOT NULL, a INTEGER NOT NULL, b INTEGER NOT NULL, body TEXT NOT NULL, PRIMARY KEY (kind, tenant, a, b))";
@@ -43,9 +44,6 @@ const SIX: [&str; 6] = [
     READ_SEALED,
 ];
 
-/// The kind of sealed answers, which have a table of their own.
-pub(crate) const SEALED: u8 = 7;
-
 // Makes one statement.
 fn run<S: Alter>(
     tx: &mut Transaction<'_, S>,
@@ -76,6 +74,7 @@ pub(crate) fn make<S: Alter>(tx: &mut Transaction<'_, S>) -> Result<(), Refusal>
 fn expect<S: Alter>(tx: &mut Transaction<'_, S>, text: &str) -> Result<(), Refusal>
     ensures same_reference { tx.new.conn.ghost_name ≡ tx.old.conn.ghost_name }
     ensures same { HasCleanDisk (state S.Store tx.new.conn.now) → OnOk result (IsUnchanged (state S.Store tx.old.conn.now) (state S.Store tx.new.conn.now)) }
+    ensures kept { HasCleanDisk (state S.Store tx.new.conn.now) → OnErr result (KeepsCommit (state S.Store tx.old.conn.now) (state S.Store tx.new.conn.now)) }
     ensures survives { Survives (state S.Store tx.old.conn.now) (state S.Store tx.new.conn.now) (λ _. ⊥) }
 {
     tx.prepare(text)?;
@@ -88,6 +87,7 @@ pub(crate) fn expect_all<S: Alter>(tx: &mut Transaction<'_, S>) -> Result<(), Re
     ensures same_reference { tx.new.conn.ghost_name ≡ tx.old.conn.ghost_name }
     ensures same { HasCleanDisk (state S.Store tx.new.conn.now) → OnOk result ((state S.Store tx.new.conn.now).now ≡ (state S.Store tx.old.conn.now).now) }
     ensures inside { HasCleanDisk (state S.Store tx.new.conn.now) → OnOk result (tx.new.conn.now.in_transaction ≡ tx.old.conn.now.in_transaction) }
+    ensures keeps { HasCleanDisk (state S.Store tx.new.conn.now) → KeepsCommit (state S.Store tx.old.conn.now) (state S.Store tx.new.conn.now) }
     ensures survives { Survives (state S.Store tx.old.conn.now) (state S.Store tx.new.conn.now) (λ _. ⊥) }
 {
     for text in SIX {
@@ -132,7 +132,7 @@ fn put<S: Alter>(tx: &mut Transaction<'_, S>, row: &Row) -> Result<(), Refusal>
     ensures kept { HasCleanDisk (state S.Store tx.new.conn.now) → IsTrue tx.old.conn.now.in_transaction → OnErr result (KeepsCommit (state S.Store tx.old.conn.now) (state S.Store tx.new.conn.now)) }
     ensures survives { Survives (state S.Store tx.old.conn.now) (state S.Store tx.new.conn.now) (λ _. ⊥) }
 {
-    if row.key.kind == SEALED {
+    if is_sealed(row.key.kind) {
         write_sealed(tx, row)
     } else {
         write_record(tx, row)

@@ -5,16 +5,16 @@ ghost use Rattle.sqlite_value.specs.declared.value.Value.TheVariants.{Int, Text 
 ghost use Rattle.sqlite_value.specs.Order.{column};
 ghost use Rattle.std.specs.Prelude.{pos};
 ghost use Rattle.wb_base.specs.KeptRows.{key_cmp};
-ghost use Rattle.wb_sqlite.specs.StoredRows.{IsRecordRow, IsSealedRow};
+ghost use Rattle.wb_stored.specs.StoredRows.{IsRecordRow, IsSealedRow};
 
 use crate::refusal::Refusal;
-use crate::statements::SEALED;
 use sqlite::Row as Stored;
 use sqlite::types::ValueRef;
 use std::alloc::Global;
 use std::cmp::Ordering;
 use wb_base::{Key, Row, Text, TextFault};
 use wb_list::{Keyed, Sorted};
+use wb_stored::SEALED;
 
 // The number in a column, where it fits.
 fn number_at(row: &Stored, at: usize) -> Result<u32, Refusal>

@@ -1,10 +1,11 @@
-use Rattle.std.proofs.Common.{rules, ◌≡◌, Option, Some, None, refl, sym, subst, ◌∙◌, arith}
+use Rattle.std.proofs.Common.{rules, ◌≡◌, Option, Some, None, [], refl, sym, subst, ◌∙◌, arith}
 use Rattle.sqlite_value.specs.Order.{Row as SqlRow}
 use Rattle.sqlite.specs.Given.{Advances, HandsOn, row_if}
 use Rattle.sqlite.specs.Held.{Held, state}
 use Rattle.sqlite.specs.State.{HasCleanDisk}
 use Rattle.wb_sqlite.specs.Readings.{Reads, read_record}
-use Rattle.wb_sqlite.specs.StoredRows.{IsRecordRow}
+use Rattle.wb_stored.specs.StoredRows.{IsRecordRow}
+use Rattle.wb_sqlite.proofs.Stays.{begun_open, begun_stays, stays_then, unchanged_stays, refused_stays}
 use Rattle.wb_sqlite.proofs.Reading.{reads_none, reads_one, reads_all}
 use Rattle.wb_sqlite.proofs.database.read_record.Goals as goal
 
@@ -15,6 +16,8 @@ loop-init g c =
       made.mode c.requires,
       λ clean. omega (arith, made.survives.clean),
       λ clean. reads_none g.S.Store IsRecordRow read_record c.args.conn.now c.in_ok-given.given.conn.now c.args.rows.now.items (made.begun clean),
+      λ clean up. begun_open g.S.Store read_record [] c.args.conn.now c.in_ok-given.given.conn.now (made.begun clean),
+      λ clean plain. begun_stays g.S.Store read_record [] c.args.conn.now c.in_ok-given.given.conn.now plain (made.begun clean),
     )
 
 pub loop-preserved : goal.loop-preserved
@@ -33,6 +36,8 @@ loop-preserved g c =
           let on = subst (λ (next : Option SqlRow). Advances g.S.Store mid now next) some (moved.ok clean) in
           let hands = subst (λ (next : Option SqlRow). HandsOn mid now next) some (moved.hands clean) in
           reads_one g.S.Store IsRecordRow read_record c.args.conn.now mid now c.args.rows.now.items c.loop.rows.items c.add.new.rows.items row c.in_ok-record_row-in-Some.field-0 (inv.3 early) on (moved.same clean) hands c.in_ok-record_row-in-Some.ensures c.in_ok-add-in-Some.ensures,
+      λ clean up. inv.4 (omega (arith, moved.survives.clean)) (moved.same clean).0.was_open,
+      λ clean plain. stays_then (state g.S.Store c.args.conn.now) (state g.S.Store mid) (state g.S.Store now) (inv.5 (omega (arith, moved.survives.clean)) plain) (unchanged_stays (state g.S.Store mid) (state g.S.Store now) (moved.same clean)),
     )
 
 pub returns-in-None-clause-read : goal.returns-in-None-clause-read
@@ -49,3 +54,9 @@ returns-in-None-clause-read g c clean =
     let hands = subst (λ (next : Option SqlRow). HandsOn mid now next) none (moved.hands clean_now) in
     let all = reads_all g.S.Store IsRecordRow read_record c.args.conn.now mid now c.args.rows.now.items c.loop.rows.items (inv.3 early) on (moved.same clean_now) hands in
     subst (λ (h : Held _). Reads g.S.Store IsRecordRow read_record c.args.conn.now h c.args.rows.now.items c.loop.rows.items) same all
+
+pub returns-in_err-given-clause-back : goal.returns-in_err-given-clause-back
+returns-in_err-given-clause-back g c clean up = (refused_stays g.S.Store read_record [] c.args.conn.now c.query.follows.lender-at-none c.query.result c.in_err-given.field-0.0 c.in_err-given.was c.query.follows.holds-at-none clean).was_open up
+
+pub returns-in_err-given-clause-stays : goal.returns-in_err-given-clause-stays
+returns-in_err-given-clause-stays g c clean plain = refused_stays g.S.Store read_record [] c.args.conn.now c.query.follows.lender-at-none c.query.result c.in_err-given.field-0.0 c.in_err-given.was c.query.follows.holds-at-none clean

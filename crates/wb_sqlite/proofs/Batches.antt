@@ -1,0 +1,106 @@
+-- What a batch of changes does to the told rows.
+use Rattle.std.proofs.Common.{◌≡◌, ◌⊎◌, ◌≤◌, ◌==◌, List, [], ◌∷◌, ◌++◌, All, true, inl, inr, refl, sym, subst, ◌∙◌, arith}
+use Rattle.std.specs.List.{AllByRecursion}
+use Rattle.std.proofs.lemmas.Bool.{cases_Bool}
+use Rattle.std.proofs.lemmas.List.Elements.{All-head, All-tail}
+use Rattle.std.proofs.lemmas.Bool.Decides.{nat_tests}
+use Rattle.sqlite_trees.specs.declared.store.Store.{Ghosts}
+use Rattle.sqlite.specs.Effect.{Database}
+use Rattle.sqlite.specs.Held.{Held, state}
+use Rattle.sqlite_trees.specs.Tree.{Trees}
+use Rattle.sqlite.specs.State.{HasCleanDisk, Survives}
+use Rattle.wb_base.specs.declared.rows.Row.{Row}
+use Rattle.wb_base.specs.declared.rows.Change.{Change}
+use Rattle.wb_base.specs.declared.rows.Change.TheVariants.{Put, DropReport}
+use Rattle.wb_base.specs.KeptRows.{changed, all_changed, IsGoodChange}
+use Rattle.wb_stored.specs.Told.{Tells, HoldsRows, LeavesRows}
+use Rattle.wb_stored.proofs.Stands.{TellsBoth, both_made, both_tells, both_put_record, both_put_sealed, both_drop}
+use Rattle.wb_sqlite.specs.Statements.{Statement, Makes, make_tables, statements_of, all_statements, put_record, put_sealed, CommitsAll, IsAsCommitted}
+
+module _ {S : Type 0} (g : Ghosts S) where
+  -- what was made of two lists was made of one after the other
+  makes_split : (xs ys : List Statement) (a c : Held S) → Makes g (xs ++ ys) a c → (b : Held S) × Makes g xs a b × Makes g ys b c
+  makes_split [] ys a c made = (a, refl, made)
+  makes_split (x ∷ xs) ys a c (mid, count, made, rest) = let it = makes_split xs ys mid c rest in (it.0, (mid, count, made, it.1), it.2)
+
+  put_told : (row : Row) (a b : Held S) (rows : List Row) → IsGoodChange (Put row) → TellsBoth (state g a).now rows → Makes g (statements_of (Put row)) a b → TellsBoth (state g b).now (changed rows (Put row))
+  put_told row a b rows good told made = elim (cases_Bool (row.key.kind == 7)) [
+    | inl e ↦
+        let is : row.key.kind ≡ 7 = grind (arith, nat_tests) in
+        let it : Makes g (put_sealed row ∷ []) a b = rw e at made in
+        subst (λ (h : Held S). TellsBoth (state g h).now (changed rows (Put row))) (sym it.3) (both_put_sealed (state g a) (state g it.0) row it.1 rows (is, good.1 is) told it.2.0)
+    | inr e ↦
+        let low : row.key.kind ≤ 6 = let top = good.0 in grind (arith, nat_tests) in
+        let it : Makes g (put_record row ∷ []) a b = rw e at made in
+        subst (λ (h : Held S). TellsBoth (state g h).now (changed rows (Put row))) (sym it.3) (both_put_record (state g a) (state g it.0) row it.1 rows low told it.2.0)
+  ]
+
+  change_told : (change : Change) (a b : Held S) (rows : List Row) → IsGoodChange change → TellsBoth (state g a).now rows → Makes g (statements_of change) a b → TellsBoth (state g b).now (changed rows change)
+  change_told (Put row) a b rows good told made = put_told row a b rows good told made
+  change_told (DropReport tenant number) a b rows good told first =
+      let second = first.3 in
+      subst (λ (h : Held S). TellsBoth (state g h).now (changed rows (DropReport tenant number))) (sym second.3) (both_drop (state g a) (state g first.0) (state g second.0) tenant number first.1 second.1 rows told first.2.0 second.2.0)
+
+  -- all changes in turn
+  all_told : (changes : List Change) (a b : Held S) (rows : List Row) → AllByRecursion IsGoodChange changes → TellsBoth (state g a).now rows → Makes g (all_statements changes) a b → TellsBoth (state g b).now (all_changed rows changes)
+  all_told [] a b rows good told made = subst (λ (h : Held S). TellsBoth (state g h).now rows) (sym made) told
+  all_told (change ∷ changes) a b rows good told made =
+      let it = makes_split (statements_of change) (all_statements changes) a b made in
+      all_told changes it.0 b (changed rows change) good.1 (change_told change a it.0 rows good.0 told it.1) it.2
+
+  -- what is committed is told so
+  pub commits_both : (changes : List Change) (old new : Held S) (rows : List Row) → AllByRecursion IsGoodChange changes → HoldsRows (state g old) rows → CommitsAll g changes old new → TellsBoth (state g new).now (all_changed rows changes)
+  commits_both changes old new rows good holds c =
+      let begun = record old { in_transaction = true } in
+      let it = makes_split make_tables (all_statements changes) begun c.last c.made in
+      let first = it.1 in
+      let tables : TellsBoth (state g it.0).now rows =
+      subst (λ (h : Held S). TellsBoth (state g h).now rows) (sym first.3.3) (both_made (state g begun) (state g first.0) (state g first.3.0) first.1 first.3.1 rows holds.told first.2.0 first.3.2.0) in
+      subst (λ (d : Database). TellsBoth d (all_changed rows changes)) (sym c.now) (all_told changes it.0 c.last rows good tables it.2)
+
+  pub commits_hold : (changes : List Change) (old new : Held S) (rows : List Row) → AllByRecursion IsGoodChange changes → HoldsRows (state g old) rows → CommitsAll g changes old new → HoldsRows (state g new) (all_changed rows changes)
+  commits_hold changes old new rows good holds c = record {
+    settled = c.now ∙ sym c.committed;
+    told = both_tells (state g new).now (all_changed rows changes) (commits_both changes old new rows good holds c);
+  }
+
+  -- what is as it was committed is told as it was
+  pub kept_hold : (old new : Held S) (rows : List Row) → HoldsRows (state g old) rows → IsAsCommitted g old new → HoldsRows (state g new) rows
+  kept_hold old new rows holds k = record {
+    settled = k.now ∙ sym k.committed;
+    told = subst (λ (d : Database). Tells d rows) (holds.settled ∙ sym k.now) holds.told;
+  }
+
+  -- a crash on the way, before the commit
+  pub crash_before : (old start mid end : Held S) → start ≡ record old { in_transaction = true } → Survives (state g start) (state g mid) (λ _. ⊥) → Survives (state g mid) (state g end) (λ _. ⊥)
+      → HasCleanDisk (state g end) → (db : Trees) → (state g end).may_leave db → (state g old).may_leave db
+  crash_before old start mid end begun one two clean db may =
+      let clean_mid : HasCleanDisk (state g mid) = omega (arith, two.clean) in
+      elim (two.crash clean db may) [
+        | inr none ↦ absurd none
+        | inl earlier ↦ elim (one.crash clean_mid db earlier) [
+          | inr none ↦ absurd none
+          | inl first ↦ subst (λ (h : Held S). (state g h).may_leave db) begun first
+        ]
+      ]
+
+  -- a crash once the commit has begun
+  pub crash_after : (changes : List Change) (old start mid last end : Held S) (rows : List Row) → start ≡ record old { in_transaction = true } → Survives (state g start) (state g mid) (λ _. ⊥) → Survives (state g mid) (state g last) (λ _. ⊥)
+      → Survives (state g last) (state g end) (λ db. db ≡ (state g last).now.trees) → Makes g make_tables start mid → Makes g (all_statements changes) mid last → AllByRecursion IsGoodChange changes → HoldsRows (state g old) rows
+      → HasCleanDisk (state g end) → (db : Trees) → (state g end).may_leave db → (state g old).may_leave db ⊎ LeavesRows db (all_changed rows changes)
+  crash_after changes old start mid last end rows begun one two three tables made good holds clean db may =
+      let clean_last : HasCleanDisk (state g last) = omega (arith, three.clean) in
+      elim (three.crash clean db may) [
+        | inl earlier ↦ inl (crash_before old start mid last begun one two clean_last db earlier)
+        | inr is ↦
+            let at_start : Tells (state g start).now rows = subst (λ (h : Held S). Tells (state g h).now rows) (sym begun) holds.told in
+            let at_mid : TellsBoth (state g mid).now rows =
+            subst (λ (h : Held S). TellsBoth (state g h).now rows) (sym tables.3.3) (both_made (state g start) (state g tables.0) (state g tables.3.0) tables.1 tables.3.1 rows at_start tables.2.0 tables.3.2.0) in
+            let told : Tells (state g last).now (all_changed rows changes) = both_tells (state g last).now (all_changed rows changes) (all_told changes mid last rows good at_mid made) in
+            inr (last.schema, subst (λ (t : Trees). Tells (record { schema = last.schema; trees = t }) (all_changed rows changes)) (sym is) told)
+      ]
+
+-- the changes are good one by one
+pub each_good : (changes : List Change) → All IsGoodChange changes → AllByRecursion IsGoodChange changes
+each_good [] all = tt
+each_good (change ∷ changes) all = (All-head IsGoodChange change changes all, each_good changes (All-tail IsGoodChange change changes all))

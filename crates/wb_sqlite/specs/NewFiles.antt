@@ -1,0 +1,16 @@
+-- What is told of a file that was new as it was opened.
+use Rattle.std.specs.Prelude.{◌≡◌, List, [], Option, Some, None, ⊤}
+use Rattle.sqlite_trees.specs.declared.store.Store.{Ghosts}
+use Rattle.sqlite.specs.Held.{Held, state}
+use Rattle.wb_base.specs.declared.rows.Row.{Row}
+use Rattle.wb_stored.specs.Told.{IsHonest, HoldsRows}
+
+-- it is not open yet, or its store has answered truly so far and still serves
+abbrev pub IsHonestIfOpen : {S : Type 0} → Ghosts S → Option (Held S) → Type 0
+IsHonestIfOpen g (Some now) = IsHonest (state g now)
+IsHonestIfOpen g None = ⊤
+
+-- it is not open yet and there are no rows, or its database holds them
+abbrev pub HoldsIfOpen : {S : Type 0} → Ghosts S → Option (Held S) → List Row → Type 0
+HoldsIfOpen g (Some now) rows = HoldsRows (state g now) rows
+HoldsIfOpen g None rows = rows ≡ []
