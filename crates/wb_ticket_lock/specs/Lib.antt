@@ -1,0 +1,3 @@
+pub mod Contents
+pub mod Histories
+pub mod Seats
