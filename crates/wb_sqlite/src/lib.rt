@@ -3,6 +3,7 @@
 
 mod database;
 mod one_byte;
+mod opening;
 mod path_file;
 mod path_keeper;
 mod refusal;

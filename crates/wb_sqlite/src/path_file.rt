@@ -10,7 +10,7 @@ ghost use Rattle.wb_sqlite.specs.Readings.{LoadsOpen};
 ghost use Rattle.wb_sqlite.specs.Statements.{CommitsOpen, KeepsOpen};
 
 use crate::database::{apply_all, load_all};
-use crate::one_byte::is_foreign_byte;
+use crate::opening::open_file;
 use crate::refusal::Refusal;
 use sqlite::{Connection, File, FileStore, Unknown};
 use wb_base::{Change, Row, Text};
@@ -59,13 +59,7 @@ impl PathFile {
         ensures none { IfOk result (λ rows. IsHonestIfOpen over_files self.new.conn → (rows.items ≡ []) × HoldsIfOpen over_files self.new.conn []) }
         ensures kept { OnErr result (self.new.conn ≡ self.old.conn) }
     {
-        if is_foreign_byte(&self.rt, self.path.as_str())? {
-            return Err(Refusal::FAULT);
-        }
-        let mut conn = match Connection::open_from(&self.rt, self.path.as_str(), false, Unknown) {
-            Ok(conn) => conn,
-            Err((error, _)) => return Err(Refusal::from(error)),
-        };
+        let mut conn = open_file(&self.rt, self.path.as_str(), Unknown)?;
         let rows = load_all(self.rt.alloc(), &mut conn)?;
         self.conn = Some(conn);
         Ok(rows)

@@ -19,6 +19,7 @@ ghost use Rattle.wb_sqlite.specs.Readings.{LoadsAll};
 ghost use Rattle.wb_sqlite.specs.Statements.{CommitsAll, IsAsCommitted};
 
 use crate::database::{apply_all, load_all};
+use crate::opening::open_file;
 use crate::refusal::{Refusal, counted};
 use sqlite::{Alter, Connection, FileFrom, FileStore, Files, MemStore, Start};
 use sqlite_disk::Disk;
@@ -94,9 +95,9 @@ impl<S: Start> SqlKeeper<FileStore<FileFrom<S>>> {
         ensures told { IfOk result (λ keeper. IsHonest (state over_files keeper.conn) → (rows : List KeptRow) → FilesHold (image_at S.Start) rows → HoldsRows (state over_files keeper.conn) rows) }
         ensures count { IfOk result (λ keeper. keeper.faults ≡ 0) }
     {
-        match Connection::open_from(rt, path, false, start) {
+        match open_file(rt, path, start) {
             Ok(conn) => Ok(SqlKeeper::over(rt.alloc(), conn)),
-            Err((error, _)) => Err(Refusal::from(error).why),
+            Err(refusal) => Err(refusal.why),
         }
     }
 }

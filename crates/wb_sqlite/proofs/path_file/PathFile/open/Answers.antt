@@ -3,17 +3,14 @@ use Rattle.sqlite.specs.Held.{state}
 use Rattle.sqlite.specs.State.{HasCleanDisk}
 use Rattle.sqlite.specs.Files.{over_files}
 use Rattle.wb_stored.specs.Told.{HoldsRows}
-use Rattle.wb_stored.proofs.KeptFiles.{files_told}
 use Rattle.wb_sqlite.proofs.path_file.PathFile.open.Goals as goal
 
 pub returns-clause-loads : goal.returns-clause-loads
-returns-clause-loads c clean = (c.in-Ok.conn, c.in_ok-rows.ensures.loads clean)
+returns-clause-loads c clean = (c.in_ok-conn.conn, c.in_ok-rows.ensures.loads clean)
 
 pub returns-clause-none : goal.returns-clause-none
 returns-clause-none c honest =
-    let was = state over_files c.in-Ok.conn in
+    let was = state over_files c.in_ok-conn.conn in
     let clean : HasCleanDisk was = c.load_all.ensures.clean honest.0 in
-    let is = c.in-Ok.ensures.opened clean in
-    let finds = c.in-Ok.ensures.found clean in
-    let none : HoldsRows was [] = files_told (record { log = []; db = [] }) was [] is.0 is.1 finds.holds finds.reads (inr (refl, refl)) in
+    let none : HoldsRows was [] = c.in_ok-conn.ensures.told clean [] (inr (refl, refl)) in
     (c.in_ok-rows.ensures.all honest.0 honest.1 [] none, c.load_all.ensures.same honest.0 honest.1 [] none)

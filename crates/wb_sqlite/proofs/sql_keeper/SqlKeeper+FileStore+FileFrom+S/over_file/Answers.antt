@@ -1,10 +1,4 @@
-use Rattle.sqlite.specs.Held.{state}
-use Rattle.sqlite.specs.Files.{over_files}
-use Rattle.sqlite_wal.specs.Files.{image_at}
-use Rattle.wb_stored.proofs.KeptFiles.{files_told}
 use Rattle.wb_sqlite.proofs.sql_keeper.SqlKeeper+FileStore+FileFrom+S.over_file.Goals as goal
 
 pub returns-in-Ok-clause-told : goal.returns-in-Ok-clause-told
-returns-in-Ok-clause-told g c =
-    let opened = state over_files c.in-Ok.conn in
-    rw c.over.ensures (λ honest rows. let is = c.in-Ok.ensures.opened honest.0 in let finds = c.in-Ok.ensures.found honest.0 in files_told (image_at g.S.Start) opened rows is.0 is.1 finds.holds finds.reads)
+returns-in-Ok-clause-told g c = rw c.over.ensures (λ honest. c.in-Ok.ensures.told honest.0)
