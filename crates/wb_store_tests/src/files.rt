@@ -1,11 +1,12 @@
 //! A keeper over a path: its file is opened by `load` alone, is whole once the keeper went, and gives its rows again.
 
 use crate::rows::{put, shown};
+use sqlite::{File, FileStore, Unknown};
 use std::alloc::Global;
 use std::fs;
 use std::test::Fail;
 use wb_base::{KeepErr, Keeper, Text};
-use wb_sqlite::PathKeeper;
+use wb_sqlite::{PathKeeper, SqlKeeper};
 
 // A keeper of the rows at a path.
 fn keeper_at(rt: &HostRuntime, alloc: Global, path: &str) -> Result<PathKeeper, Fail> {
@@ -32,6 +33,31 @@ fn a_file_gives_its_rows_again(rt: HostRuntime) -> Result<(), Fail> {
         );
         assert_eq!(rt; again.faults(), 0);
     }
+    Ok(())
+}
+
+// A keeper over the file at a path, which is open.
+fn keeper_over(rt: &HostRuntime, path: &str) -> Result<SqlKeeper<FileStore<File>>, Fail> {
+    match SqlKeeper::over_file(rt, path, Unknown) {
+        Ok(keeper) => Ok(keeper),
+        Err(_) => Err(Fail::from("an open")),
+    }
+}
+
+#[test]
+fn a_keeper_that_is_closed_leaves_its_rows_in_the_file(rt: HostRuntime) -> Result<(), Fail> {
+    let alloc = rt.alloc();
+    let mut first = keeper_over(&rt, "closed_rows.db")?;
+    put(&rt, alloc, &mut first, (6, 1, 2, 1), "first")?;
+    put(&rt, alloc, &mut first, (7, 1, 2, 0), "sealed")?;
+    assert!(rt; first.close().is_ok());
+    fs::copy(&rt, "closed_rows.db", "closed_rows_copy.db")?;
+    let mut again = keeper_over(&rt, "closed_rows_copy.db")?;
+    assert_eq!(rt;
+        shown(alloc, &mut again)?.as_str(),
+        "6 1 2 1 first\n7 1 2 0 sealed\n"
+    );
+    assert!(rt; SqlKeeper::over_file(&rt, ".", Unknown).is_err());
     Ok(())
 }
 
