@@ -54,7 +54,7 @@ const ASKED: &[Asking] = &[
 // The first of the comments is lost, and none is.
 const LOST_ONCE: &[Told] = &[RECEIVED_1, RECEIVED_2, RETURNED, LOST, MADE];
 
-const ALL_MADE: &[Told] = &[RECEIVED_1, RECEIVED_2, RETURNED, MADE, MADE];
+pub(crate) const ALL_MADE: &[Told] = &[RECEIVED_1, RECEIVED_2, RETURNED, MADE, MADE];
 
 // The keeper's call that fails, what each turn is told, and the kinds and numbers of the rows of reports at the end.
 type Failing = (u64, &'static [Told<'static>], &'static [(u8, u32, u32)]);
@@ -81,7 +81,7 @@ const FAILING: &[Failing] = &[
 ];
 
 // The turns with what each is told.
-fn script_told(alloc: Global, told: &[Told]) -> Result<Script, Fail> {
+pub(crate) fn script_told(alloc: Global, told: &[Told]) -> Result<Script, Fail> {
     let mut script = script_on(alloc, &harbour(alloc)?, &[])?;
     for (at, asking) in ASKED.iter().enumerate() {
         let (when, session, asked) = *asking;

@@ -123,6 +123,8 @@ mod serving_tests;
 #[cfg(test)]
 mod setup_text;
 #[cfg(test)]
+mod sql_tests;
+#[cfg(test)]
 mod tally_tests;
 #[cfg(test)]
 mod tests;

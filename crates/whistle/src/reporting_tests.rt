@@ -28,6 +28,16 @@ pub(crate) struct Script {
     output: Vec<u8>,
 }
 
+impl Script {
+    pub(crate) fn bytes(&self) -> &[u8] {
+        self.bytes.as_slice()
+    }
+
+    pub(crate) fn output(&self) -> &[u8] {
+        self.output.as_slice()
+    }
+}
+
 // 2025-01-01 00:00 in UTC.
 const NEW_YEAR: u64 = 1_735_689_600;
 
@@ -184,7 +194,7 @@ pub(crate) const OWN_VIEW: &str =
     r#"{"acknowledged":null,"answers":{"what":"Bribe"},"dialogue":[],"expires":"2025-01-31","feedback_due":"2025-04-08","form":1,"identity":{"name":"Eve"},"number":1,"received":"2025-01-01","status":"new","version":1}"#;
 
 // A report comes, is read by a recipient, and is read by its reporter.
-const RETURNED: &[Turn] = &[
+pub(crate) const RETURNED: &[Turn] = &[
     ((0, 42, 0), 0, BRIBED, RECEIVED),
     ((10, 2, 2), 0, ADA, (201, RECIPIENT_2)),
     ((20, 3, 3), 2, READ, (200, VIEW)),
@@ -318,7 +328,7 @@ const DOCKS: &str =
     "[[tenant]]\nid = 2\nname = \"Dock Works\"\nsalt = \"0f0e0d0c0b0a09080706050403020100\"\noffset = 120\n";
 
 // A setup of two tenants that differ in these lines alone.
-fn two_tenants(alloc: Global) -> Result<String, Fail> {
+pub(crate) fn two_tenants(alloc: Global) -> Result<String, Fail> {
     let mut both = harbour(alloc)?;
     let second = both.replace(alloc, CITY, DOCKS)?;
     both.push_str(second.as_str())?;
@@ -353,7 +363,7 @@ const APART: &[Turn] = &[
 ];
 
 // A report of the docks, before and after the first second of the day on which it expires there.
-const DOCKED: &[Turn] = &[
+pub(crate) const DOCKED: &[Turn] = &[
     ((0, 42, 0), 0, DOCKS_BRIBED, RECEIVED),
     ((0, 2, 2), 0, DOCKS_ADA, (201, RECIPIENT_2)),
     ((0, 3, 3), 2, DOCKS_READ, (200, VIEW)),
