@@ -3,12 +3,8 @@ pub mod SinkLemmas
 pub mod GeneratedLemmas
 pub mod CountLemmas
 pub mod TallyLemmas
-pub mod SubmissionLemmas
 pub mod TurnLemmas
 pub mod PlayLemmas
 pub mod Completeness
-pub mod Identities
-pub mod Forgetting
-pub mod Laws
 pub mod PlayedTurns
 pub mod TallyCompleteness

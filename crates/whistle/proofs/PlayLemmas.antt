@@ -1,5 +1,5 @@
 -- Turn after turn.
-use Rattle.std.proofs.Common.{◌≡◌, ◌<◌, ◌+◌, ℕ, List, [], ◌∷◌, ◌++◌, length, refl, sym, ap, ◌∙◌, append_assoc, append-nil, subst, arith, Option, Some, None, IfSome, length-append}
+use Rattle.std.proofs.Common.{◌≡◌, ◌<◌, ◌+◌, ℕ, List, [], ◌∷◌, ◌++◌, length, refl, sym, ap, ◌∙◌, append_assoc, append-nil, subst, arith, Option, Some, None, Ok, IfSome, length-append}
 use Rattle.std.specs.List.{AllByRecursion}
 use Rattle.std.specs.Io.KnownBytes.{Appends, Consumes, IsAtEnd}
 use Rattle.std.proofs.KnownBytes.{Appends-trans, Consumes-trans, Appends-nil}
@@ -10,8 +10,11 @@ use Rattle.wb_model.specs.FrameTexts.{texts, frame_text, line_of, IsFrame, IsBro
 use Rattle.wb_model.specs.Past.{Past}
 use Rattle.wb_model.specs.Pasts.{AllOpened}
 use Rattle.wb_model.specs.Playing.{written, output}
+use Rattle.wb_model.specs.Rows.{rows}
 use Rattle.wb_model.specs.Scripts.{Place, script_replies, past_after}
 use Rattle.wb_model.specs.Tenants.{Hosts}
+use Rattle.wb_rows.specs.Judged.{judged}
+use Rattle.wb_rows.specs.Left.{left as left_of}
 use Rattle.wb_wire.specs.FrameReading.{Progress, after_next}
 use Rattle.wb_desk.specs.Turns.{StandsFor}
 use Rattle.whistle.specs.declared.answering.Answer.{Answer}
@@ -21,7 +24,7 @@ use Rattle.wb_wire.specs.SetupReading.{after_setup}
 use Rattle.wb_start.specs.Starts.{IsOpenedBy, Opens, unread}
 use Rattle.whistle.specs.Played.{HasPlayed}
 use Rattle.whistle.specs.Runs.{script_text, Played, Wrote, BrokeOff}
-use Rattle.whistle.proofs.TurnLemmas.{Laws, more, output_more, none_played, one_more, stands_more}
+use Rattle.whistle.proofs.TurnLemmas.{Promise, IsReadBy, more, output_more, none_played, one_more, stands_more}
 
 pub texts_more : (fs : List ScriptFrame) (f : ScriptFrame) → texts (more fs f) ≡ texts fs ++ frame_text f
 texts_more [] f = append-nil (frame_text f)
@@ -83,29 +86,29 @@ module _ (loaded : List Row) (setup : List ℕ) (start : Past AllOpened) where
         pub number : reader.given ≡ length frames
         pub size : reader.taken ≡ length (script_text setup frames)
         pub goes_on : reader.stopped ≡ None
-        pub turns : HasPlayed keeper keeper' honest holds holds' loaded start frames places
+        pub turns : HasPlayed keeper keeper' honest holds holds' loaded setup start frames places
         pub stands : StandsFor hosts (past_after start places)
 
     -- before the first turn
-    pub at_start : Laws start → (left' : Option (List ℕ)) (keeper' : ℕ) (honest : Type 0) (holds' : List Row → Type 0) (hosts : Hosts) (reader : Progress) → Consumes left left' (setup_text setup) → Opens keeper keeper' honest holds holds' loaded setup start hosts
-        → reader ≡ after_setup unread setup → Standing left' held keeper' honest holds' hosts reader [] []
-    at_start laws left' keeper' honest holds' hosts reader taken opens is = record {
+    pub at_start : Promise loaded setup start → (left' : Option (List ℕ)) (keeper' : ℕ) (honest : Type 0) (holds' : List Row → Type 0) (hosts : Hosts) (reader : Progress) → Consumes left left' (setup_text setup) → Opens keeper keeper' honest holds holds' loaded setup start hosts
+        → judged (rows start) ≡ Ok (left_of start) → reader ≡ after_setup unread setup → Standing left' held keeper' honest holds' hosts reader [] []
+    at_start promise left' keeper' honest holds' hosts reader taken opens read is = record {
       good = tt;
       taken = subst (Consumes left left') (sym (append-nil (setup_text setup))) taken;
       told = Appends-nil held;
       number = ap (λ (p : Progress). p.given) is;
       size = omega (arith, ap (λ (p : Progress). p.taken) is, ap length (append-nil (setup_text setup)));
       goes_on = ap (λ (p : Progress). p.stopped) is;
-      turns = none_played loaded start keeper holds laws keeper' honest holds' opens.later opens.kept;
+      turns = none_played loaded setup start keeper holds promise keeper' honest holds' opens.later opens.kept read;
       stands = opens.stands;
     }
 
     -- a turn whose reply was written
-    pub advance : Laws start → (left' held' : Option (List ℕ)) (keeper' : ℕ) (honest : Type 0) (holds' : List Row → Type 0) (hosts : Hosts) (reader : Progress) (frames : List ScriptFrame) (places : List Place) → Standing left' held' keeper' honest holds' hosts reader frames places
+    pub advance : Promise loaded setup start → (left' held' : Option (List ℕ)) (keeper' : ℕ) (honest : Type 0) (holds' : List Row → Type 0) (hosts : Hosts) (reader : Progress) (frames : List ScriptFrame) (places : List Place) → Standing left' held' keeper' honest holds' hosts reader frames places
         → (left'' held'' : Option (List ℕ)) (keeper'' : ℕ) (honest' : Type 0) (holds'' : List Row → Type 0) → (honest' → honest) → (after : Hosts) (frame : ScriptFrame) (answer : Answer) (place : Place) → IsFrame frame → Consumes left' left'' (frame_text frame)
-        → IsAnswer honest' holds' holds'' (past_after start places) frame answer after keeper' keeper'' place → Appends held' held'' (written (reply_of answer))
+        → IsAnswer honest' holds' holds'' (past_after start places) frame answer after keeper' keeper'' place → IsReadBy after → Appends held' held'' (written (reply_of answer))
         → (reader' : Progress) → reader' ≡ after_next reader (Some frame) → Standing left'' held'' keeper'' honest' holds'' after reader' (more frames frame) (more places place)
-    advance laws left' held' keeper' honest holds' hosts reader frames places so_far left'' held'' keeper'' honest' holds'' back after frame answer place is_frame taken is told reader' goes =
+    advance promise left' held' keeper' honest holds' hosts reader frames places so_far left'' held'' keeper'' honest' holds'' back after frame answer place is_frame taken is read told reader' goes =
         record {
           good = good_more frames frame so_far.good is_frame;
           taken = subst (Consumes left left'') (sym (script_more setup frames frame)) (Consumes-trans left left' left'' _ _ so_far.taken taken);
@@ -113,21 +116,21 @@ module _ (loaded : List Row) (setup : List ℕ) (start : Past AllOpened) where
           number = omega (arith, so_far.number, length_more frames frame, ap (λ (r : Progress). r.given) goes);
           size = omega (arith, so_far.size, ap length (script_more setup frames frame), length-append (script_text setup frames) (frame_text frame), ap (λ (r : Progress). r.taken) goes);
           goes_on = ap (λ (r : Progress). r.stopped) goes ∙ so_far.goes_on;
-          turns = one_more loaded start keeper holds laws keeper' honest holds' frames places so_far.turns keeper'' honest' holds'' back after frame answer place is;
+          turns = one_more loaded setup start keeper holds promise keeper' honest holds' frames places so_far.turns keeper'' honest' holds'' back after frame answer place is read;
           stands = stands_more start places place after is.stands;
         }
 
     -- a turn whose reply was not wholly written
-    pub stuck : Laws start → (left' held' : Option (List ℕ)) (keeper' : ℕ) (honest : Type 0) (holds' : List Row → Type 0) (hosts : Hosts) (reader : Progress) (frames : List ScriptFrame) (places : List Place) → Standing left' held' keeper' honest holds' hosts reader frames places
+    pub stuck : Promise loaded setup start → (left' held' : Option (List ℕ)) (keeper' : ℕ) (honest : Type 0) (holds' : List Row → Type 0) (hosts : Hosts) (reader : Progress) (frames : List ScriptFrame) (places : List Place) → Standing left' held' keeper' honest holds' hosts reader frames places
         → (left'' held'' : Option (List ℕ)) (keeper'' : ℕ) (honest' : Type 0) (holds'' : List Row → Type 0) → (honest' → honest) → (after : Hosts) (frame : ScriptFrame) (answer : Answer) (place : Place) → IsFrame frame → Consumes left' left'' (frame_text frame)
-        → IsAnswer honest' holds' holds'' (past_after start places) frame answer after keeper' keeper'' place → AppendsFront held' held'' (written (reply_of answer)) → (source source' sink sink' : ℕ)
+        → IsAnswer honest' holds' holds'' (past_after start places) frame answer after keeper' keeper'' place → IsReadBy after → AppendsFront held' held'' (written (reply_of answer)) → (source source' sink sink' : ℕ)
         → Played left left'' held held'' source source' sink sink' keeper keeper'' honest' holds holds'' loaded setup start (more frames frame) (more places place) × Consumes left left'' (script_text setup (more frames frame)) × BrokeOff left left'' held held'' source source' sink sink' keeper keeper'' honest' holds holds'' loaded setup start (more places place)
-    stuck laws left' held' keeper' honest holds' hosts reader frames places so_far left'' held'' keeper'' honest' holds'' back after frame answer place is_frame taken is told source source' sink sink' =
+    stuck promise left' held' keeper' honest holds' hosts reader frames places so_far left'' held'' keeper'' honest' holds'' back after frame answer place is_frame taken is read told source source' sink sink' =
         let consumed : Consumes left left'' (script_text setup (more frames frame)) = subst (Consumes left left'') (sym (script_more setup frames frame)) (Consumes-trans left left' left'' _ _ so_far.taken taken) in (
           record {
             good = good_more frames frame so_far.good is_frame;
             begins = begins_with left left'' _ consumed;
-            turns = one_more loaded start keeper holds laws keeper' honest holds' frames places so_far.turns keeper'' honest' holds'' back after frame answer place is;
+            turns = one_more loaded setup start keeper holds promise keeper' honest holds' frames places so_far.turns keeper'' honest' holds'' back after frame answer place is read;
           },
           consumed,
           record { before = places; last = place; order = refl; front = told.0; rest = told.1; cut = ap written (sym is.reply) ∙ told.2; told = Appends-trans held held' held'' _ _ so_far.told told.3 },

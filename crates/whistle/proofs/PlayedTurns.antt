@@ -1,5 +1,5 @@
 -- A generated script, played turn after turn and counted.
-use Rattle.std.proofs.Common.{◌≡◌, ◌≢◌, inl, inr, ℕ, ◌+◌, List, [], ◌∷◌, length, map, Option, refl, sym, ap, ◌∙◌, subst, arith}
+use Rattle.std.proofs.Common.{◌≡◌, ◌≢◌, inl, inr, ℕ, ◌+◌, List, [], ◌∷◌, length, map, Option, Ok, refl, sym, ap, ◌∙◌, subst, arith}
 use Rattle.std.specs.List.{sum_by}
 use Rattle.std.specs.Io.KnownBytes.{Keeps}
 use Rattle.std.proofs.lemmas.List.FromFn.{map-range_with_len_more}
@@ -9,6 +9,7 @@ use Rattle.wb_model.specs.declared.wire.ScriptFrame.{ScriptFrame}
 use Rattle.wb_model.specs.Counts.{sum_of, counts_of}
 use Rattle.wb_model.specs.Past.{Past}
 use Rattle.wb_model.specs.Pasts.{AllOpened}
+use Rattle.wb_model.specs.Rows.{rows as rows_of_past}
 use Rattle.wb_model.specs.Scripts.{Place, Reply, play, script_replies, past_after}
 use Rattle.wb_model.specs.Tenants.{Tenancy, Hosts}
 use Rattle.std.specs.Ordering.{nat_cmp}
@@ -17,6 +18,8 @@ use Rattle.wb_tables.specs.declared.counts.Counts.{Counts as DeskCounts}
 use Rattle.wb_tables.specs.Kept.{PlainTenancy as Kept, tenancy_of}
 use Rattle.wb_tables.specs.Standing.{Standing, hosts_of, counts_of as desk_counts}
 use Rattle.wb_desk.specs.Turns.{StandsFor}
+use Rattle.wb_rows.specs.Judged.{judged}
+use Rattle.wb_rows.specs.Left.{left}
 use Rattle.whistle.specs.declared.answering.Answer.{Answer}
 use Rattle.whistle.specs.declared.counting.StatusCount.{StatusCount}
 use Rattle.whistle.specs.declared.harbour.TheConstants.{HARBOUR}
@@ -29,7 +32,7 @@ use Rattle.whistle.specs.Played.{HasPlayed}
 use Rattle.wb_start.specs.Starts.{IsOpenedBy, Opens, Refuses, KeepsRows}
 use Rattle.whistle.specs.TallyText.{counted, tally_text}
 use Rattle.whistle.specs.Tallies.{PlayedTurns, IsTallyOf, Stopped, Tallied}
-use Rattle.whistle.proofs.TurnLemmas.{Laws, more, replies_more, none_played, one_more, stands_more}
+use Rattle.whistle.proofs.TurnLemmas.{Promise, IsReadBy, more, replies_more, none_played, one_more, stands_more}
 use Rattle.whistle.proofs.PlayLemmas.{length_more}
 
 -- ---- what a desk counts
@@ -59,19 +62,19 @@ module _ (keeper : ℕ) (holds : List Row → Type 0) where
     pub counts : IsCounted (script_replies played.start played.places) rows
     pub many : length (script_replies played.start played.places) ≡ turns
 
-  pub at_start : (loaded : List Row) (setup : List ℕ) (start : Past AllOpened) → setup ≡ HARBOUR.now → Laws start → (keeper' : ℕ) (honest : Type 0) (holds' : List Row → Type 0) (hosts : Hosts) → Opens keeper keeper' honest holds holds' loaded setup start hosts
+  pub at_start : (loaded : List Row) (setup : List ℕ) (start : Past AllOpened) → setup ≡ HARBOUR.now → Promise loaded HARBOUR.now start → (keeper' : ℕ) (honest : Type 0) (holds' : List Row → Type 0) (hosts : Hosts) → Opens keeper keeper' honest holds holds' loaded setup start hosts → judged (rows_of_past start) ≡ Ok (left start)
       → SoFar keeper' honest holds' hosts [] 0
-  at_start loaded setup start same laws keeper' honest holds' hosts opens = record {
-    played = record { loaded = loaded; start = start; opened = subst (λ (text : List ℕ). IsOpenedBy loaded text start) same opens.opened; places = []; played = none_played loaded start keeper holds laws keeper' honest holds' opens.later opens.kept };
+  at_start loaded setup start same promise keeper' honest holds' hosts opens read = record {
+    played = record { loaded = loaded; start = start; opened = subst (λ (text : List ℕ). IsOpenedBy loaded text start) same opens.opened; places = []; played = none_played loaded HARBOUR.now start keeper holds promise keeper' honest holds' opens.later opens.kept read };
     stands = opens.stands;
     counts = λ status. refl;
     many = refl;
   }
 
   -- one more turn
-  module _ (keeper' : ℕ) (honest : Type 0) (holds' : List Row → Type 0) (hosts : Hosts) (rows : List StatusCount) (turns : ℕ) (so_far : SoFar keeper' honest holds' hosts rows turns) (laws : Laws so_far.played.start)
+  module _ (keeper' : ℕ) (honest : Type 0) (holds' : List Row → Type 0) (hosts : Hosts) (rows : List StatusCount) (turns : ℕ) (so_far : SoFar keeper' honest holds' hosts rows turns) (promise : Promise so_far.played.loaded HARBOUR.now so_far.played.start)
       (keeper'' : ℕ) (honest' : Type 0) (holds'' : List Row → Type 0) (back : honest' → honest) (after : Hosts) (frame : ScriptFrame) (is_frame : frame ≡ frame_at (turns + 1)) (answer : Answer) (place : Place)
-      (is : IsAnswer honest' holds' holds'' (past_after so_far.played.start so_far.played.places) frame answer after keeper' keeper'' place)
+      (is : IsAnswer honest' holds' holds'' (past_after so_far.played.start so_far.played.places) frame answer after keeper' keeper'' place) (read : IsReadBy after)
     where
       frames_are : frames_from 1 (turns + 1) ≡ more (frames_from 1 turns) frame
       frames_are = map-range_with_len_more frame_at 1 turns (turns + 1) (omega arith) ∙ ap (λ f. more (frames_from 1 turns) f) (sym is_frame)
@@ -84,7 +87,7 @@ module _ (keeper : ℕ) (holds : List Row → Type 0) where
             start = was.start;
             opened = was.opened;
             places = more was.places place;
-            played = subst (λ frames. HasPlayed keeper keeper'' honest' holds holds'' was.loaded was.start frames (more was.places place)) (sym frames_are) (one_more was.loaded was.start keeper holds laws keeper' honest holds' (frames_from 1 turns) was.places was.played keeper'' honest' holds'' back after frame answer place is);
+            played = subst (λ frames. HasPlayed keeper keeper'' honest' holds holds'' was.loaded HARBOUR.now was.start frames (more was.places place)) (sym frames_are) (one_more was.loaded HARBOUR.now was.start keeper holds promise keeper' honest holds' (frames_from 1 turns) was.places was.played keeper'' honest' holds'' back after frame answer place is read);
           }
 
       pub next : (rows' : List StatusCount) → ((replies : List Reply) (reply : Reply) → IsCounted replies rows → reply.told.status ≡ answer.told.status → IsCounted (more replies reply) rows') → SoFar keeper'' honest' holds'' after rows' (turns + 1)

@@ -4,16 +4,18 @@ use Rattle.wb_base.specs.declared.rows.Row.{Row}
 use Rattle.wb_model.specs.declared.wire.ScriptFrame.{ScriptFrame}
 use Rattle.wb_model.specs.Past.{Past}
 use Rattle.wb_model.specs.Pasts.{AllOpened, standing_hosts}
-use Rattle.wb_model.specs.Playing.{IsPlaceOf, ArePlacesOf, written, output, one_by_keeper, keeper_losses, AreLossesTold}
+use Rattle.wb_model.specs.Playing.{IsPlaceOf, ArePlacesOf, written, output, one_by_keeper, keeper_losses}
 use Rattle.wb_model.specs.Scripts.{Place, IsPossible, ArePossible, play, script_replies, past_after}
 use Rattle.wb_model.specs.Rows.{rows}
 use Rattle.wb_model.specs.Tenants.{Hosts}
 use Rattle.wb_desk.specs.Turns.{StandsFor}
 use Rattle.whistle.specs.declared.answering.Answer.{Answer}
 use Rattle.whistle.specs.Answered.{IsAnswer}
-use Rattle.whistle.specs.Headline.{KeepsIdentities, ForgetsReports}
 use Rattle.whistle.specs.Played.{HasPlayed}
-use Rattle.whistle.proofs.SubmissionLemmas.{all_well}
+use Rattle.wb_promise.specs.Promises.{IsAsPromised}
+use Rattle.wb_rows.specs.Judged.{judged}
+use Rattle.wb_rows.specs.Left.{left}
+use Rattle.std.specs.Prelude.{Ok}
 
 -- one more at the end
 abbrev pub more : {X : Type 0} → List X → X → List X
@@ -46,37 +48,37 @@ losses_more : (ps : List Place) (p : Place) → keeper_losses (more ps p) ≡ ke
 losses_more [] p = omega arith
 losses_more (q ∷ ps) p = omega (arith, losses_more ps p)
 
--- the laws of scripts, said of what is played from a past that was opened
-pub record Laws (start : Past AllOpened) : Type 0 where
-  pub losses : (frames : List ScriptFrame) (places : List Place) → ArePlacesOf frames places → ArePossible start places → AreLossesTold start places
-  pub identities : (frames : List ScriptFrame) (places : List Place) → ArePlacesOf frames places → KeepsIdentities start frames places
-  pub absence : (frames : List ScriptFrame) (places : List Place) → ArePlacesOf frames places → ForgetsReports start frames places
+-- what is promised of each script that is played from the past that rows and a setup opened
+abbrev pub Promise : List Row → List ℕ → Past AllOpened → Type 0
+Promise loaded setup start = (frames : List ScriptFrame) (places : List Place) → ArePlacesOf frames places → ArePossible start places → IsAsPromised loaded setup start frames places
+
+-- the rows of the pasts that these hosts stand for are read as what they hold
+abbrev pub IsReadBy : Hosts → Type 0
+IsReadBy after = (past : Past AllOpened) → StandsFor after past → judged (rows past) ≡ Ok (left past)
 
 -- the hosts after one more
 pub stands_more : (start : Past AllOpened) (places : List Place) (place : Place) (after : Hosts) → StandsFor after (play (past_after start places) place).past → StandsFor after (past_after start (more places place))
 stands_more start places place after stands = stands ∙ ap standing_hosts (sym (past_more start places place))
 
--- of loaded rows and the past that they open, and what the keeper counted and held before
-module _ (loaded : List Row) (start : Past AllOpened) (keeper : ℕ) (holds : List Row → Type 0) where
+-- of loaded rows, a setup and the past that they open, and what the keeper counted and held before
+module _ (loaded : List Row) (setup : List ℕ) (start : Past AllOpened) (keeper : ℕ) (holds : List Row → Type 0) where
   -- before the first turn
-  pub none_played : Laws start → (keeper' : ℕ) (honest : Type 0) (holds' : List Row → Type 0) → keeper ≤ keeper' → (honest → (before : List Row) → holds before → (before ≡ loaded) × holds' (rows start))
-      → HasPlayed keeper keeper' honest holds holds' loaded start [] []
-  none_played laws keeper' honest holds' later kept = record {
+  pub none_played : Promise loaded setup start → (keeper' : ℕ) (honest : Type 0) (holds' : List Row → Type 0) → keeper ≤ keeper' → (honest → (before : List Row) → holds before → (before ≡ loaded) × holds' (rows start)) → judged (rows start) ≡ Ok (left start)
+      → HasPlayed keeper keeper' honest holds holds' loaded setup start [] []
+  none_played promise keeper' honest holds' later kept read = record {
     placed = tt;
     possible = tt;
     counted = omega (arith, later);
     kept = kept;
-    losses = tt;
-    submissions = tt;
-    identities = laws.identities [] [] tt;
-    absence = laws.absence [] [] tt;
+    read_back = read;
+    promised = promise [] [] tt tt;
   }
 
   -- one more frame
-  pub one_more : Laws start → (keeper' : ℕ) (honest : Type 0) (holds' : List Row → Type 0) (frames : List ScriptFrame) (places : List Place) → HasPlayed keeper keeper' honest holds holds' loaded start frames places
-      → (keeper'' : ℕ) (honest' : Type 0) (holds'' : List Row → Type 0) → (honest' → honest) → (after : Hosts) (frame : ScriptFrame) (answer : Answer) (place : Place) → IsAnswer honest' holds' holds'' (past_after start places) frame answer after keeper' keeper'' place
-      → HasPlayed keeper keeper'' honest' holds holds'' loaded start (more frames frame) (more places place)
-  one_more laws keeper' honest holds' frames places so_far keeper'' honest' holds'' back after frame answer place is =
+  pub one_more : Promise loaded setup start → (keeper' : ℕ) (honest : Type 0) (holds' : List Row → Type 0) (frames : List ScriptFrame) (places : List Place) → HasPlayed keeper keeper' honest holds holds' loaded setup start frames places
+      → (keeper'' : ℕ) (honest' : Type 0) (holds'' : List Row → Type 0) → (honest' → honest) → (after : Hosts) (frame : ScriptFrame) (answer : Answer) (place : Place) → IsAnswer honest' holds' holds'' (past_after start places) frame answer after keeper' keeper'' place → IsReadBy after
+      → HasPlayed keeper keeper'' honest' holds holds'' loaded setup start (more frames frame) (more places place)
+  one_more promise keeper' honest holds' frames places so_far keeper'' honest' holds'' back after frame answer place is read =
       let placed : ArePlacesOf (more frames frame) (more places place) = placed_more frames places frame place so_far.placed is.of_frame in
       let possible : ArePossible start (more places place) = possible_more start places place so_far.possible is.possible in
       record {
@@ -84,8 +86,6 @@ module _ (loaded : List Row) (start : Past AllOpened) (keeper : ℕ) (holds : Li
         possible = possible;
         counted = omega (arith, so_far.counted, losses_more places place, is.counted);
         kept = λ h before held. let was = so_far.kept (back h) before held in (was.0, subst (λ past. holds'' (rows past)) (sym (past_more start places place)) (is.kept h was.1));
-        losses = laws.losses (more frames frame) (more places place) placed possible;
-        submissions = all_well start (more places place);
-        identities = laws.identities (more frames frame) (more places place) placed;
-        absence = laws.absence (more frames frame) (more places place) placed;
+        read_back = read (past_after start (more places place)) (stands_more start places place after is.stands);
+        promised = promise (more frames frame) (more places place) placed possible;
       }

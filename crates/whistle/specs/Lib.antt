@@ -1,6 +1,4 @@
 pub mod Answered
-pub mod Submissions
-pub mod Headline
 pub mod Played
 pub mod Runs
 pub mod Exits

@@ -29,7 +29,7 @@ module _ (left left' held held' : Option (List ℕ)) (source source' sink sink' 
     pub record Played (frames : List ScriptFrame) (places : List Place) : Type 0 where
       pub good : AllByRecursion IsFrame frames
       pub begins : IfSome left (λ text. (rest : List ℕ) × (text ≡ script_text setup frames ++ rest))
-      pub turns : HasPlayed keeper keeper' honest holds holds' loaded start frames places
+      pub turns : HasPlayed keeper keeper' honest holds holds' loaded setup start frames places
 
     -- and wrote each reply
     pub record Wrote (frames : List ScriptFrame) (places : List Place) : Type 0 where

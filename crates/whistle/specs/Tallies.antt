@@ -25,7 +25,7 @@ module _ (keeper keeper' : ℕ) (honest : Type 0) (holds holds' : List Row → T
     pub start : Past AllOpened
     pub opened : IsOpenedBy loaded HARBOUR.now start
     pub places : List Place
-    pub played : HasPlayed keeper keeper' honest holds holds' loaded start (frames_from 1 turns) places
+    pub played : HasPlayed keeper keeper' honest holds holds' loaded HARBOUR.now start (frames_from 1 turns) places
 
   -- the text is their tally: how often each status is among the replies, and what the host counts at the end
   abbrev pub IsTallyOf : (turns : ℕ) → PlayedTurns turns → List ℕ → Type 0

@@ -1,12 +1,15 @@
 //! One frame of a script, answered and written.
-ghost use Rattle.std.specs.Prelude.{◌≡◌, ◌<◌, ◌≤◌, ◌+◌, OnOk, OnErr};
+ghost use Rattle.std.specs.Prelude.{◌≡◌, ◌<◌, ◌≤◌, ◌+◌, Ok, OnOk, OnErr};
 ghost use Rattle.std.specs.Io.KnownBytes.{Appends};
 ghost use Rattle.wb_base.specs.Outside.{AppendsFront, HasCause};
 ghost use Rattle.wb_model.specs.Past.{Past};
 ghost use Rattle.wb_model.specs.Pasts.{AllOpened};
 ghost use Rattle.wb_model.specs.Playing.{written};
 ghost use Rattle.wb_model.specs.Replies.{fault_told, fault_allow as listed_path};
+ghost use Rattle.wb_model.specs.Rows.{rows};
 ghost use Rattle.wb_model.specs.Scripts.{Place};
+ghost use Rattle.wb_rows.specs.Judged.{judged};
+ghost use Rattle.wb_rows.specs.Left.{left};
 ghost use Rattle.wb_tables.specs.Standing.{hosts_of};
 ghost use Rattle.wb_desk.specs.Turns.{StandsFor};
 ghost use Rattle.whistle.specs.Answered.{reply_of, IsAnswer};
@@ -15,6 +18,7 @@ use std::alloc::Global;
 use wb_base::{Failed, Keeper, Sink};
 use wb_desk::Desk;
 use wb_model::{Body, Told};
+use wb_promise::a_desk_leaves_rows_that_are_read;
 use wb_wire::{
     PathNo, Routes, ScriptFrame, WireNo, fault_allow, fault_body, fault_status, read_request,
     reply_head, reply_line,
@@ -52,16 +56,26 @@ pub fn answer_frame<K: Keeper>(
 ) -> Answer
     requires { desk.old.turns < 1_000_000_000_000_000 }
     ensures answer { (past : Past AllOpened) → StandsFor (hosts_of desk.old) past → (place : Place) × IsAnswer (K.honest keeper.new) (K.holds keeper.old) (K.holds keeper.new) past frame.now result (hosts_of desk.new) (K.count keeper.old) (K.count keeper.new) place }
+    // The rows of what the host holds then are refused by no rule, and are read as that.
+    ensures read_back { (past : Past AllOpened) → StandsFor (hosts_of desk.new) past → judged (rows past) ≡ Ok (left past) }
     ensures turns { desk.new.turns ≤ desk.old.turns + 1 }
     ensures back { K.honest keeper.new → K.honest keeper.old }
 {
+    a_desk_leaves_rows_that_are_read();
     match read_request(alloc, routes, frame.bytes.as_slice()) {
-        Ok(asked) => Answer {
-            told: desk.step(keeper, &asked, frame.moment, &frame.words),
-            allow: None,
-            close: asked.close,
-        },
-        Err(no) => refusal(&no),
+        Ok(asked) => {
+            let told = desk.step(keeper, &asked, frame.moment, &frame.words);
+            desk.stands();
+            Answer {
+                told,
+                allow: None,
+                close: asked.close,
+            }
+        }
+        Err(no) => {
+            desk.stands();
+            refusal(&no)
+        }
     }
 }
 

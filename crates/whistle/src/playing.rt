@@ -15,9 +15,9 @@ ghost use Rattle.whistle.specs.Runs.{Ran, script_text};
 use crate::answering::{answer_frame, write_answer};
 use std::alloc::Global;
 use wb_base::{Keeper, Memory, Sink, Source};
-use wb_model::{absence_over_scripts, alike_scripts_get_the_same_replies, losses_are_told};
+use wb_promise::{a_desk_leaves_rows_that_are_read, each_script_is_as_promised};
 use wb_start::{Status, open};
-use wb_wire::{FrameNo, FrameReader, Routes, one_frame, one_reading, one_setup};
+use wb_wire::{FrameNo, FrameReader, Routes, one_frame, one_setup};
 
 // Plays the setup's frame and frame after frame.
 fn play<S: Source, W: Sink, K: Keeper>(
@@ -33,15 +33,14 @@ fn play<S: Source, W: Sink, K: Keeper>(
     ensures read_on { result ≢ Status.ReadFault → S.count source.new ≡ S.count source.old }
     ensures written_on { result ≢ Status.WriteFault → W.count sink.new ≡ W.count sink.old }
 {
-    one_reading();
-    losses_are_told();
-    alike_scripts_get_the_same_replies();
-    absence_over_scripts();
+    each_script_is_as_promised();
+    a_desk_leaves_rows_that_are_read();
     let mut reader = FrameReader::new();
     let mut desk = match open(alloc, &mut reader, source, keeper) {
         Ok(desk) => desk,
         Err(status) => return status,
     };
+    desk.stands();
     loop {
         match reader.next(alloc, source) {
             Ok(Some(frame)) => {

@@ -11,10 +11,10 @@ use crate::tally_lines::write_tally;
 use std::alloc::Global;
 use wb_base::{Keeper, Memory, Sink};
 use wb_list::Sorted;
-use wb_model::{absence_over_scripts, alike_scripts_get_the_same_replies, losses_are_told};
+use wb_promise::{a_desk_leaves_rows_that_are_read, each_script_is_as_promised};
 use wb_start::{Status, open_by};
 use wb_tables::Counts;
-use wb_wire::{Routes, one_reading};
+use wb_wire::Routes;
 
 // What a tally tells of the turns that were played.
 #[derive(Drop)]
@@ -35,14 +35,13 @@ fn play_turns<K: Keeper>(
     ensures err { IfErr result (λ status. Stopped (K.count keeper.old) (K.count keeper.new) (K.honest keeper.new) (K.holds keeper.old) (K.holds keeper.new) turns status) }
     ensures back { K.honest keeper.new → K.honest keeper.old }
 {
-    one_reading();
-    losses_are_told();
-    alike_scripts_get_the_same_replies();
-    absence_over_scripts();
+    each_script_is_as_promised();
+    a_desk_leaves_rows_that_are_read();
     let mut desk = match open_by(alloc, keeper, HARBOUR.as_bytes()) {
         Ok(desk) => desk,
         Err(status) => return Err(status),
     };
+    desk.stands();
     let mut statuses = Sorted::new(alloc);
     for before in 0..turns {
         let Ok(frame) = script_frame(alloc, before + 1) else {

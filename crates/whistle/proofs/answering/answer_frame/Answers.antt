@@ -6,8 +6,8 @@ use Rattle.whistle.proofs.answering.answer_frame.Goals as goal
 
 pub returns-in-Ok-clause-answer : goal.returns-in-Ok-clause-answer
 returns-in-Ok-clause-answer g c = λ past stands.
-    asked (g.K.Keeper.honest c.step.new.keeper) (g.K.Keeper.holds c.args.keeper.now) (g.K.Keeper.holds c.step.new.keeper) past c.args.frame.now c.step.result c.in-Ok.asked (hosts_of c.step.new.self) (g.K.Keeper.count c.args.keeper.now) (g.K.Keeper.count c.step.new.keeper)
-    (subst (λ (bytes : List ℕ). Reads bytes (Asks c.in-Ok.asked)) c.as_slice.ensures c.in-Ok.ensures.ok) (c.step.ensures.turn c.requires past stands)
+    asked (g.K.Keeper.honest c.step-told.new.keeper) (g.K.Keeper.holds c.args.keeper.now) (g.K.Keeper.holds c.step-told.new.keeper) past c.args.frame.now c.step-told.result c.in-Ok.asked (hosts_of c.step-told.new.self) (g.K.Keeper.count c.args.keeper.now) (g.K.Keeper.count c.step-told.new.keeper)
+    (subst (λ (bytes : List ℕ). Reads bytes (Asks c.in-Ok.asked)) c.as_slice.ensures c.in-Ok.ensures.ok) (c.step-told.ensures.turn c.requires past stands)
 
 pub returns-in-Err-clause-answer : goal.returns-in-Err-clause-answer
 returns-in-Err-clause-answer g c = λ past stands.
@@ -15,3 +15,9 @@ returns-in-Err-clause-answer g c = λ past stands.
     (λ ne. subst (λ (bytes : List ℕ). Reads bytes (Refuses c.in-Err.no.fault c.in-Err.no.close)) c.as_slice.ensures (c.in-Err.ensures.refused ne))
     (λ e. subst (λ (bytes : List ℕ). Closes bytes c.in-Err.no.close) c.as_slice.ensures (c.in-Err.ensures.memory e))
     (λ e a reads. c.in-Err.ensures.health e a (subst (λ (bytes : List ℕ). Reads bytes (Asks a)) (sym c.as_slice.ensures) reads)) stands c.refusal.ensures
+
+pub returns-in-Ok-clause-read_back : goal.returns-in-Ok-clause-read_back
+returns-in-Ok-clause-read_back g c = λ past stands. c.a_desk_leaves_rows_that_are_read.ensures c.step-told.new.self past c.stands.ensures stands
+
+pub returns-in-Err-clause-read_back : goal.returns-in-Err-clause-read_back
+returns-in-Err-clause-read_back g c = λ past stands. c.a_desk_leaves_rows_that_are_read.ensures c.args.desk.now past c.stands-in-Err.ensures stands

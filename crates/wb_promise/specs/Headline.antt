@@ -1,6 +1,7 @@
--- The two halves of what a host promises, of the frames that it played: scripts whose bytes differ in one report's valid identity
--- answers alone, and the script in which a report's submission only drew a number.
+-- The two halves of what a host promises, of a report that is submitted in the frames that it played: scripts whose bytes differ in its
+-- valid identity answers alone, and the script in which its submission only drew a number.
 use Rattle.std.specs.Prelude.{◌≡◌, ◌⊎◌, ℕ, zero, suc, Bool, true, false, List, [], ◌∷◌, map, Option, Some, option_map}
+use Rattle.wb_base.specs.declared.rows.Row.{Row}
 use Rattle.wb_base.specs.declared.words.Words.{Words}
 use Rattle.wb_model.specs.declared.command.Asked.{Asked}
 use Rattle.wb_model.specs.declared.wire.ScriptFrame.{ScriptFrame}
@@ -10,10 +11,12 @@ use Rattle.wb_model.specs.Past.{Past, live}
 use Rattle.wb_model.specs.Pasts.{AllOpened, standing_hosts, part, time}
 use Rattle.wb_model.specs.Playing.{IsPlaceOf, ArePlacesOf, written}
 use Rattle.wb_model.specs.Readings.{Asks, Reads}
+use Rattle.wb_model.specs.OtherOpenings.{rows_without}
 use Rattle.wb_model.specs.Rows.{rows, rows_but}
 use Rattle.wb_model.specs.Absence.{Item, Stands, Skips, BeginsAt, DrawOthersAfter, replies, past_with, replies_after, is_purged_after, holds, NoneIsLost}
 use Rattle.wb_model.specs.Scripts.{Place, Reply, play, script_replies, past_after}
 use Rattle.wb_model.specs.ScriptsAlike.{is_accepted, hidden_replies}
+use Rattle.wb_start.specs.Starts.{IsOpenedBy}
 
 -- ---- scripts
 
@@ -66,13 +69,16 @@ AreLostAlike (p ∷ ps) (q ∷ qs) = (p.loss ≡ q.loss) × AreLostAlike ps qs
 abbrev pub hidden_output : ℕ → ℕ → Past AllOpened → List Place → List Reply → List (Option (List ℕ))
 hidden_output t r past places replies = map (λ (x : Option Reply). option_map written x) (hidden_replies t r past places replies)
 
--- the replies to the frames that were played as these places are byte for byte those of each script that differs in one report's
--- valid identity answers alone and loses the same at each place, but where one of that report's readers asks; and so are the rows at
--- the end, but for the one that has that report's identity answers
-abbrev pub KeepsIdentities : Past AllOpened → List ScriptFrame → List Place → Type 0
-KeepsIdentities past frames places = (i t r : ℕ) (others : List ScriptFrame) (theirs : List Place) → ArePlacesOf others theirs → AreLostAlike places theirs → FramesAlike i t r past frames places others →
-    (hidden_output t r past places (script_replies past places) ≡ hidden_output t r past places (script_replies past theirs))
-    × (rows_but t r (rows (past_after past places)) ≡ rows_but t r (rows (past_after past theirs)))
+-- two scripts that were played from these pasts: each reply is byte for byte the same, but where one of that report's readers asks; and so
+-- are the rows at the end, but for the one that has that report's identity answers
+pub record AreAnsweredAlike (t r : ℕ) (start other : Past AllOpened) (places theirs : List Place) : Type 0 where
+  pub replies : hidden_output t r start places (script_replies start places) ≡ hidden_output t r start places (script_replies other theirs)
+  pub rows : rows_but t r (rows (past_after start places)) ≡ rows_but t r (rows (past_after other theirs))
+
+-- over the same kept rows and setup: each script that differs in the valid identity answers of one report alone, which is submitted in it, and
+-- that loses the same at each place, is answered alike
+abbrev pub KeepsIdentities : List Row → List ℕ → Past AllOpened → List ScriptFrame → List Place → Type 0
+KeepsIdentities loaded setup start frames places = (i t r : ℕ) (other : Past AllOpened) (others : List ScriptFrame) (theirs : List Place) → IsOpenedBy loaded setup other → ArePlacesOf others theirs → AreLostAlike places theirs → FramesAlike i t r start frames places others → AreAnsweredAlike t r start other places theirs
 
 -- ---- the script in which a submission only drew a number
 
@@ -118,12 +124,13 @@ bytes_of xs = map (λ (x : Option Reply). option_map written x) xs
 
 -- the script in which a submission only drew a number has these replies from the place on at which its report is purged; and the same
 -- hosts at the end, where those that were left do not hold the report. They do not once it is purged, nor where nothing is lost and the
--- report, expired or deleted, is not live at the end
+-- report, expired or deleted, is not live at the end. Its rows at the end are, at any time, those without the report's
 pub record IsForgotten (past : Past AllOpened) (places : List Place) (i t r : ℕ) (items : List Item) : Type 0 where
   pub replies : bytes_of (replies_after i t r past places (map Some (script_replies past places))) ≡ bytes_of (replies_after i t r past places (replies past items))
   pub hosts : holds t r (past_after past places) ≡ false → standing_hosts (past_with past items) ≡ standing_hosts (past_after past places)
   pub purged : is_purged_after i t r past places ≡ true → holds t r (past_after past places) ≡ false
   pub gone : NoneIsLost places → live (part t (past_after past places)) r (time (past_after past places)) ≡ false → holds t r (past_after past places) ≡ false
+  pub rows : rows (past_with past items) ≡ rows_without t r (rows (past_after past places))
 
 -- where a submission among the frames that were played as these places drew the number r of tenant t, and no later submission to t draws
 -- its receipt while the report is live, the report is forgotten: byte for byte, by the script in which it only drew the number and the

@@ -6,11 +6,13 @@ use Rattle.wb_model.specs.declared.wire.ScriptFrame.{ScriptFrame}
 use Rattle.wb_model.specs.Past.{Past, live}
 use Rattle.wb_model.specs.Pasts.{AllOpened, standing_hosts, part, time}
 use Rattle.wb_model.specs.Playing.{IsPlaceOf, ArePlacesOf}
+use Rattle.wb_model.specs.OtherOpenings.{rows_without}
 use Rattle.wb_model.specs.Readings.{Reading, Reads}
+use Rattle.wb_model.specs.Rows.{rows}
 use Rattle.wb_model.specs.Scripts.{Place, script_replies, past_after}
 use Rattle.wb_model.specs.Absence.{Item, Stands, Skips, replies, past_with, without_place, AreApart, BeginsAt, DrawOthersAfter, is_purged_after, replies_after, holds, NoneIsLost}
-use Rattle.whistle.specs.Headline.{Framed, Skipped, without_frame, IsItemOf, AreItemsOf, LosesAlike, LoseAlike, bytes_of, ForgetsReports}
-use Rattle.whistle.proofs.Identities.{of_one}
+use Rattle.wb_promise.specs.Headline.{Framed, Skipped, without_frame, IsItemOf, AreItemsOf, LosesAlike, LoseAlike, bytes_of, ForgetsReports}
+use Rattle.wb_promise.proofs.Identities.{of_one}
 
 same_skip : (m n : ℕ) (w v : Words) (t u : ℕ) → m ≡ n → w ≡ v → t ≡ u → Skips m w t ≡ Skips n v u
 same_skip m n w v t u a b c = λ i. Skips (a i) (b i) (c i)
@@ -50,7 +52,9 @@ module _ (one_reading : (bytes : List ℕ) (a b : Reading) → Reads bytes a →
       (by_purge : (i t r : ℕ) (past : Past AllOpened) (places : List Place) → AreApart t past → BeginsAt i t r past places → DrawOthersAfter i t r past places → is_purged_after i t r past places ≡ true
       → holds t r (past_after past places) ≡ false)
       (by_life : (i t r : ℕ) (past : Past AllOpened) (places : List Place) → BeginsAt i t r past places → NoneIsLost places → live (part t (past_after past places)) r (time (past_after past places)) ≡ false
-      → holds t r (past_after past places) ≡ false) where
+      → holds t r (past_after past places) ≡ false)
+      (by_rows : (i t r : ℕ) (past : Past AllOpened) (places : List Place) → AreApart t past → BeginsAt i t r past places → DrawOthersAfter i t r past places
+      → rows (past_with past (without_place i t places)) ≡ rows_without t r (rows (past_after past places))) where
     pub forgets : (past : Past AllOpened) → ((t : ℕ) → AreApart t past) → (frames : List ScriptFrame) (places : List Place) → ArePlacesOf frames places → ForgetsReports past frames places
     forgets past apart frames places placed i t r items are lost begins others =
         let same : items ≡ without_place i t places = items_are i t frames places items placed lost are in record {
@@ -58,4 +62,5 @@ module _ (one_reading : (bytes : List ℕ) (a b : Reading) → Reads bytes a →
           hosts = λ gone. ap (λ xs. standing_hosts (past_with past xs)) same ∙ by_hosts i t r past places (apart t) begins others gone;
           purged = by_purge i t r past places (apart t) begins others;
           gone = by_life i t r past places begins;
+          rows = ap (λ xs. rows (past_with past xs)) same ∙ by_rows i t r past places (apart t) begins others;
         }

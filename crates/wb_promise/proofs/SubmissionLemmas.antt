@@ -28,7 +28,7 @@ use Rattle.wb_model.specs.ShortViews.{submission_view}
 use Rattle.wb_model.specs.Submissions.{Drawing, drawing}
 use Rattle.wb_model.specs.Tables.{Plain, Registry, context as context_by, newest_form}
 use Rattle.wb_model.specs.Tenants.{without_tenant}
-use Rattle.whistle.specs.Submissions.{IsWelcome, IsGoodSubmission, IsWellAnswered, AreWellAnswered}
+use Rattle.wb_promise.specs.Submissions.{IsWelcome, IsGoodSubmission, IsWellAnswered, AreWellAnswered}
 
 -- what is not refused is answered
 well : (refusal : Option Told) (change : Change) (answer : Answer) (sealed : Sealed) (told : Told) → refusal ≡ None → answer ≡ Says told → told.status ≡ 201 → IsWellAnswered (reply_by (judged refusal change answer) sealed)

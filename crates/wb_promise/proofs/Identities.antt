@@ -1,6 +1,7 @@
 -- The replies to a script that was played keep identities, from the law of scripts.
 use Rattle.std.proofs.Common.{zero, suc, ◌≡◌, inl, inr, ℕ, Bool, true, false, List, [], ◌∷◌, Option, refl, sym, ap, ◌∙◌, subst}
 use Rattle.std.specs.Prelude.{map, option_map}
+use Rattle.wb_base.specs.declared.rows.Row.{Row}
 use Rattle.wb_model.specs.declared.command.Asked.{Asked}
 use Rattle.wb_model.specs.declared.wire.ScriptFrame.{ScriptFrame}
 use Rattle.wb_model.specs.Requests.{Frame}
@@ -12,7 +13,8 @@ use Rattle.wb_model.specs.Readings.{Reading, Asks, Reads}
 use Rattle.wb_model.specs.Rows.{rows, rows_but}
 use Rattle.wb_model.specs.Scripts.{Place, Reply, frame_of, play, script_replies, past_after}
 use Rattle.wb_model.specs.ScriptsAlike.{AskAlike, PlaceAlike, AllPlacesAlike, FollowWhere, PlacesAlike, is_accepted, hidden_replies}
-use Rattle.whistle.specs.Headline.{FramesAsk, frame_asking, FrameAlike, AllFramesAlike, FramesFollow, FramesAlike, AreLostAlike, KeepsIdentities}
+use Rattle.wb_promise.specs.Headline.{FramesAsk, frame_asking, FrameAlike, AllFramesAlike, FramesFollow, FramesAlike, AreLostAlike, AreAnsweredAlike, KeepsIdentities}
+use Rattle.wb_start.specs.Starts.{IsOpenedBy}
 
 -- ---- bytes are read in one way
 module _ (one_reading : (bytes : List ℕ) (a b : Reading) → Reads bytes a → Reads bytes b → a ≡ b) where
@@ -43,7 +45,7 @@ module _ (one_reading : (bytes : List ℕ) (a b : Reading) → Reads bytes a →
   later_place t r past f g p q x y a (inl e) = inl (of_one f g p q x y a e)
   later_place t r past f g p q x y a (inr ask) = inr (ask_places (OneLaterAlike t r (standing_hosts past)) f g p q x y a ask)
 
-  later_places : (t r : ℕ) (past : Past AllOpened) (fs gs : List ScriptFrame) (ps qs : List Place) → ArePlacesOf fs ps → ArePlacesOf gs qs → AreLostAlike ps qs → AllFramesAlike t r past fs ps gs → AllPlacesAlike t r past ps qs
+  pub later_places : (t r : ℕ) (past : Past AllOpened) (fs gs : List ScriptFrame) (ps qs : List Place) → ArePlacesOf fs ps → ArePlacesOf gs qs → AreLostAlike ps qs → AllFramesAlike t r past fs ps gs → AllPlacesAlike t r past ps qs
   later_places t r past [] [] [] [] x y a l = tt
   later_places t r past (f ∷ fs) (g ∷ gs) (p ∷ ps) (q ∷ qs) x y a l = (later_place t r past f g p q x.0 y.0 a.0 l.0, later_places t r (play past p).past fs gs ps qs x.1 y.1 a.1 l.1)
   later_places t r past [] (g ∷ gs) ps qs x y a l = absurd l
@@ -54,7 +56,7 @@ module _ (one_reading : (bytes : List ℕ) (a b : Reading) → Reads bytes a →
   later_places t r past (f ∷ fs) (g ∷ gs) [] qs x y a l = absurd x
   later_places t r past (f ∷ fs) (g ∷ gs) (p ∷ ps) [] x y a l = absurd y
 
-  same_places : (fs gs : List ScriptFrame) (ps qs : List Place) → ArePlacesOf fs ps → ArePlacesOf gs qs → AreLostAlike ps qs → fs ≡ gs → ps ≡ qs
+  pub same_places : (fs gs : List ScriptFrame) (ps qs : List Place) → ArePlacesOf fs ps → ArePlacesOf gs qs → AreLostAlike ps qs → fs ≡ gs → ps ≡ qs
   same_places fs gs ps qs x y a e = by fs ps qs x (subst (λ hs. ArePlacesOf hs qs) (sym e) y) a
     where
       by : (fs : List ScriptFrame) (ps qs : List Place) → ArePlacesOf fs ps → ArePlacesOf fs qs → AreLostAlike ps qs → ps ≡ qs
@@ -84,10 +86,14 @@ module _ (one_reading : (bytes : List ℕ) (a b : Reading) → Reads bytes a →
   alike_places zero t r past (f ∷ fs) (g ∷ gs) (p ∷ ps) [] x y a l = absurd y
   alike_places (suc i) t r past (f ∷ fs) (g ∷ gs) (p ∷ ps) [] x y a l = absurd y
 
-  -- and alike scripts get the same replies, and leave the same rows
-  module _ (by_replies : (i t r : ℕ) (past : Past AllOpened) (places others : List Place) → PlacesAlike i t r past places others → hidden_replies t r past places (script_replies past places) ≡ hidden_replies t r past places (script_replies past others))
+  -- and alike scripts get the same replies, and leave the same rows, over each past that the rows and the setup open
+  module _ (one_start : (loaded : List Row) (setup : List ℕ) (start other : Past AllOpened) → IsOpenedBy loaded setup start → IsOpenedBy loaded setup other → start ≡ other)
+      (by_replies : (i t r : ℕ) (past : Past AllOpened) (places others : List Place) → PlacesAlike i t r past places others → hidden_replies t r past places (script_replies past places) ≡ hidden_replies t r past places (script_replies past others))
       (by_rows : (i t r : ℕ) (past : Past AllOpened) (places others : List Place) → PlacesAlike i t r past places others → rows_but t r (rows (past_after past places)) ≡ rows_but t r (rows (past_after past others))) where
-    pub keeps : (past : Past AllOpened) (frames : List ScriptFrame) (places : List Place) → ArePlacesOf frames places → KeepsIdentities past frames places
-    keeps past frames places placed i t r others theirs theirs_placed lost alike =
-        let same = alike_places i t r past frames others places theirs placed theirs_placed lost alike in
-        (ap (map (λ (x : Option Reply). option_map written x)) (by_replies i t r past places theirs same), by_rows i t r past places theirs same)
+    pub keeps : (loaded : List Row) (setup : List ℕ) (start : Past AllOpened) (frames : List ScriptFrame) (places : List Place) → IsOpenedBy loaded setup start → ArePlacesOf frames places → KeepsIdentities loaded setup start frames places
+    keeps loaded setup start frames places opened placed i t r other others theirs other_opened theirs_placed lost alike =
+        let same = alike_places i t r start frames others places theirs placed theirs_placed lost alike in
+        subst (λ past. AreAnsweredAlike t r start past places theirs) (one_start loaded setup start other opened other_opened) (record {
+          replies = ap (map (λ (x : Option Reply). option_map written x)) (by_replies i t r start places theirs same);
+          rows = by_rows i t r start places theirs same;
+        })

@@ -1,0 +1,4 @@
+pub mod Headline
+pub mod OlderReports
+pub mod Promises
+pub mod Submissions
