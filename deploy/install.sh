@@ -1,0 +1,89 @@
+#!/bin/sh
+# Puts a host into service on Debian: the program, its setup, its unit, the pages and nginx. The first run leaves a setup to look
+# through, the second starts the host. Each later one is an upgrade: a setup, a certificate and reports that are there stay.
+#
+#   sudo deploy/install.sh report.example.org [PROGRAM]
+#
+# PROGRAM is the program as it was built, crates/whistle/out/whistle where it is left out. With DESTDIR=FOLDER all is put below
+# that folder, and nothing of the machine is changed: no package, user or service.
+set -eu
+umask 022
+
+[ $# -ge 1 ] || { sed -n '2,8s/^# \{0,1\}//p' "$0" >&2; exit 2; }
+here=$(cd "$(dirname "$0")/.." && pwd)
+name=$1
+program=${2:-$here/crates/whistle/out/whistle}
+root=${DESTDIR:-}
+case $name in *[!a-z0-9.-]* | '') echo "install.sh: $name is no name of a host" >&2; exit 2 ;; esac
+[ -f "$program" ] || { echo "install.sh: there is no program at $program: build it first (docs/OPERATING.md)" >&2; exit 1; }
+
+on_machine() { [ -z "$root" ]; }
+
+if on_machine; then
+    [ "$(id -u)" -eq 0 ] || { echo 'install.sh: run it as root' >&2; exit 1; }
+    missing=
+    for tool in nginx openssl curl; do command -v "$tool" >/dev/null || missing="$missing $tool"; done
+    [ -z "$missing" ] || DEBIAN_FRONTEND=noninteractive apt-get install -y --no-install-recommends $missing
+    id whistle >/dev/null 2>&1 ||
+        useradd --system --user-group --home-dir /nonexistent --no-create-home --shell /usr/sbin/nologin whistle
+fi
+
+# The program stands beside the old one until it is whole, so that a running host is not disturbed.
+install -D -m 755 "$program" "$root/usr/local/bin/whistle.new"
+mv -f "$root/usr/local/bin/whistle.new" "$root/usr/local/bin/whistle"
+
+# The pages, and none that an older version had.
+pages=$root/usr/share/whistle/web
+rm -rf "$pages"
+for file in $(cd "$here/web" && find index.html office.html icon.svg style.css scripts texts -type f); do
+    install -D -m 644 "$here/web/$file" "$pages/$file"
+done
+
+# The setup, with a salt and passwords of its own. It is readable by root and the host alone.
+setup=$root/etc/whistle/setup.toml
+is_fresh=no
+if [ ! -f "$setup" ]; then
+    is_fresh=yes
+    install -d -m 750 "$root/etc/whistle"
+    (umask 077 && cp "$here/deploy/setup.toml" "$setup.new")
+    # (from standard input, so that no list of processes shows them)
+    for word in SALT RECIPIENT DEPUTY CUSTODIAN ADMIN; do printf 's/REPLACE-%s/%s/\n' $word "$(openssl rand -hex 16)"; done |
+        sed -i -f - "$setup.new"
+    mv "$setup.new" "$setup"
+fi
+if on_machine; then chown root:whistle /etc/whistle "$setup"; fi
+chmod 640 "$setup"
+
+# A certificate of its own making until you put one of a known authority in its place.
+certificate=$root/etc/ssl/whistle
+if [ ! -f "$certificate/fullchain.pem" ]; then
+    install -d -m 755 "$certificate"
+    (umask 077 && openssl req -x509 -newkey rsa:2048 -nodes -days 90 -subj "/CN=$name" -addext "subjectAltName=DNS:$name" \
+        -keyout "$certificate/privkey.pem" -out "$certificate/fullchain.pem" 2>/dev/null)
+    echo "install.sh: $certificate has a certificate that no browser trusts: put yours there"
+fi
+
+site=$root/etc/nginx/sites-available/whistle
+install -d "$root/etc/nginx/sites-available" "$root/etc/nginx/sites-enabled"
+sed "s/report\.example\.org/$name/g" "$here/deploy/nginx.conf" > "$site.new" && mv "$site.new" "$site"
+ln -sfn ../sites-available/whistle "$root/etc/nginx/sites-enabled/whistle"
+
+for unit in whistle.service whistle-health.service whistle-health.timer; do
+    install -D -m 644 "$here/deploy/$unit" "$root/etc/systemd/system/$unit"
+done
+
+# What the host keeps of an organisation at its first start it keeps for good: so a fresh setup is looked through before.
+if [ "$is_fresh" = yes ]; then
+    echo "install.sh: look through $setup: it has the passwords, and names to change. Then run this again to start"
+elif on_machine; then
+    nginx -t
+    if [ -d /run/systemd/system ]; then
+        systemctl daemon-reload
+        systemctl enable --now whistle.service whistle-health.timer nginx.service
+        systemctl restart whistle.service
+        systemctl reload nginx.service
+        echo "install.sh: the host serves at https://$name/"
+    else
+        echo 'install.sh: systemd does not run here: start the host and nginx yourself (docs/OPERATING.md)'
+    fi
+fi
