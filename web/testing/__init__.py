@@ -1,0 +1,1 @@
+"""What web/test is made of: a machine of its own, a browser, and the checks by subject."""
