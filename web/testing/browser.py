@@ -11,7 +11,7 @@ from selenium.webdriver.common.action_chains import ActionChains
 from selenium.webdriver.common.by import By
 from selenium.webdriver.common.keys import Keys
 
-PATIENCE = 40
+PATIENCE = 100
 HERE = os.path.dirname(os.path.abspath(__file__))
 
 # Finds what can be seen by its words. It stands in the page's own world only while it is called.
