@@ -1,0 +1,3 @@
+pub mod OneHistory
+pub mod Owned
+pub mod Scripts

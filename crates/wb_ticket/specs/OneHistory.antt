@@ -1,0 +1,17 @@
+-- One history of a host.
+use Rattle.std.specs.Prelude.{List}
+use Rattle.wb_model.specs.Past.{Past}
+use Rattle.wb_model.specs.Pasts.{AllOpened}
+use Rattle.wb_tables.specs.Standing.{hosts_of}
+use Rattle.wb_desk.specs.Turns.{StandsFor}
+use Rattle.wb_kept.specs.Hosted.{Hosted}
+use Rattle.wb_ticket_lock.specs.Histories.{IsSplitInto, Leads}
+use Rattle.wb_ticket.specs.Owned.{TurnEntry, IsTurnOf}
+use Rattle.wb_ticket.specs.Scripts.{IsScript}
+
+-- a host went from one state to another through these turns: each is of the state that the one before it left, each is in one of these
+-- lists, and they are one script over each past for which the host stood at first
+pub record WentThrough (first : Hosted) (entries : List TurnEntry) (lists : List (List TurnEntry)) (last : Hosted) : Type 0 where
+  pub leads : Leads IsTurnOf 0 first entries last
+  pub split : IsSplitInto entries lists
+  pub script : (start : Past AllOpened) → StandsFor (hosts_of first.desk) start → IsScript start first entries last

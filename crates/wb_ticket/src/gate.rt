@@ -1,0 +1,47 @@
+//! The gate.
+ghost use Rattle.std.specs.Prelude.{◌≡◌, true};
+ghost use Rattle.wb_ticket_lock.specs.Histories.{is_rising, places};
+ghost use Rattle.wb_ticket.specs.Owned.{IsAsked, IsNextEntry};
+
+use crate::seat::TicketSeat;
+use crate::turns::{AskedTurn, HostLock};
+use std::marker::Model;
+use std::sync::Wait;
+use std::sync::ledger::Ledger;
+use wb_base::Keeper;
+use wb_gate::Turn;
+use wb_kept::Origin;
+use wb_model::Told;
+use wb_ticket_lock::enter;
+
+/// A host behind a lock with tickets.
+#[derive(Drop)]
+pub struct TicketGate<K: Keeper, A: Origin, B: Ledger> {
+    pub(crate) lock: HostLock<K, A, B>,
+}
+
+impl<K: Keeper, A: Origin, B: Ledger> Model for TicketGate<K, A, B> {
+    ghost use Rattle.std.specs.Prelude.{◌≡◌};
+    ghost use Rattle.wb_kept.specs.Hosted.{Hosted};
+    ghost use Rattle.wb_ticket_lock.specs.Seats.{Locked};
+
+    ghost Value = { Locked Hosted };
+
+    ghost view = { λ g. g.lock };
+
+    ghost invariant = { λ g. (g.lock.seats ≡ A.parts) × (g.lock.seats ≡ B.parts) };
+}
+
+impl<K: Keeper, A: Origin, B: Ledger> TicketGate<K, A, B> {
+    /// Makes one turn of the host, at the seat's turn. It waits for the turns whose tickets were drawn before.
+    pub fn enter<R: Wait>(&self, rt: &R, own: &mut TicketSeat<K, A, B>, turn: Turn) -> Told
+        requires here { own.old.gate ≡ self.now.id }
+        requires asked { IsAsked turn }
+        ensures here { own.new.gate ≡ own.old.gate }
+        ensures entry { IsNextEntry own.old turn result own.new }
+        ensures rising { is_rising (places own.new.mine) ≡ true }
+    {
+        let TicketSeat { seat, pass } = own;
+        enter(rt, &self.lock, seat, pass, AskedTurn::new(turn))
+    }
+}
