@@ -1,16 +1,15 @@
 -- A history of turns is one script.
-use Rattle.std.proofs.Common.{◌≡◌, ◌⊎◌, ◌<◌, ◌≤◌, ◌+◌, ◌^◌, ℕ, suc, Bool, true, false, nat_lt, List, [], ◌∷◌, sym, refl, ap, ◌∙◌, inl, inr, ⊎_elim, subst, arith}
+use Rattle.std.proofs.Common.{◌≡◌, ◌⊎◌, ◌<◌, ◌≤◌, ◌+◌, ℕ, suc, Bool, true, false, nat_lt, List, [], ◌∷◌, refl, ap, ◌∙◌, inl, inr, ⊎_elim, subst, arith}
 use Rattle.std.proofs.lemmas.Bool.Decides.{nat_tests}
-use Rattle.wb_model.specs.declared.body.Told.{Told}
 use Rattle.wb_model.specs.Past.{Past}
 use Rattle.wb_model.specs.Pasts.{AllOpened}
-use Rattle.wb_model.specs.Playing.{IsLossOf, IsPlaceOf, RoseBy, keeper_losses, one_by_keeper}
+use Rattle.wb_model.specs.Playing.{IsLossOf, RoseBy, keeper_losses, one_by_keeper}
 use Rattle.wb_model.specs.Readings.{Asks}
 use Rattle.wb_model.specs.Refusals.{turns_spent}
 use Rattle.wb_model.specs.Requests.{Frame}
-use Rattle.wb_model.specs.Scripts.{Loss, NotLost, ByKeeper, ByMemory, Unread, Place, IsPossible, play, past_after}
+use Rattle.wb_model.specs.Scripts.{Loss, NotLost, ByKeeper, ByMemory, Unread, Place, IsPossible, play}
 use Rattle.wb_tables.specs.Standing.{hosts_of}
-use Rattle.wb_desk.specs.Kept.{Took, MayLose}
+use Rattle.wb_desk.specs.Kept.{MayLose}
 use Rattle.wb_desk.specs.Turns.{StandsFor}
 use Rattle.wb_kept.specs.Hosted.{Hosted}
 use Rattle.wb_kept.specs.Turned.{CameTo}

@@ -1,4 +1,4 @@
-use Rattle.std.proofs.Common.{◌≡◌, List, All, map, ap, sym, subst}
+use Rattle.std.proofs.Common.{◌≡◌, List, All, ap, sym, subst}
 use Rattle.wb_kept.specs.Hosted.{Hosted}
 use Rattle.wb_ticket_lock.specs.Histories.{IsSplitInto, Leads}
 use Rattle.wb_ticket_lock.specs.Seats.{Locked, Seated}
