@@ -1,5 +1,5 @@
 -- The rows of the hosts that a desk stands for are read as what they hold.
-use Rattle.std.proofs.Common.{◌≡◌, ap, ◌∙◌, sym, subst}
+use Rattle.std.proofs.Common.{◌≡◌, ◌∙◌, sym, subst}
 use Rattle.std.specs.Prelude.{Ok}
 use Rattle.wb_desk.specs.Desks.{IsDesk}
 use Rattle.wb_desk.specs.Turns.{StandsFor}

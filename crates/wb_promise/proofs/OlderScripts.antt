@@ -1,13 +1,13 @@
 -- What is promised of a report that was kept before the start: what rows open that differ in it, and the laws of openings.
-use Rattle.std.proofs.Common.{◌≡◌, ◌⊎◌, inl, inr, ℕ, ◌≤◌, true, false, List, Option, Some, refl, sym, ap, ◌∙◌, subst}
+use Rattle.std.proofs.Common.{◌≡◌, ℕ, ◌≤◌, true, false, List, Option, Some, refl, sym, ap, subst}
 use Rattle.std.specs.Prelude.{map, option_map}
 use Rattle.wb_base.specs.declared.rows.Row.{Row}
 use Rattle.wb_desk.specs.Openings.{IsOpeningOver}
 use Rattle.wb_model.specs.declared.wire.ScriptFrame.{ScriptFrame}
 use Rattle.wb_model.specs.Absence.{AllDrawAnother, HoldsLive, NoneIsLost, holds, is_purged, replies_purged}
-use Rattle.wb_model.specs.OtherOpenings.{OpeningsAlike, IsOpenedWithout, StartTogether, AreNotBefore, rows_without}
+use Rattle.wb_model.specs.OtherOpenings.{OpeningsAlike, IsOpenedWithout, StartTogether, rows_without}
 use Rattle.wb_model.specs.Past.{Past, Opening, last}
-use Rattle.wb_model.specs.Pasts.{AllOpened, part, time, standing_hosts}
+use Rattle.wb_model.specs.Pasts.{AllOpened, part, standing_hosts}
 use Rattle.wb_model.specs.Playing.{ArePlacesOf, written}
 use Rattle.wb_model.specs.Readings.{Reading, Reads}
 use Rattle.wb_model.specs.Rows.{rows, rows_but}
@@ -15,7 +15,7 @@ use Rattle.wb_model.specs.Scripts.{Place, Reply, script_replies, past_after}
 use Rattle.wb_model.specs.ScriptsAlike.{AllPlacesAlike, hidden_replies}
 use Rattle.wb_model.specs.Tenants.{AllHostsAlike}
 use Rattle.wb_start.specs.Starts.{IsOpenedBy}
-use Rattle.wb_promise.specs.Headline.{AllFramesAlike, AreAnsweredAlike, AreLostAlike, bytes_of}
+use Rattle.wb_promise.specs.Headline.{bytes_of}
 use Rattle.wb_promise.specs.OlderReports.{KeepsOlderIdentities, BeginTogether, IsForgottenThere, ForgetsOlderReports}
 use Rattle.wb_promise.proofs.AlikeRows.{held_alike, opened_alike}
 use Rattle.wb_promise.proofs.Identities.{later_places, same_places}

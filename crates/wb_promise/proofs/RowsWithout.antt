@@ -1,15 +1,13 @@
 -- Kept rows without those of one report open the host without it.
-use Rattle.std.proofs.Common.{◌≡◌, ◌≢◌, ◌⊎◌, inl, inr, ℕ, ◌+◌, ◌≤◌, Bool, true, false, cond, eqb, not, List, [], ◌∷◌, ◌++◌, Option, Some, None, option_map, refl, sym, ap, ◌∙◌, subst, arith}
-use Rattle.std.specs.Prelude.{Result, Ok, Err, filter, find, map, max, ◌&&◌, ◌||◌}
+use Rattle.std.proofs.Common.{◌≡◌, ◌≢◌, ◌⊎◌, inl, inr, ℕ, ◌≤◌, Bool, true, false, cond, eqb, not, List, [], ◌∷◌, ◌++◌, Option, Some, None, option_map, refl, sym, ap, ◌∙◌, subst, arith}
+use Rattle.std.specs.Prelude.{Ok, filter, find, map, max, ◌&&◌, ◌||◌}
 use Rattle.std.specs.List.{filter_map}
 use Rattle.std.proofs.Math.Path.{fun_ext}
 use Rattle.std.proofs.lemmas.Bool.Decides.{nat_tests}
-use Rattle.wb_base.specs.AnswerList.{Answered}
 use Rattle.wb_base.specs.declared.rows.Row.{Row}
 use Rattle.wb_base.specs.declared.rows.Key.{Key}
 use Rattle.wb_custody.specs.declared.sealed.SealedItem.{SealedItem}
-use Rattle.wb_custody.specs.SealedAnswers.{is_of, answers_of}
-use Rattle.wb_kinds.specs.declared.item.EntryItem.{EntryItem}
+use Rattle.wb_custody.specs.SealedAnswers.{is_of}
 use Rattle.wb_kinds.specs.declared.item.NumberingItem.{NumberingItem}
 use Rattle.wb_kinds.specs.declared.item.Item.{Item}
 use Rattle.wb_kinds.specs.declared.item.Item.TheVariants as items
@@ -18,7 +16,6 @@ use Rattle.wb_model.specs.declared.entry.Entry.{Entry}
 use Rattle.wb_model.specs.declared.registry.Lists.{Lists}
 use Rattle.wb_model.specs.Absence.{without}
 use Rattle.wb_model.specs.Tables.{others}
-use Rattle.wb_model.specs.Host.{Tables}
 use Rattle.wb_model.specs.Pasts.{AllOpened}
 use Rattle.wb_model.specs.Reopened.{latest}
 use Rattle.wb_model.specs.SetUps.{tenant_ids}
@@ -27,12 +24,11 @@ use Rattle.wb_model.proofs.KeptPasts.{latest_first, latest_rest}
 use Rattle.wb_model.proofs.LeftTimes.{latest_both}
 use Rattle.wb_row_rules.specs.Reports.{Report}
 use Rattle.wb_row_rules.specs.TrailRule.{reports_of}
-use Rattle.wb_rows.specs.declared.items.Kept.{Kept}
 use Rattle.wb_rows.specs.Held.{Held}
 use Rattle.wb_rows.specs.Judged.{held, judged, with_format}
 use Rattle.wb_rows.specs.KeptItems.{tenant_in, numbering_in, user_in, form_in, context_in, entry_in, sealed_in, kept_of}
 use Rattle.wb_rows.specs.ReadItems.{items_in}
-use Rattle.wb_rows.specs.Openings.{case_of, cases_of, tables_of, report_moments, time_of, with_setup}
+use Rattle.wb_rows.specs.Openings.{cases_of, tables_of, report_moments, time_of, with_setup}
 use Rattle.wb_setup.specs.Joined.{joined}
 use Rattle.wb_desk.specs.Openings.{IsOpeningOver}
 use Rattle.wb_base.specs.KeptRows.{is_of_report}
