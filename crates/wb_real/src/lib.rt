@@ -4,10 +4,13 @@
 mod clock;
 mod link;
 mod listening;
+mod stages;
 #[cfg(test)]
 mod tests;
+mod timed;
 mod transfer;
 
 pub use clock::RealTicker;
 pub use link::TcpLink;
-pub use listening::{IDLE_SECONDS, TcpLinks};
+pub use listening::TcpLinks;
+pub use stages::{IDLE_SECONDS, REPLY_SECONDS, REQUEST_SECONDS};

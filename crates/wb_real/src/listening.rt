@@ -9,22 +9,19 @@ use std::io;
 use std::io::ErrorKind;
 use std::marker::Model;
 use std::net::{TcpListener, TcpStream};
-use std::time::Duration;
+use std::time::Clock;
 use wb_base::Failed;
 use wb_links::Listener;
 
-/// How many seconds a read or a write of a connection waits. A connection over which nothing comes for so long ends with a fault, so
-/// that idle connections do not hold the few workers for ever.
-pub const IDLE_SECONDS: u64 = 30;
-
 /// The links that come to one listening socket, which several share, or to an address that could not be bound.
 #[derive(Drop)]
-pub struct TcpLinks<'a> {
+pub struct TcpLinks<'a, C: Clock> {
+    clock: &'a C,
     listener: Option<&'a TcpListener>,
     faults: u64,
 }
 
-impl<'a> Model for TcpLinks<'a> {
+impl<'a, C: Clock> Model for TcpLinks<'a, C> {
     ghost use Rattle.std.specs.Prelude.{is_some};
     ghost use Rattle.wb_real.specs.Listening.{Listening};
 
@@ -33,33 +30,31 @@ impl<'a> Model for TcpLinks<'a> {
     ghost view = { λ s. record { is_bound = is_some s.listener; faults = s.faults } };
 }
 
-impl<'a> TcpLinks<'a> {
-    /// The links that come to a socket, or to an address that could not be bound, with no fault so far.
-    pub fn new(listener: Option<&'a TcpListener>) -> TcpLinks<'a>
+impl<'a, C: Clock> TcpLinks<'a, C> {
+    /// The links that come to a socket, or to an address that could not be bound, with no fault so far. This clock tells their limits.
+    pub fn new(clock: &'a C, listener: Option<&'a TcpListener>) -> TcpLinks<'a, C>
         ensures { result ≡ record { is_bound = is_some listener.entry; faults = 0 } }
     {
         TcpLinks {
+            clock,
             listener,
             faults: 0,
         }
     }
 }
 
-// Waits for the next connection, and sets its limits. What is written is sent at once.
-pub(crate) fn accept(listener: Option<&TcpListener>) -> io::Result<TcpStream>
+// Waits for the next connection. What is written to it is sent at once.
+fn accept(listener: Option<&TcpListener>) -> io::Result<TcpStream>
     ensures { is_some listener.entry ≡ false → IsErr result }
 {
     let listener = listener.ok_or(ErrorKind::AddrNotAvailable)?;
     let (stream, _) = listener.accept()?;
-    let limit = Some(Duration::from_secs(IDLE_SECONDS));
     stream.set_nodelay(true)?;
-    stream.set_read_timeout(limit)?;
-    stream.set_write_timeout(limit)?;
     Ok(stream)
 }
 
-impl<'a> Listener for TcpLinks<'a> {
-    type End = TcpLink;
+impl<'a, C: Clock> Listener for TcpLinks<'a, C> {
+    type End = TcpLink<'a, C>;
 
     ghost told = { λ _. None };
 
@@ -70,7 +65,7 @@ impl<'a> Listener for TcpLinks<'a> {
     }
 
     /// Waits for the next connection. More may always come, so it never gives `None`.
-    fn next(&mut self) -> Result<Option<TcpLink>, Failed>
+    fn next(&mut self) -> Result<Option<TcpLink<'a, C>>, Failed>
         ensures some { IfOk result (λ next. IsSome next) }
         ensures fresh { IfOk result (λ next. IfSome next (λ link. link ≡ 0)) }
         ensures unbound { self.old.is_bound ≡ false → IsErr result }
@@ -79,11 +74,11 @@ impl<'a> Listener for TcpLinks<'a> {
         ensures count { self.new.faults ≡ (if is_err result then one_more self.old.faults else self.old.faults) }
     {
         let stream = counted(&mut self.faults, accept(self.listener))?;
-        Ok(Some(TcpLink::new(stream)))
+        Ok(Some(TcpLink::new(self.clock, stream)))
     }
 
     /// The connection is closed.
-    fn back(&mut self, _link: TcpLink)
+    fn back(&mut self, _link: TcpLink<'a, C>)
         ensures { self.new ≡ self.old }
     {}
 }

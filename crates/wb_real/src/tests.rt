@@ -1,13 +1,13 @@
 //! Tests over loopback, and of what clocks and sources of random bytes tell.
 
-use crate::listening::accept;
 use crate::transfer::{read_some, send_all};
-use crate::{IDLE_SECONDS, RealTicker, TcpLink, TcpLinks};
+use crate::{RealTicker, TcpLink, TcpLinks};
 use std::io;
 use std::io::{Read, Write};
 use std::net::{Shutdown, TcpListener, TcpStream};
 use std::process::Abort;
 use std::random::RandomSource;
+use std::sync::atomic::{AtomicU64, Ordering};
 use std::test::Fail;
 use std::time::{Clock, Duration};
 use wb_base::{Failed, Moment, Words};
@@ -18,15 +18,18 @@ fn client_of(rt: &HostRuntime, listener: &TcpListener) -> Result<TcpStream, Fail
     Ok(TcpStream::connect(rt, listener.local_addr()?)?)
 }
 
+// Takes what may go to another thread.
+fn may_go<T: Send>(_value: &T) {}
+
 // The next link, which is there.
-fn next_link(rt: &impl Abort, links: &mut TcpLinks) -> TcpLink {
+fn next_link<'a, C: Clock>(rt: &impl Abort, links: &mut TcpLinks<'a, C>) -> TcpLink<'a, C> {
     links.next().expect(rt, "no fault").expect(rt, "a link")
 }
 
 #[test]
 fn bytes_go_both_ways_and_end_where_the_client_ends(rt: HostRuntime) -> Result<(), Fail> {
     let listener = TcpListener::bind(&rt, "127.0.0.1:0")?;
-    let mut links = TcpLinks::new(Some(&listener));
+    let mut links = TcpLinks::new(&rt, Some(&listener));
     let mut client = client_of(&rt, &listener)?;
     let mut link = next_link(&rt, &mut links);
     client.write_all(b"ping")?;
@@ -49,8 +52,8 @@ fn bytes_go_both_ways_and_end_where_the_client_ends(rt: HostRuntime) -> Result<(
 #[test]
 fn several_listeners_share_a_socket(rt: HostRuntime) -> Result<(), Fail> {
     let listener = TcpListener::bind(&rt, "127.0.0.1:0")?;
-    let mut first = TcpLinks::new(Some(&listener));
-    let mut second = TcpLinks::new(Some(&listener));
+    let mut first = TcpLinks::new(&rt, Some(&listener));
+    let mut second = TcpLinks::new(&rt, Some(&listener));
     let mut one = client_of(&rt, &listener)?;
     let mut two = client_of(&rt, &listener)?;
     let mut to_one = next_link(&rt, &mut first);
@@ -66,9 +69,20 @@ fn several_listeners_share_a_socket(rt: HostRuntime) -> Result<(), Fail> {
 }
 
 #[test]
+fn links_and_what_brings_them_may_go_to_other_threads(rt: HostRuntime) -> Result<(), Fail> {
+    let listener = TcpListener::bind(&rt, "127.0.0.1:0")?;
+    let mut links = TcpLinks::new(&rt, Some(&listener));
+    let _client = client_of(&rt, &listener)?;
+    may_go(&next_link(&rt, &mut links));
+    may_go(&links);
+    may_go(&RealTicker::new(&rt));
+    Ok(())
+}
+
+#[test]
 fn a_write_to_a_client_that_is_gone_is_a_fault(rt: HostRuntime) -> Result<(), Fail> {
     let listener = TcpListener::bind(&rt, "127.0.0.1:0")?;
-    let mut links = TcpLinks::new(Some(&listener));
+    let mut links = TcpLinks::new(&rt, Some(&listener));
     let client = client_of(&rt, &listener)?;
     let mut link = next_link(&rt, &mut links);
     drop(client);
@@ -88,33 +102,111 @@ fn a_write_to_a_client_that_is_gone_is_a_fault(rt: HostRuntime) -> Result<(), Fa
     Ok(())
 }
 
-#[test]
-fn a_connection_has_its_limits(rt: HostRuntime) -> Result<(), Fail> {
-    let listener = TcpListener::bind(&rt, "127.0.0.1:0")?;
-    let _client = client_of(&rt, &listener)?;
-    let stream = accept(Some(&listener))?;
-    let limit = Some(Duration::from_secs(IDLE_SECONDS));
-    assert_eq!(rt; stream.read_timeout()?, limit);
-    assert_eq!(rt; stream.write_timeout()?, limit);
-    assert!(rt; stream.nodelay()?);
-    Ok(())
+// A clock that goes on by so many seconds with each reading. Two readings are made at a read, and one at a write.
+#[derive(Drop)]
+struct Hasty {
+    seconds: AtomicU64,
+    step: u64,
+}
+
+impl Hasty {
+    fn new(step: u64) -> Hasty {
+        Hasty {
+            seconds: AtomicU64::new(0),
+            step,
+        }
+    }
+}
+
+impl Clock for Hasty {
+    fn monotonic(&self) -> io::Result<Duration> {
+        Ok(Duration::from_secs(self.seconds.fetch_add(self.step, Ordering::SeqCst)))
+    }
+
+    fn since_1970(&self) -> io::Result<Duration> {
+        Ok(Duration::ZERO)
+    }
 }
 
 #[test]
-fn a_read_over_which_nothing_comes_is_a_fault(rt: HostRuntime) -> Result<(), Fail> {
+fn a_request_that_is_not_whole_in_time_is_a_fault(rt: HostRuntime) -> Result<(), Fail> {
     let listener = TcpListener::bind(&rt, "127.0.0.1:0")?;
-    let _client = client_of(&rt, &listener)?;
-    let (stream, _) = listener.accept()?;
-    stream.set_read_timeout(Some(Duration::from_millis(20)))?;
-    let mut link = TcpLink::new(stream);
-    assert_eq!(rt; link.read(&mut [0; 4]), Err(Failed));
+    let mut client = client_of(&rt, &listener)?;
+    let clock = Hasty::new(5);
+    let mut link = next_link(&rt, &mut TcpLinks::new(&clock, Some(&listener)));
+    client.write_all(b"abcdefgh")?;
+    // The first byte came at second 5, and the reads began at 0, 10 and 20.
+    for _ in 0..3 {
+        assert_eq!(rt; link.read(&mut [0; 1]), Ok(1));
+    }
+    // After a reply there is a new request. Its first byte came at second 40, and the reads began at 35, 45 and 55.
+    assert_eq!(rt; link.write_all(b"reply"), Ok(()));
+    for _ in 0..3 {
+        assert_eq!(rt; link.read(&mut [0; 1]), Ok(1));
+    }
+    // At second 65 its time is over.
+    assert_eq!(rt; link.read(&mut [0; 1]), Err(Failed));
     assert_eq!(rt; link.faults(), 1);
     Ok(())
 }
 
 #[test]
+fn a_reply_that_is_not_taken_in_time_is_a_fault(rt: HostRuntime) -> Result<(), Fail> {
+    let listener = TcpListener::bind(&rt, "127.0.0.1:0")?;
+    let mut client = client_of(&rt, &listener)?;
+    let clock = Hasty::new(5);
+    let mut link = next_link(&rt, &mut TcpLinks::new(&clock, Some(&listener)));
+    // The writes are made at seconds 0, 5, 10 and 15.
+    for _ in 0..4 {
+        assert_eq!(rt; link.write_all(b"part"), Ok(()));
+    }
+    client.write_all(b"ab")?;
+    assert_eq!(rt; link.read(&mut [0; 1]), Ok(1));
+    // A read ends the reply, and the next begins at second 30.
+    for _ in 0..4 {
+        assert_eq!(rt; link.write_all(b"part"), Ok(()));
+    }
+    assert_eq!(rt; link.write_all(b"part"), Err(Failed));
+    assert_eq!(rt; link.faults(), 1);
+    Ok(())
+}
+
+#[test]
+fn a_read_waits_no_longer_than_what_is_left(rt: HostRuntime) -> Result<(), Fail> {
+    let listener = TcpListener::bind(&rt, "127.0.0.1:0")?;
+    let mut client = client_of(&rt, &listener)?;
+    let clock = Hasty::new(19);
+    let mut link = next_link(&rt, &mut TcpLinks::new(&clock, Some(&listener)));
+    client.write_all(b"a")?;
+    assert_eq!(rt; link.read(&mut [0; 4]), Ok(1));
+    // One second of the request is left, and nothing comes.
+    let start = rt.monotonic()?;
+    assert_eq!(rt; link.read(&mut [0; 4]), Err(Failed));
+    let waited = rt.monotonic()?.saturating_sub(start);
+    assert!(rt; Duration::from_millis(900) < waited && waited < Duration::from_secs(4));
+    assert_eq!(rt; link.faults(), 1);
+    Ok(())
+}
+
+#[test]
+fn a_link_without_a_clock_fails(rt: HostRuntime) -> Result<(), Fail> {
+    let listener = TcpListener::bind(&rt, "127.0.0.1:0")?;
+    let mut client = client_of(&rt, &listener)?;
+    let clock = Told {
+        seconds: None,
+        has_bytes: false,
+    };
+    let mut link = next_link(&rt, &mut TcpLinks::new(&clock, Some(&listener)));
+    client.write_all(b"a")?;
+    assert_eq!(rt; link.read(&mut [0; 4]), Err(Failed));
+    assert_eq!(rt; link.write_all(b"a"), Err(Failed));
+    assert_eq!(rt; link.faults(), 2);
+    Ok(())
+}
+
+#[test]
 fn an_address_that_could_not_be_bound_fails_at_each_call(rt: HostRuntime) {
-    let mut links = TcpLinks::new(None);
+    let mut links = TcpLinks::new(&rt, None);
     for count in 1..=3 {
         assert!(rt; links.next().is_err());
         assert_eq!(rt; links.faults(), count);
@@ -145,7 +237,7 @@ struct Told {
 
 impl Clock for Told {
     fn monotonic(&self) -> io::Result<Duration> {
-        Ok(Duration::ZERO)
+        self.since_1970()
     }
 
     fn since_1970(&self) -> io::Result<Duration> {

@@ -17,7 +17,7 @@ use wb_serve::{Served, serve};
 use wb_start::Status;
 
 // A station over links of TCP, the system's clock and its random bytes.
-type RealStation<'a> = Station<TcpLinks<'a>, RealTicker<'a, HostRuntime>>;
+type RealStation<'a> = Station<TcpLinks<'a, HostRuntime>, RealTicker<'a, HostRuntime>>;
 
 // As many stations as there are workers. They share the one socket.
 fn stations_at<'a>(
@@ -32,7 +32,7 @@ fn stations_at<'a>(
     let mut stations = Vec::new(alloc);
     for _ in 0..workers {
         stations.push(Station {
-            listener: TcpLinks::new(listener),
+            listener: TcpLinks::new(rt, listener),
             ticker: RealTicker::new(rt),
         })?;
     }
