@@ -91,9 +91,9 @@ module _ (one_reading : (bytes : List ℕ) (a b : Reading) → Reads bytes a →
       (by_replies : (i t r : ℕ) (past : Past AllOpened) (places others : List Place) → PlacesAlike i t r past places others → hidden_replies t r past places (script_replies past places) ≡ hidden_replies t r past places (script_replies past others))
       (by_rows : (i t r : ℕ) (past : Past AllOpened) (places others : List Place) → PlacesAlike i t r past places others → rows_but t r (rows (past_after past places)) ≡ rows_but t r (rows (past_after past others))) where
     pub keeps : (loaded : List Row) (setup : List ℕ) (start : Past AllOpened) (frames : List ScriptFrame) (places : List Place) → IsOpenedBy loaded setup start → ArePlacesOf frames places → KeepsIdentities loaded setup start frames places
-    keeps loaded setup start frames places opened placed i t r other others theirs other_opened theirs_placed lost alike =
-        let same = alike_places i t r start frames others places theirs placed theirs_placed lost alike in
-        subst (λ past. AreAnsweredAlike t r start past places theirs) (one_start loaded setup start other opened other_opened) (record {
+    keeps loaded setup start frames places opened placed i t r other others theirs played alike =
+        let same = alike_places i t r start frames others places theirs placed played.placed played.lost alike in
+        subst (λ past. AreAnsweredAlike t r start past places theirs) (one_start loaded setup start other opened played.opened) (record {
           replies = ap (map (λ (x : Option Reply). option_map written x)) (by_replies i t r start places theirs same);
           rows = by_rows i t r start places theirs same;
         })

@@ -45,8 +45,9 @@ module _ (one_reading : (bytes : List ℕ) (a b : Reading) → Reads bytes a →
       → AllHostsAlike t r (standing_hosts (past_after past places)) (standing_hosts (past_after other others)))
       (by_rows : (t r : ℕ) (past other : Past AllOpened) → AllHostsAlike t r (standing_hosts past) (standing_hosts other) → rows_but t r (rows past) ≡ rows_but t r (rows other)) where
     pub keeps_older : (loaded : List Row) (setup : List ℕ) (start : Past AllOpened) (frames : List ScriptFrame) (places : List Place) → IsOpenedBy loaded setup start → ArePlacesOf frames places → KeepsOlderIdentities loaded setup start frames places
-    keeps_older loaded setup start frames places x placed t r kept other others theirs e y theirs_placed lost alike =
-        let same : AllPlacesAlike t r start places theirs = later_places one_reading t r start frames others places theirs placed theirs_placed lost alike in
+    keeps_older loaded setup start frames places x placed t r kept other others theirs e played alike =
+        let same : AllPlacesAlike t r start places theirs = later_places one_reading t r start frames others places theirs placed played.placed played.lost alike in
+        let y : IsOpenedBy kept setup other = played.opened in
         let hosts : AllHostsAlike t r (standing_hosts start) (standing_hosts other) =
         subst (λ s. AllHostsAlike t r (standing_hosts s) (standing_hosts other)) (sym x.opens)
         (subst (λ s. AllHostsAlike t r (standing_hosts (Opening x.opening)) (standing_hosts s)) (sym y.opens) (by_openings t r x.opening y.opening (alike_openings t r loaded kept setup start other x y e))) in
@@ -84,6 +85,7 @@ module _ (one_reading : (bytes : List ℕ) (a b : Reading) → Reads bytes a →
         (over_openings t r o p places w (subst (λ s. BeginTogether (Opening o) s places) second (subst (λ s. BeginTogether s other places) first together)) (subst (λ s. AllDrawAnother t r s places) first draw)))
 
     pub forgets_older : (loaded : List Row) (setup : List ℕ) (start : Past AllOpened) (frames : List ScriptFrame) (places : List Place) → IsOpenedBy loaded setup start → ArePlacesOf frames places → ForgetsOlderReports loaded setup start frames places
-    forgets_older loaded setup start frames places x placed t r other theirs y drawn theirs_placed lost together draw =
-        subst (IsForgottenThere t r start other places) (same_places one_reading frames frames places theirs placed theirs_placed lost refl)
+    forgets_older loaded setup start frames places x placed t r other theirs played drawn together draw =
+        let y : IsOpenedBy (rows_without t r loaded) setup other = played.opened in
+        subst (IsForgottenThere t r start other places) (same_places one_reading frames frames places theirs placed played.placed played.lost refl)
         (over_pasts t r start other x.opening y.opening places x.opens y.opens (opening_without t r loaded (rows_without t r loaded) setup start other x y refl drawn) together draw)

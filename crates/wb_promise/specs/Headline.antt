@@ -75,10 +75,17 @@ pub record AreAnsweredAlike (t r : ℕ) (start other : Past AllOpened) (places t
   pub replies : hidden_output t r start places (script_replies start places) ≡ hidden_output t r start places (script_replies other theirs)
   pub rows : rows_but t r (rows (past_after start places)) ≡ rows_but t r (rows (past_after other theirs))
 
--- over the same kept rows and setup: each script that differs in the valid identity answers of one report alone, which is submitted in it, and
--- that loses the same at each place, is answered alike
+-- another script, that was played from the past which these rows and the setup open, and lost at each place what is lost at these
+pub record ArePlayed (loaded : List Row) (setup : List ℕ) (places : List Place) (other : Past AllOpened) (others : List ScriptFrame) (theirs : List Place) : Type 0 where
+  pub opened : IsOpenedBy loaded setup other
+  pub placed : ArePlacesOf others theirs
+  pub lost : AreLostAlike places theirs
+
+-- over the same kept rows and setup: each script that differs in the valid identity answers of one report alone, which is submitted in it, is
+-- answered alike
 abbrev pub KeepsIdentities : List Row → List ℕ → Past AllOpened → List ScriptFrame → List Place → Type 0
-KeepsIdentities loaded setup start frames places = (i t r : ℕ) (other : Past AllOpened) (others : List ScriptFrame) (theirs : List Place) → IsOpenedBy loaded setup other → ArePlacesOf others theirs → AreLostAlike places theirs → FramesAlike i t r start frames places others → AreAnsweredAlike t r start other places theirs
+KeepsIdentities loaded setup start frames places = (i t r : ℕ) (other : Past AllOpened) (others : List ScriptFrame) (theirs : List Place) →
+    ArePlayed loaded setup places other others theirs → FramesAlike i t r start frames places others → AreAnsweredAlike t r start other places theirs
 
 -- ---- the script in which a submission only drew a number
 

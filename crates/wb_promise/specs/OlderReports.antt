@@ -7,16 +7,15 @@ use Rattle.wb_model.specs.Absence.{AllDrawAnother, HoldsLive, NoneIsLost, holds,
 use Rattle.wb_model.specs.OtherOpenings.{AreNotBefore, rows_without}
 use Rattle.wb_model.specs.Past.{Past, last}
 use Rattle.wb_model.specs.Pasts.{AllOpened, standing_hosts, part, time}
-use Rattle.wb_model.specs.Playing.{ArePlacesOf}
 use Rattle.wb_model.specs.Rows.{rows, rows_but}
 use Rattle.wb_model.specs.Scripts.{Place, script_replies, past_after}
-use Rattle.wb_start.specs.Starts.{IsOpenedBy}
-use Rattle.wb_promise.specs.Headline.{AllFramesAlike, AreAnsweredAlike, AreLostAlike, bytes_of}
+use Rattle.wb_promise.specs.Headline.{AllFramesAlike, AreAnsweredAlike, ArePlayed, bytes_of}
 
 -- over kept rows that differ in the identity answers of one report alone, with the same setup: each script that is the same but for the
--- identities which its reporter gives later, and that loses the same at each place, is answered alike
+-- identities which its reporter gives later is answered alike
 abbrev pub KeepsOlderIdentities : List Row → List ℕ → Past AllOpened → List ScriptFrame → List Place → Type 0
-KeepsOlderIdentities loaded setup start frames places = (t r : ℕ) (kept : List Row) (other : Past AllOpened) (others : List ScriptFrame) (theirs : List Place) → rows_but t r loaded ≡ rows_but t r kept → IsOpenedBy kept setup other → ArePlacesOf others theirs → AreLostAlike places theirs → AllFramesAlike t r start frames places others → AreAnsweredAlike t r start other places theirs
+KeepsOlderIdentities loaded setup start frames places = (t r : ℕ) (kept : List Row) (other : Past AllOpened) (others : List ScriptFrame) (theirs : List Place) →
+    rows_but t r loaded ≡ rows_but t r kept → ArePlayed kept setup places other others theirs → AllFramesAlike t r start frames places others → AreAnsweredAlike t r start other places theirs
 
 -- both hosts begin at one moment, or no place of the script is before the first
 abbrev pub BeginTogether : Past AllOpened → Past AllOpened → List Place → Type 0
@@ -33,7 +32,8 @@ pub record IsForgottenThere (t r : ℕ) (start other : Past AllOpened) (places t
   pub gone : HoldsLive t r start → NoneIsLost places → HoldsLive t r (past_after start places)
   pub rows : rows (past_after other theirs) ≡ rows_without t r (rows (past_after start places))
 
--- over kept rows without those of a report whose number was drawn, with the same setup: where the same script loses the same at each
--- place, and no submission to its tenant draws its receipt while it is live, the report is forgotten
+-- over kept rows without those of a report whose number was drawn, with the same setup: by the same script the report is forgotten, where no
+-- submission to its tenant draws its receipt while it is live
 abbrev pub ForgetsOlderReports : List Row → List ℕ → Past AllOpened → List ScriptFrame → List Place → Type 0
-ForgetsOlderReports loaded setup start frames places = (t r : ℕ) (other : Past AllOpened) (theirs : List Place) → IsOpenedBy (rows_without t r loaded) setup other → r ≤ last (part t start) → ArePlacesOf frames theirs → AreLostAlike places theirs → BeginTogether start other places → AllDrawAnother t r start places → IsForgottenThere t r start other places theirs
+ForgetsOlderReports loaded setup start frames places = (t r : ℕ) (other : Past AllOpened) (theirs : List Place) →
+    ArePlayed (rows_without t r loaded) setup places other frames theirs → r ≤ last (part t start) → BeginTogether start other places → AllDrawAnother t r start places → IsForgottenThere t r start other places theirs

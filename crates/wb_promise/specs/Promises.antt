@@ -4,8 +4,8 @@ use Rattle.wb_base.specs.declared.rows.Row.{Row}
 use Rattle.wb_model.specs.declared.wire.ScriptFrame.{ScriptFrame}
 use Rattle.wb_model.specs.Past.{Past}
 use Rattle.wb_model.specs.Pasts.{AllOpened}
-use Rattle.wb_model.specs.Playing.{AreLossesTold}
-use Rattle.wb_model.specs.Scripts.{Place}
+use Rattle.wb_model.specs.Playing.{ArePlacesOf, AreLossesTold}
+use Rattle.wb_model.specs.Scripts.{Place, ArePossible}
 use Rattle.wb_promise.specs.Headline.{KeepsIdentities, ForgetsReports}
 use Rattle.wb_promise.specs.OlderReports.{KeepsOlderIdentities, ForgetsOlderReports}
 use Rattle.wb_promise.specs.Submissions.{AreWellAnswered}
@@ -23,3 +23,7 @@ pub record IsAsPromised (loaded : List Row) (setup : List ℕ) (start : Past All
   -- and forget reports that are purged
   pub absence : ForgetsReports start frames places
   pub older_absence : ForgetsOlderReports loaded setup start frames places
+
+-- so is each script that such a host plays, with whatever losses may stand there
+abbrev pub AllAsPromised : List Row → List ℕ → Past AllOpened → Type 0
+AllAsPromised loaded setup start = (frames : List ScriptFrame) (places : List Place) → ArePlacesOf frames places → ArePossible start places → IsAsPromised loaded setup start frames places

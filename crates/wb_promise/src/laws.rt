@@ -1,19 +1,16 @@
 //! Laws of what kept rows and a setup open, and of scripts that are played from there, each a function with no body of its own.
 ghost use Rattle.std.specs.Prelude.{◌≡◌, ℕ, List, Ok};
 ghost use Rattle.wb_base.specs.declared.rows.Row.{Row};
-ghost use Rattle.wb_model.specs.declared.wire.ScriptFrame.{ScriptFrame};
 ghost use Rattle.wb_model.specs.Past.{Past};
 ghost use Rattle.wb_model.specs.Pasts.{AllOpened};
-ghost use Rattle.wb_model.specs.Playing.{ArePlacesOf};
 ghost use Rattle.wb_model.specs.Rows.{rows};
-ghost use Rattle.wb_model.specs.Scripts.{Place, ArePossible};
 ghost use Rattle.wb_rows.specs.Judged.{judged};
 ghost use Rattle.wb_rows.specs.Left.{left};
 ghost use Rattle.wb_tables.specs.Standing.{Standing, hosts_of};
 ghost use Rattle.wb_desk.specs.Desks.{IsDesk};
 ghost use Rattle.wb_desk.specs.Turns.{StandsFor};
 ghost use Rattle.wb_start.specs.Starts.{IsOpenedBy};
-ghost use Rattle.wb_promise.specs.Promises.{IsAsPromised};
+ghost use Rattle.wb_promise.specs.Promises.{AllAsPromised};
 
 use wb_model::{
     absence_over_openings, absence_over_scripts, alike_openings_get_the_same_replies,
@@ -31,7 +28,7 @@ pub fn kept_rows_and_a_setup_open_one_past()
 
 /// A host that was opened over kept rows with a setup plays each script as promised.
 pub fn each_script_is_as_promised()
-    ensures { (loaded : List Row) (setup : List ℕ) (start : Past AllOpened) (frames : List ScriptFrame) (places : List Place) → IsOpenedBy loaded setup start → ArePlacesOf frames places → ArePossible start places → IsAsPromised loaded setup start frames places }
+    ensures { (loaded : List Row) (setup : List ℕ) (start : Past AllOpened) → IsOpenedBy loaded setup start → AllAsPromised loaded setup start }
 {
     one_reading();
     an_opening_is_told_by_its_tables();

@@ -24,7 +24,8 @@ use Rattle.wb_wire.specs.SetupReading.{after_setup}
 use Rattle.wb_start.specs.Starts.{IsOpenedBy, Opens, unread}
 use Rattle.whistle.specs.Played.{HasPlayed}
 use Rattle.whistle.specs.Runs.{script_text, Played, Wrote, BrokeOff}
-use Rattle.whistle.proofs.TurnLemmas.{Promise, IsReadBy, more, output_more, none_played, one_more, stands_more}
+use Rattle.wb_promise.specs.Promises.{AllAsPromised}
+use Rattle.whistle.proofs.TurnLemmas.{IsReadBy, more, output_more, none_played, one_more, stands_more}
 
 pub texts_more : (fs : List ScriptFrame) (f : ScriptFrame) → texts (more fs f) ≡ texts fs ++ frame_text f
 texts_more [] f = append-nil (frame_text f)
@@ -90,7 +91,7 @@ module _ (loaded : List Row) (setup : List ℕ) (start : Past AllOpened) where
         pub stands : StandsFor hosts (past_after start places)
 
     -- before the first turn
-    pub at_start : Promise loaded setup start → (left' : Option (List ℕ)) (keeper' : ℕ) (honest : Type 0) (holds' : List Row → Type 0) (hosts : Hosts) (reader : Progress) → Consumes left left' (setup_text setup) → Opens keeper keeper' honest holds holds' loaded setup start hosts
+    pub at_start : AllAsPromised loaded setup start → (left' : Option (List ℕ)) (keeper' : ℕ) (honest : Type 0) (holds' : List Row → Type 0) (hosts : Hosts) (reader : Progress) → Consumes left left' (setup_text setup) → Opens keeper keeper' honest holds holds' loaded setup start hosts
         → judged (rows start) ≡ Ok (left_of start) → reader ≡ after_setup unread setup → Standing left' held keeper' honest holds' hosts reader [] []
     at_start promise left' keeper' honest holds' hosts reader taken opens read is = record {
       good = tt;
@@ -104,7 +105,7 @@ module _ (loaded : List Row) (setup : List ℕ) (start : Past AllOpened) where
     }
 
     -- a turn whose reply was written
-    pub advance : Promise loaded setup start → (left' held' : Option (List ℕ)) (keeper' : ℕ) (honest : Type 0) (holds' : List Row → Type 0) (hosts : Hosts) (reader : Progress) (frames : List ScriptFrame) (places : List Place) → Standing left' held' keeper' honest holds' hosts reader frames places
+    pub advance : AllAsPromised loaded setup start → (left' held' : Option (List ℕ)) (keeper' : ℕ) (honest : Type 0) (holds' : List Row → Type 0) (hosts : Hosts) (reader : Progress) (frames : List ScriptFrame) (places : List Place) → Standing left' held' keeper' honest holds' hosts reader frames places
         → (left'' held'' : Option (List ℕ)) (keeper'' : ℕ) (honest' : Type 0) (holds'' : List Row → Type 0) → (honest' → honest) → (after : Hosts) (frame : ScriptFrame) (answer : Answer) (place : Place) → IsFrame frame → Consumes left' left'' (frame_text frame)
         → IsAnswer honest' holds' holds'' (past_after start places) frame answer after keeper' keeper'' place → IsReadBy after → Appends held' held'' (written (reply_of answer))
         → (reader' : Progress) → reader' ≡ after_next reader (Some frame) → Standing left'' held'' keeper'' honest' holds'' after reader' (more frames frame) (more places place)
@@ -121,7 +122,7 @@ module _ (loaded : List Row) (setup : List ℕ) (start : Past AllOpened) where
         }
 
     -- a turn whose reply was not wholly written
-    pub stuck : Promise loaded setup start → (left' held' : Option (List ℕ)) (keeper' : ℕ) (honest : Type 0) (holds' : List Row → Type 0) (hosts : Hosts) (reader : Progress) (frames : List ScriptFrame) (places : List Place) → Standing left' held' keeper' honest holds' hosts reader frames places
+    pub stuck : AllAsPromised loaded setup start → (left' held' : Option (List ℕ)) (keeper' : ℕ) (honest : Type 0) (holds' : List Row → Type 0) (hosts : Hosts) (reader : Progress) (frames : List ScriptFrame) (places : List Place) → Standing left' held' keeper' honest holds' hosts reader frames places
         → (left'' held'' : Option (List ℕ)) (keeper'' : ℕ) (honest' : Type 0) (holds'' : List Row → Type 0) → (honest' → honest) → (after : Hosts) (frame : ScriptFrame) (answer : Answer) (place : Place) → IsFrame frame → Consumes left' left'' (frame_text frame)
         → IsAnswer honest' holds' holds'' (past_after start places) frame answer after keeper' keeper'' place → IsReadBy after → AppendsFront held' held'' (written (reply_of answer)) → (source source' sink sink' : ℕ)
         → Played left left'' held held'' source source' sink sink' keeper keeper'' honest' holds holds'' loaded setup start (more frames frame) (more places place) × Consumes left left'' (script_text setup (more frames frame)) × BrokeOff left left'' held held'' source source' sink sink' keeper keeper'' honest' holds holds'' loaded setup start (more places place)

@@ -32,7 +32,8 @@ use Rattle.whistle.specs.Played.{HasPlayed}
 use Rattle.wb_start.specs.Starts.{IsOpenedBy, Opens, Refuses, KeepsRows}
 use Rattle.whistle.specs.TallyText.{counted, tally_text}
 use Rattle.whistle.specs.Tallies.{PlayedTurns, IsTallyOf, Stopped, Tallied}
-use Rattle.whistle.proofs.TurnLemmas.{Promise, IsReadBy, more, replies_more, none_played, one_more, stands_more}
+use Rattle.wb_promise.specs.Promises.{AllAsPromised}
+use Rattle.whistle.proofs.TurnLemmas.{IsReadBy, more, replies_more, none_played, one_more, stands_more}
 use Rattle.whistle.proofs.PlayLemmas.{length_more}
 
 -- ---- what a desk counts
@@ -62,7 +63,7 @@ module _ (keeper : ℕ) (holds : List Row → Type 0) where
     pub counts : IsCounted (script_replies played.start played.places) rows
     pub many : length (script_replies played.start played.places) ≡ turns
 
-  pub at_start : (loaded : List Row) (setup : List ℕ) (start : Past AllOpened) → setup ≡ HARBOUR.now → Promise loaded HARBOUR.now start → (keeper' : ℕ) (honest : Type 0) (holds' : List Row → Type 0) (hosts : Hosts) → Opens keeper keeper' honest holds holds' loaded setup start hosts → judged (rows_of_past start) ≡ Ok (left start)
+  pub at_start : (loaded : List Row) (setup : List ℕ) (start : Past AllOpened) → setup ≡ HARBOUR.now → AllAsPromised loaded HARBOUR.now start → (keeper' : ℕ) (honest : Type 0) (holds' : List Row → Type 0) (hosts : Hosts) → Opens keeper keeper' honest holds holds' loaded setup start hosts → judged (rows_of_past start) ≡ Ok (left start)
       → SoFar keeper' honest holds' hosts [] 0
   at_start loaded setup start same promise keeper' honest holds' hosts opens read = record {
     played = record { loaded = loaded; start = start; opened = subst (λ (text : List ℕ). IsOpenedBy loaded text start) same opens.opened; places = []; played = none_played loaded HARBOUR.now start keeper holds promise keeper' honest holds' opens.later opens.kept read };
@@ -72,7 +73,7 @@ module _ (keeper : ℕ) (holds : List Row → Type 0) where
   }
 
   -- one more turn
-  module _ (keeper' : ℕ) (honest : Type 0) (holds' : List Row → Type 0) (hosts : Hosts) (rows : List StatusCount) (turns : ℕ) (so_far : SoFar keeper' honest holds' hosts rows turns) (promise : Promise so_far.played.loaded HARBOUR.now so_far.played.start)
+  module _ (keeper' : ℕ) (honest : Type 0) (holds' : List Row → Type 0) (hosts : Hosts) (rows : List StatusCount) (turns : ℕ) (so_far : SoFar keeper' honest holds' hosts rows turns) (promise : AllAsPromised so_far.played.loaded HARBOUR.now so_far.played.start)
       (keeper'' : ℕ) (honest' : Type 0) (holds'' : List Row → Type 0) (back : honest' → honest) (after : Hosts) (frame : ScriptFrame) (is_frame : frame ≡ frame_at (turns + 1)) (answer : Answer) (place : Place)
       (is : IsAnswer honest' holds' holds'' (past_after so_far.played.start so_far.played.places) frame answer after keeper' keeper'' place) (read : IsReadBy after)
     where

@@ -12,7 +12,7 @@ use Rattle.wb_desk.specs.Turns.{StandsFor}
 use Rattle.whistle.specs.declared.answering.Answer.{Answer}
 use Rattle.whistle.specs.Answered.{IsAnswer}
 use Rattle.whistle.specs.Played.{HasPlayed}
-use Rattle.wb_promise.specs.Promises.{IsAsPromised}
+use Rattle.wb_promise.specs.Promises.{AllAsPromised}
 use Rattle.wb_rows.specs.Judged.{judged}
 use Rattle.wb_rows.specs.Left.{left}
 use Rattle.std.specs.Prelude.{Ok}
@@ -48,10 +48,6 @@ losses_more : (ps : List Place) (p : Place) → keeper_losses (more ps p) ≡ ke
 losses_more [] p = omega arith
 losses_more (q ∷ ps) p = omega (arith, losses_more ps p)
 
--- what is promised of each script that is played from the past that rows and a setup opened
-abbrev pub Promise : List Row → List ℕ → Past AllOpened → Type 0
-Promise loaded setup start = (frames : List ScriptFrame) (places : List Place) → ArePlacesOf frames places → ArePossible start places → IsAsPromised loaded setup start frames places
-
 -- the rows of the pasts that these hosts stand for are read as what they hold
 abbrev pub IsReadBy : Hosts → Type 0
 IsReadBy after = (past : Past AllOpened) → StandsFor after past → judged (rows past) ≡ Ok (left past)
@@ -63,7 +59,7 @@ stands_more start places place after stands = stands ∙ ap standing_hosts (sym 
 -- of loaded rows, a setup and the past that they open, and what the keeper counted and held before
 module _ (loaded : List Row) (setup : List ℕ) (start : Past AllOpened) (keeper : ℕ) (holds : List Row → Type 0) where
   -- before the first turn
-  pub none_played : Promise loaded setup start → (keeper' : ℕ) (honest : Type 0) (holds' : List Row → Type 0) → keeper ≤ keeper' → (honest → (before : List Row) → holds before → (before ≡ loaded) × holds' (rows start)) → judged (rows start) ≡ Ok (left start)
+  pub none_played : AllAsPromised loaded setup start → (keeper' : ℕ) (honest : Type 0) (holds' : List Row → Type 0) → keeper ≤ keeper' → (honest → (before : List Row) → holds before → (before ≡ loaded) × holds' (rows start)) → judged (rows start) ≡ Ok (left start)
       → HasPlayed keeper keeper' honest holds holds' loaded setup start [] []
   none_played promise keeper' honest holds' later kept read = record {
     placed = tt;
@@ -75,7 +71,7 @@ module _ (loaded : List Row) (setup : List ℕ) (start : Past AllOpened) (keeper
   }
 
   -- one more frame
-  pub one_more : Promise loaded setup start → (keeper' : ℕ) (honest : Type 0) (holds' : List Row → Type 0) (frames : List ScriptFrame) (places : List Place) → HasPlayed keeper keeper' honest holds holds' loaded setup start frames places
+  pub one_more : AllAsPromised loaded setup start → (keeper' : ℕ) (honest : Type 0) (holds' : List Row → Type 0) (frames : List ScriptFrame) (places : List Place) → HasPlayed keeper keeper' honest holds holds' loaded setup start frames places
       → (keeper'' : ℕ) (honest' : Type 0) (holds'' : List Row → Type 0) → (honest' → honest) → (after : Hosts) (frame : ScriptFrame) (answer : Answer) (place : Place) → IsAnswer honest' holds' holds'' (past_after start places) frame answer after keeper' keeper'' place → IsReadBy after
       → HasPlayed keeper keeper'' honest' holds holds'' loaded setup start (more frames frame) (more places place)
   one_more promise keeper' honest holds' frames places so_far keeper'' honest' holds'' back after frame answer place is read =

@@ -8,7 +8,7 @@ use Rattle.wb_promise.proofs.SubmissionLemmas.{all_well}
 use Rattle.wb_promise.proofs.laws.each_script_is_as_promised.Goals as goal
 
 pub returns : goal.returns
-returns c loaded setup start frames places opened placed possible =
+returns c loaded setup start opened frames places placed possible =
     let reading = c.one_reading.ensures.reading in
     let scripts = c.alike_scripts_get_the_same_replies.ensures in
     let openings = c.alike_openings_get_the_same_replies.ensures in

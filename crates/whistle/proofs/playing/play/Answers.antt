@@ -22,7 +22,7 @@ loop-frame-init g c =
         opened = begins.opens.opened;
         frames = [];
         places = [];
-        so_far = at_start begins.loaded begins.setup begins.start _ _ _ _ (λ frames places. c.each_script_is_as_promised.ensures begins.loaded begins.setup begins.start frames places begins.opens.opened)
+        so_far = at_start begins.loaded begins.setup begins.start _ _ _ _ (c.each_script_is_as_promised.ensures begins.loaded begins.setup begins.start begins.opens.opened)
             _ _ _ _ (hosts_of c.in-Ok.desk) c.open.new.reader begins.took.1 begins.opens (c.a_desk_leaves_rows_that_are_read.ensures c.in-Ok.desk begins.start c.stands.ensures begins.opens.stands) begins.goes_on;
       };
       few = omega (arith, ap (λ (h : Hosts). h.turns) (begins.opens.stands ∙ ap standing_hosts begins.opens.opened.opens));
@@ -48,7 +48,7 @@ loop-frame-preserved g c =
         opened = was.opened;
         frames = more was.frames frame;
         places = more was.places is.0;
-        so_far = advance was.loaded was.setup was.start _ _ _ _ (λ frames places. c.each_script_is_as_promised.ensures was.loaded was.setup was.start frames places was.opened)
+        so_far = advance was.loaded was.setup was.start _ _ _ _ (c.each_script_is_as_promised.ensures was.loaded was.setup was.start was.opened)
             _ _ _ _ _ _ c.loop-frame.reader was.frames was.places was.so_far _ _ _ _ _ c.answer_frame-answer.ensures.back (hosts_of c.answer_frame-answer.new.desk) frame c.answer_frame-answer.result is.0 took.0 took.1 is.1 c.answer_frame-answer.ensures.read_back c.in-Ok-write_answer.ensures.ok c.next.new.self goes;
       };
       few = omega (arith, c.answer_frame-answer.ensures.turns, c.loop-frame.invariant.few, ap (λ (p : Progress). p.taken) goes, some_bytes frame);
@@ -69,7 +69,7 @@ returns-in-Err-write_answer-clause-ran g c =
     let frame = c.in-Ok-Some.frame in
     let is = c.answer_frame-answer.ensures.answer (past_after was.start was.places) was.so_far.stands in
     let took = rw c.in-Ok-Some.field-0-is at c.in-Ok-Some.ensures.ok in
-    let both = stuck was.loaded was.setup was.start _ _ _ _ (λ frames places. c.each_script_is_as_promised.ensures was.loaded was.setup was.start frames places was.opened)
+    let both = stuck was.loaded was.setup was.start _ _ _ _ (c.each_script_is_as_promised.ensures was.loaded was.setup was.start was.opened)
     _ _ _ _ _ _ c.loop-frame.reader was.frames was.places was.so_far _ _ _ _ _ c.answer_frame-answer.ensures.back (hosts_of c.answer_frame-answer.new.desk) frame c.answer_frame-answer.result is.0 took.0 took.1 is.1 c.answer_frame-answer.ensures.read_back c.in-Err-write_answer.ensures.err _ _ _ _ in
     inr (record {
       loaded = was.loaded;

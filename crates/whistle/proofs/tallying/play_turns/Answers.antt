@@ -19,7 +19,7 @@ loop-before-init g c =
     record {
       so_far = subst (λ (rows : List StatusCount). SoFar (g.K.Keeper.count c.args.keeper.now) (g.K.Keeper.holds c.args.keeper.now) (g.K.Keeper.count c.open_by.new.keeper) (g.K.Keeper.honest c.open_by.new.keeper) (g.K.Keeper.holds c.open_by.new.keeper) (hosts_of c.in-Ok.desk) rows 0) (sym c.new-statuses.ensures)
           (at_start (g.K.Keeper.count c.args.keeper.now) (g.K.Keeper.holds c.args.keeper.now) ok.0 c.as_bytes.result.now ok.1 c.as_bytes.ensures.value
-          (λ frames places. c.each_script_is_as_promised.ensures ok.0 HARBOUR.now ok.1 frames places (subst (λ (text : List ℕ). IsOpenedBy ok.0 text ok.1) c.as_bytes.ensures.value ok.2.opened))
+          (c.each_script_is_as_promised.ensures ok.0 HARBOUR.now ok.1 (subst (λ (text : List ℕ). IsOpenedBy ok.0 text ok.1) c.as_bytes.ensures.value ok.2.opened))
           (g.K.Keeper.count c.open_by.new.keeper) (g.K.Keeper.honest c.open_by.new.keeper) (g.K.Keeper.holds c.open_by.new.keeper) (hosts_of c.in-Ok.desk) ok.2 (c.a_desk_leaves_rows_that_are_read.ensures c.in-Ok.desk ok.1 c.stands.ensures ok.2.stands));
       few = omega (arith, ap (λ (h : Hosts). h.turns) (ok.2.stands ∙ ap standing_hosts ok.2.opened.opens));
       back = c.open_by.ensures.back;
@@ -36,7 +36,7 @@ returns-in-Err-count_reply-clause-err g c =
         c.loop-before.before + 1,
         omega (arith, c.loop-before-test.true),
         played_next (g.K.Keeper.count c.args.keeper.now) (g.K.Keeper.holds c.args.keeper.now) (g.K.Keeper.count c.loop-before.keeper) (g.K.Keeper.honest c.loop-before.keeper) (g.K.Keeper.holds c.loop-before.keeper) (hosts_of c.loop-before.desk) c.loop-before.statuses.items c.loop-before.before so_far
-            (λ frames places. c.each_script_is_as_promised.ensures was.loaded HARBOUR.now was.start frames places was.opened)
+            (c.each_script_is_as_promised.ensures was.loaded HARBOUR.now was.start was.opened)
             (g.K.Keeper.count c.answer_frame-answer.new.keeper) (g.K.Keeper.honest c.answer_frame-answer.new.keeper) (g.K.Keeper.holds c.answer_frame-answer.new.keeper) c.answer_frame-answer.ensures.back (hosts_of c.answer_frame-answer.new.desk) c.in-Ok-script_frame.frame c.in-Ok-script_frame.ensures.made c.answer_frame-answer.result is.0 is.1 c.answer_frame-answer.ensures.read_back,
       ),
     )
@@ -48,7 +48,7 @@ loop-before-preserved g c =
     let is = c.answer_frame-answer.ensures.answer (past_after was.start was.places) so_far.stands in
     record {
       so_far = next (g.K.Keeper.count c.args.keeper.now) (g.K.Keeper.holds c.args.keeper.now) (g.K.Keeper.count c.loop-before.keeper) (g.K.Keeper.honest c.loop-before.keeper) (g.K.Keeper.holds c.loop-before.keeper) (hosts_of c.loop-before.desk) c.loop-before.statuses.items c.loop-before.before so_far
-          (λ frames places. c.each_script_is_as_promised.ensures was.loaded HARBOUR.now was.start frames places was.opened)
+          (c.each_script_is_as_promised.ensures was.loaded HARBOUR.now was.start was.opened)
           (g.K.Keeper.count c.answer_frame-answer.new.keeper) (g.K.Keeper.honest c.answer_frame-answer.new.keeper) (g.K.Keeper.holds c.answer_frame-answer.new.keeper) c.answer_frame-answer.ensures.back (hosts_of c.answer_frame-answer.new.desk) c.in-Ok-script_frame.frame c.in-Ok-script_frame.ensures.made c.answer_frame-answer.result is.0 is.1 c.answer_frame-answer.ensures.read_back
           c.count_reply.new.counts.items c.in-Ok-count_reply.ensures;
       few = omega (arith, c.answer_frame-answer.ensures.turns, c.loop-before.invariant.few);
