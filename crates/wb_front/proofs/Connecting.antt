@@ -19,16 +19,16 @@ use Rattle.wb_front.specs.Endings.{IsOpenYet, IsEnded}
 use Rattle.wb_front.specs.Served.{Exchange, IsExchange, IsReply, replies, reply_bytes, said, refusal, Sides, HasServed, HasReplied}
 use Rattle.wb_front.proofs.Serving.{read_on, served_more, sent_more, refused_more, stay_more, length_more}
 
-module _ (Ran : ℕ → Frame → Told → Type 0) (a : Sides) (left got : Option (List ℕ)) (moments : Option (List Tick)) (share : ℕ) (xs : List Exchange) (held : List ℕ)
-    (yet : IsOpenYet Ran a (record { left = left; got = got; moments = moments; share = share }) xs held) (room : length xs < 1000) (held' : List ℕ) (left' got' : Option (List ℕ)) (flows : Flows held left held' left') (same : got' ≡ got) where
+module _ {O : Type 0} (Ran : O → Frame → Told → O → Type 0) (a : Sides O) (left got : Option (List ℕ)) (moments : Option (List Tick)) (own : O) (xs : List Exchange) (held : List ℕ)
+    (yet : IsOpenYet Ran a (record { left = left; got = got; moments = moments; own = own }) xs held) (room : length xs < 1000) (held' : List ℕ) (left' got' : Option (List ℕ)) (flows : Flows held left held' left') (same : got' ≡ got) where
   -- what stands once more was read
-  abbrev read : Sides
-  read = record { left = left'; got = got'; moments = moments; share = share }
+  abbrev read : Sides O
+  read = record { left = left'; got = got'; moments = moments; own = own }
 
   served : HasServed Ran a read xs held'
   served =
-      let h = read_on Ran a (record { left = left; got = got; moments = moments; share = share }) xs held held' left' yet.replied.served flows in
-      record { exchanges = h.exchanges; share_is = h.share_is; bytes = h.bytes; turns = h.turns }
+      let h = read_on Ran a (record { left = left; got = got; moments = moments; own = own }) xs held held' left' yet.replied.served flows in
+      record { exchanges = h.exchanges; bytes = h.bytes; turns = h.turns }
 
   sent : Appends a.got got' (replies xs)
   sent = subst (λ o. Appends a.got o (replies xs)) (sym same) yet.replied.sent
@@ -48,42 +48,42 @@ module _ (Ran : ℕ → Frame → Told → Type 0) (a : Sides) (left got : Optio
   in_part cut ends = (xs, held', (waiting, cut, ends), within)
 
   -- the ticker failed
-  pub clock : (size : ℕ) (bytes : List ℕ) (asked : Asked) (moments' : Option (List Tick)) (share' : ℕ) → bytes ≡ take size held' → Reads bytes (Asks asked) → moments' ≡ moments → share' ≡ share →
-      IsEnded Ran a (record { left = left'; got = got'; moments = moments'; share = share' }) ended.ClockFault
-  clock size bytes asked moments' share' is reads none stays =
-      subst (λ m. IsEnded Ran a (record { left = left'; got = got'; moments = m; share = share' }) ended.ClockFault) (sym none)
-      (subst (λ s. IsEnded Ran a (record { left = left'; got = got'; moments = moments; share = s }) ended.ClockFault) (sym stays)
+  pub clock : (size : ℕ) (bytes : List ℕ) (asked : Asked) (moments' : Option (List Tick)) (own' : O) → bytes ≡ take size held' → Reads bytes (Asks asked) → moments' ≡ moments → own' ≡ own →
+      IsEnded Ran a (record { left = left'; got = got'; moments = moments'; own = own' }) ended.ClockFault
+  clock size bytes asked moments' own' is reads none stays =
+      subst (λ m. IsEnded Ran a (record { left = left'; got = got'; moments = m; own = own' }) ended.ClockFault) (sym none)
+      (subst (λ o. IsEnded Ran a (record { left = left'; got = got'; moments = moments; own = o }) ended.ClockFault) (sym stays)
       (xs, held', (waiting, (take size held', drop size held', sym (take-append-drop size held'), (asked, subst (λ bs. Reads bs (Asks asked)) is reads))), within))
 
   -- the bytes were no request
   pub refused : (fault : WireFault) (result : Ended) (left2 got2 : Option (List ℕ)) (before now : ℕ) → IsCut held' (Ends fault) → left2 ≡ left' →
       ((result ≡ ended.Refused fault) × Appends got' got2 (reply_bytes (refusal fault true))) ⊎ ((result ≡ ended.WriteFault) × Rose before now × AppendsFront got' got2 (reply_bytes (refusal fault true))) →
-      IsEnded Ran a (record { left = left2; got = got2; moments = moments; share = share }) result
+      IsEnded Ran a (record { left = left2; got = got2; moments = moments; own = own }) result
   refused fault result left2 got2 before now cut stays (inl h) =
-      subst (λ l. IsEnded Ran a (record { left = l; got = got2; moments = moments; share = share }) result) (sym stays)
-      (subst (IsEnded Ran a (record { left = left'; got = got2; moments = moments; share = share })) (sym h.0)
-      (xs, held', inl (record { served = record { exchanges = served.exchanges; share_is = served.share_is; bytes = served.bytes; turns = served.turns }; stay = yet.stay; room = room; cut = cut; sent = refused_more a read xs (reply_bytes (refusal fault true)) got2 sent h.1 }), within))
+      subst (λ l. IsEnded Ran a (record { left = l; got = got2; moments = moments; own = own }) result) (sym stays)
+      (subst (IsEnded Ran a (record { left = left'; got = got2; moments = moments; own = own })) (sym h.0)
+      (xs, held', inl (record { served = record { exchanges = served.exchanges; bytes = served.bytes; turns = served.turns }; stay = yet.stay; room = room; cut = cut; sent = refused_more a read xs (reply_bytes (refusal fault true)) got2 sent h.1 }), within))
   refused fault result left2 got2 before now cut stays (inr h) =
-      subst (λ l. IsEnded Ran a (record { left = l; got = got2; moments = moments; share = share }) result) (sym stays)
-      (subst (IsEnded Ran a (record { left = left'; got = got2; moments = moments; share = share })) (sym h.0)
-      (xs, held', (record { exchanges = served.exchanges; share_is = served.share_is; bytes = served.bytes; turns = served.turns }, record { before = replies xs; last = reply_bytes (refusal fault true); is_last = inr (fault, cut, yet.stay, room, refl, refl); part = h.2.0; rest = h.2.1; cut = h.2.2; sent = refused_more a read xs h.2.0 got2 sent h.2.3 }), within))
+      subst (λ l. IsEnded Ran a (record { left = l; got = got2; moments = moments; own = own }) result) (sym stays)
+      (subst (IsEnded Ran a (record { left = left'; got = got2; moments = moments; own = own })) (sym h.0)
+      (xs, held', (record { exchanges = served.exchanges; bytes = served.bytes; turns = served.turns }, record { before = replies xs; last = reply_bytes (refusal fault true); is_last = inr (fault, cut, yet.stay, room, refl, refl); part = h.2.0; rest = h.2.1; cut = h.2.2; sent = refused_more a read xs h.2.0 got2 sent h.2.3 }), within))
 
   -- a request was answered
-  module _ (size : ℕ) (cut : IsCut held' (Cuts (take size held') (drop size held'))) (bytes : List ℕ) (is : bytes ≡ take size held') (answer : Answer) (tick : Option Tick) (share' : ℕ) (moments' : Option (List Tick))
-      (told : IsAnswered Ran share share' moments moments' bytes answer tick) (left2 got2 : Option (List ℕ)) (stays : left2 ≡ left') where
+  module _ (size : ℕ) (cut : IsCut held' (Cuts (take size held') (drop size held'))) (bytes : List ℕ) (is : bytes ≡ take size held') (answer : Answer) (tick : Option Tick) (own' : O) (moments' : Option (List Tick))
+      (told : IsAnswered Ran own own' moments moments' bytes answer tick) (left2 got2 : Option (List ℕ)) (stays : left2 ≡ left') where
     abbrev exchange : Exchange
     exchange = record { request = take size held'; reply = reply_of answer; tick = tick }
 
-    abbrev after : Sides
-    after = record { left = left2; got = got2; moments = moments'; share = share' }
+    abbrev after : Sides O
+    after = record { left = left2; got = got2; moments = moments'; own = own' }
 
-    one : IsExchange Ran share exchange
-    one = record { whole = cut.1; replied = subst (λ bs. IsReply Ran share bs (reply_of answer) tick) is told.replied }
+    one : IsExchange Ran own own' exchange
+    one = record { whole = cut.1; replied = subst (λ bs. IsReply Ran own own' bs (reply_of answer) tick) is told.replied }
 
     served_on : HasServed Ran a after (xs ++ exchange ∷ []) (drop size held')
     served_on =
-        subst (λ l. HasServed Ran a (record { left = l; got = got2; moments = moments'; share = share' }) (xs ++ exchange ∷ []) (drop size held')) (sym stays)
-        (served_more Ran a read xs held' (drop size held') exchange got2 moments' share' served cut.0 one told.share_is told.turns)
+        subst (λ l. HasServed Ran a (record { left = l; got = got2; moments = moments'; own = own' }) (xs ++ exchange ∷ []) (drop size held')) (sym stays)
+        (served_more Ran a read xs held' (drop size held') exchange got2 moments' own' served cut.0 one told.turns)
 
     more_within : length (xs ++ exchange ∷ []) ≤ 1000
     more_within = omega (arith, room, length_more xs exchange)

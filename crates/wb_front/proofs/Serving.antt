@@ -7,13 +7,9 @@ use Rattle.wb_model.specs.Requests.{Frame}
 use Rattle.wb_links.specs.Lines.{Tick}
 use Rattle.wb_front.specs.Arrivals.{Flows}
 use Rattle.wb_front.specs.Endings.{IsOpenYet}
-use Rattle.wb_front.specs.Served.{Exchange, IsExchange, AreExchanges, share_after, shares, requests, replies_after, replies, reply_bytes, said, tick_of, ticks, StayOpen, Sides, Loses, HasServed}
+use Rattle.wb_front.specs.Served.{Exchange, IsExchange, AreExchanges, requests, replies_after, replies, reply_bytes, said, tick_of, ticks, StayOpen, Sides, Loses, HasServed}
 
 -- ---- lists of exchanges
-
-shares_more : (xs : List Exchange) (x : Exchange) (s : ℕ) → shares (xs ++ x ∷ []) s ≡ share_after x (shares xs s)
-shares_more [] x s = refl
-shares_more (y ∷ ys) x s = shares_more ys x (share_after y s)
 
 requests_more : (xs : List Exchange) (x : Exchange) → requests (xs ++ x ∷ []) ≡ requests xs ++ x.request
 requests_more [] x = append-nil x.request
@@ -33,9 +29,9 @@ ticks_more : (xs : List Exchange) (x : Exchange) → ticks (xs ++ x ∷ []) ≡ 
 ticks_more [] x = append-nil (tick_of x.tick)
 ticks_more (y ∷ ys) x = ap (λ ts. tick_of y.tick ++ ts) (ticks_more ys x) ∙ sym (append_assoc (tick_of y.tick) (ticks ys) (tick_of x.tick))
 
-exchanges_more : (Ran : ℕ → Frame → Told → Type 0) (s : ℕ) (xs : List Exchange) (x : Exchange) → AreExchanges Ran s xs → IsExchange Ran (shares xs s) x → AreExchanges Ran s (xs ++ x ∷ [])
-exchanges_more Ran s [] x all one = (one, tt)
-exchanges_more Ran s (y ∷ ys) x all one = (all.0, exchanges_more Ran (share_after y s) ys x all.1 one)
+exchanges_more : {O : Type 0} (Ran : O → Frame → Told → O → Type 0) (own mid own' : O) (xs : List Exchange) (x : Exchange) → AreExchanges Ran own xs mid → IsExchange Ran mid own' x → AreExchanges Ran own (xs ++ x ∷ []) own'
+exchanges_more Ran own mid own' [] x all one = (own', subst (λ o. IsExchange Ran o own' x) all one, refl)
+exchanges_more Ran own mid own' (y ∷ ys) x all one = (all.0, all.1, exchanges_more Ran all.0 mid own' ys x all.2 one)
 
 pub stay_more : (xs : List Exchange) (x : Exchange) → StayOpen xs → x.reply.close ≡ false → StayOpen (xs ++ x ∷ [])
 stay_more [] x all one = (one, tt)
@@ -58,35 +54,33 @@ appends_on (Some xs) (Some ys) (Some zs) front more first then = then ∙ (ap (�
 -- ---- a connection
 
 -- more bytes were read
-pub read_on : (Ran : ℕ → Frame → Told → Type 0) (a b : Sides) (xs : List Exchange) (held held' : List ℕ) (left' : Option (List ℕ)) → HasServed Ran a b xs held → Flows held b.left held' left' → HasServed Ran a (record b { left = left' }) xs held'
+pub read_on : {O : Type 0} (Ran : O → Frame → Told → O → Type 0) (a b : Sides O) (xs : List Exchange) (held held' : List ℕ) (left' : Option (List ℕ)) → HasServed Ran a b xs held → Flows held b.left held' left' → HasServed Ran a (record b { left = left' }) xs held'
 read_on Ran a b xs held held' left' h flows = record {
   exchanges = h.exchanges;
-  share_is = h.share_is;
   bytes = λ l is. let one = h.bytes l is in let two = flows one.0 one.1 in
       (two.0, two.1, one.2 ∙ (append_assoc (requests xs) held one.0 ∙ (ap (λ bs. requests xs ++ bs) two.2 ∙ sym (append_assoc (requests xs) held' two.0))));
   turns = h.turns;
 }
 
 -- one more exchange was made
-pub served_more : (Ran : ℕ → Frame → Told → Type 0) (a b : Sides) (xs : List Exchange) (held rest : List ℕ) (x : Exchange) (got' : Option (List ℕ)) (moments' : Option (List Tick)) (share' : ℕ) → HasServed Ran a b xs held → held ≡ x.request ++ rest →
-    IsExchange Ran b.share x → share' ≡ share_after x b.share → Loses b.moments moments' (tick_of x.tick) → HasServed Ran a (record { left = b.left; got = got'; moments = moments'; share = share' }) (xs ++ x ∷ []) rest
-served_more Ran a b xs held rest x got' moments' share' h parts one rises loses = record {
-  exchanges = exchanges_more Ran a.share xs x h.exchanges (subst (λ s. IsExchange Ran s x) h.share_is one);
-  share_is = rises ∙ (ap (share_after x) h.share_is ∙ sym (shares_more xs x a.share));
+pub served_more : {O : Type 0} (Ran : O → Frame → Told → O → Type 0) (a b : Sides O) (xs : List Exchange) (held rest : List ℕ) (x : Exchange) (got' : Option (List ℕ)) (moments' : Option (List Tick)) (own' : O) → HasServed Ran a b xs held → held ≡ x.request ++ rest →
+    IsExchange Ran b.own own' x → Loses b.moments moments' (tick_of x.tick) → HasServed Ran a (record { left = b.left; got = got'; moments = moments'; own = own' }) (xs ++ x ∷ []) rest
+served_more Ran a b xs held rest x got' moments' own' h parts one loses = record {
+  exchanges = exchanges_more Ran a.own b.own own' xs x h.exchanges one;
   bytes = subst (Loses a.left b.left) (ap (λ bs. requests xs ++ bs) parts ∙ (sym (append_assoc (requests xs) x.request rest) ∙ ap (λ bs. bs ++ rest) (sym (requests_more xs x)))) h.bytes;
   turns = subst (Loses a.moments moments') (sym (ticks_more xs x)) (loses_on a.moments b.moments moments' (ticks xs) (tick_of x.tick) h.turns loses);
 }
 
-pub sent_more : (a b : Sides) (xs : List Exchange) (x : Exchange) (got' : Option (List ℕ)) → Appends a.got b.got (replies xs) → Appends b.got got' (reply_bytes (said (length xs) x.reply)) → Appends a.got got' (replies (xs ++ x ∷ []))
+pub sent_more : {O : Type 0} (a b : Sides O) (xs : List Exchange) (x : Exchange) (got' : Option (List ℕ)) → Appends a.got b.got (replies xs) → Appends b.got got' (reply_bytes (said (length xs) x.reply)) → Appends a.got got' (replies (xs ++ x ∷ []))
 sent_more a b xs x got' first then = subst (Appends a.got got') (sym (replies_more xs x)) (appends_on a.got b.got got' (replies xs) (reply_bytes (said (length xs) x.reply)) first then)
 
-pub refused_more : (a b : Sides) (xs : List Exchange) (bytes : List ℕ) (got' : Option (List ℕ)) → Appends a.got b.got (replies xs) → Appends b.got got' bytes → Appends a.got got' (replies xs ++ bytes)
+pub refused_more : {O : Type 0} (a b : Sides O) (xs : List Exchange) (bytes : List ℕ) (got' : Option (List ℕ)) → Appends a.got b.got (replies xs) → Appends b.got got' bytes → Appends a.got got' (replies xs ++ bytes)
 refused_more a b xs bytes got' first then = appends_on a.got b.got got' (replies xs) bytes first then
 
 -- none was made yet
-pub nothing_yet : (Ran : ℕ → Frame → Told → Type 0) (a : Sides) → IsOpenYet Ran a a [] []
+pub nothing_yet : {O : Type 0} (Ran : O → Frame → Told → O → Type 0) (a : Sides O) → IsOpenYet Ran a a [] []
 nothing_yet Ran a = record {
-  replied = record { served = record { exchanges = tt; share_is = refl; bytes = λ l is. (l, is, refl); turns = λ ts is. (ts, is, refl) }; sent = nothing a.got };
+  replied = record { served = record { exchanges = refl; bytes = λ l is. (l, is, refl); turns = λ ts is. (ts, is, refl) }; sent = nothing a.got };
   stay = tt;
 }
   where

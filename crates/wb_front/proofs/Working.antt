@@ -19,16 +19,16 @@ grown None new g bytes is h = absurd cc
 grown (Some xs) None g bytes is h = absurd h
 grown (Some xs) (Some ys) g bytes is h = (ys, refl)
 
-still_left : (Ran : ℕ → Frame → Told → Type 0) (a b : Sides) (xs : List Exchange) (held l : List ℕ) → a.left ≡ Some l → HasServed Ran a b xs held → (l' : List ℕ) × (b.left ≡ Some l')
+still_left : {O : Type 0} (Ran : O → Frame → Told → O → Type 0) (a b : Sides O) (xs : List Exchange) (held l : List ℕ) → a.left ≡ Some l → HasServed Ran a b xs held → (l' : List ℕ) × (b.left ≡ Some l')
 still_left Ran a b xs held l is h = let lost = h.bytes l is in (lost.0, lost.1)
 
-abbrev StillTells : Sides → Type 0
+abbrev StillTells : {O : Type 0} → Sides O → Type 0
 StillTells b = (l : List ℕ) × (g : List ℕ) × (b.left ≡ Some l) × (b.got ≡ Some g)
 
-tells_by : (Ran : ℕ → Frame → Told → Type 0) (a b : Sides) (xs : List Exchange) (held l g bytes : List ℕ) → a.left ≡ Some l → a.got ≡ Some g → HasServed Ran a b xs held → Appends a.got b.got bytes → StillTells b
+tells_by : {O : Type 0} (Ran : O → Frame → Told → O → Type 0) (a b : Sides O) (xs : List Exchange) (held l g bytes : List ℕ) → a.left ≡ Some l → a.got ≡ Some g → HasServed Ran a b xs held → Appends a.got b.got bytes → StillTells b
 tells_by Ran a b xs held l g bytes left got h sent = let one = still_left Ran a b xs held l left h in let two = grown a.got b.got g bytes got sent in (one.0, two.0, one.1, two.1)
 
-tells_so : (Ran : ℕ → Frame → Told → Type 0) (a b : Sides) (xs : List Exchange) (held l g : List ℕ) (how : Ended) → a.left ≡ Some l → a.got ≡ Some g → EndsSo Ran a b xs held how → StillTells b
+tells_so : {O : Type 0} (Ran : O → Frame → Told → O → Type 0) (a b : Sides O) (xs : List Exchange) (held l g : List ℕ) (how : Ended) → a.left ≡ Some l → a.got ≡ Some g → EndsSo Ran a b xs held how → StillTells b
 tells_so Ran a b xs held l g ended.Closed left got (inl h) = tells_by Ran a b xs held l g _ left got h.0.replied.served h.0.replied.sent
 tells_so Ran a b xs held l g ended.Closed left got (inr h) = tells_by Ran a b xs held l g _ left got h.0.served h.0.sent
 tells_so Ran a b xs held l g ended.CutShort left got h = tells_by Ran a b xs held l g _ left got h.0.replied.served h.0.replied.sent
@@ -38,39 +38,39 @@ tells_so Ran a b xs held l g ended.ClockFault left got h = tells_by Ran a b xs h
 tells_so Ran a b xs held l g ended.Spent left got h = tells_by Ran a b xs held l g _ left got h.0.replied.served h.0.replied.sent
 tells_so Ran a b xs held l g (ended.Refused fault) left got (inl h) = tells_by Ran a b xs held l g _ left got h.served h.sent
 tells_so Ran a b xs held l g (ended.Refused fault) left got (inr h) = tells_by Ran a b xs held l g _ left got h.0.served h.0.sent
-tells_so Ran a b xs held l g ended.Memory left got h = (l, g, ap (λ (s : Sides). s.left) h ∙ left, ap (λ (s : Sides). s.got) h ∙ got)
+tells_so Ran a b xs held l g ended.Memory left got h = (l, g, ap (λ (s : Sides _). s.left) h ∙ left, ap (λ (s : Sides _). s.got) h ∙ got)
 
-pub still_tells : (Ran : ℕ → Frame → Told → Type 0) (a b : Sides) (l g : List ℕ) (how : Ended) → a.left ≡ Some l → a.got ≡ Some g → IsEnded Ran a b how → StillTells b
+pub still_tells : {O : Type 0} (Ran : O → Frame → Told → O → Type 0) (a b : Sides O) (l g : List ℕ) (how : Ended) → a.left ≡ Some l → a.got ≡ Some g → IsEnded Ran a b how → StillTells b
 still_tells Ran a b l g how left got h = tells_so Ran a b h.0 h.1 l g how left got h.2
 
 -- one more link was attended
-attended_more : (Ran : ℕ → Frame → Told → Type 0) (gave came : List Line) (a b : Line) (share s share' : ℕ) (clock c clock' : Clock) → AreAttended Ran gave came share s clock c → IsAttended Ran a b s share' c clock' →
-    AreAttended Ran (gave ++ a ∷ []) (came ++ b ∷ []) share share' clock clock'
-attended_more Ran [] [] a b share s share' clock c clock' all one =
-    (share', clock', subst (λ n. IsAttended Ran a b n share' clock clock') all.0 (subst (λ o. IsAttended Ran a b s share' o clock') all.1 one), (refl, refl))
-attended_more Ran [] (y ∷ ys) a b share s share' clock c clock' all one = absurd all
-attended_more Ran (x ∷ xs) [] a b share s share' clock c clock' all one = absurd all
-attended_more Ran (x ∷ xs) (y ∷ ys) a b share s share' clock c clock' all one = (all.0, all.1, all.2, attended_more Ran xs ys a b all.0 s share' all.1 c clock' all.3 one)
+attended_more : {O : Type 0} (Ran : O → Frame → Told → O → Type 0) (gave came : List Line) (a b : Line) (own o own' : O) (clock c clock' : Clock) → AreAttended Ran gave came own o clock c → IsAttended Ran a b o own' c clock' →
+    AreAttended Ran (gave ++ a ∷ []) (came ++ b ∷ []) own own' clock clock'
+attended_more Ran [] [] a b own o own' clock c clock' all one =
+    (own', clock', subst (λ q. IsAttended Ran a b q own' clock clock') all.0 (subst (λ r. IsAttended Ran a b o own' r clock') all.1 one), (refl, refl))
+attended_more Ran [] (y ∷ ys) a b own o own' clock c clock' all one = absurd all
+attended_more Ran (x ∷ xs) [] a b own o own' clock c clock' all one = absurd all
+attended_more Ran (x ∷ xs) (y ∷ ys) a b own o own' clock c clock' all one = (all.0, all.1, all.2, attended_more Ran xs ys a b all.0 o own' all.1 c clock' all.3 one)
 
-pub worked_more : (Ran : ℕ → Frame → Told → Type 0) (x y : Lines) (a b : Line) (rest : List Line) (share s share' : ℕ) (clock c clock' : Clock) → HasWorked Ran x y share s clock c → y.left ≡ a ∷ rest → IsAttended Ran a b s share' c clock' →
-    HasWorked Ran x (record { left = rest; out = y.out; came = y.came ++ b ∷ [] }) share share' clock clock'
-worked_more Ran x y a b rest share s share' clock c clock' h left one = record {
+pub worked_more : {O : Type 0} (Ran : O → Frame → Told → O → Type 0) (x y : Lines) (a b : Line) (rest : List Line) (own o own' : O) (clock c clock' : Clock) → HasWorked Ran x y own o clock c → y.left ≡ a ∷ rest → IsAttended Ran a b o own' c clock' →
+    HasWorked Ran x (record { left = rest; out = y.out; came = y.came ++ b ∷ [] }) own own' clock clock'
+worked_more Ran x y a b rest own o own' clock c clock' h left one = record {
   gave = h.gave ++ a ∷ [];
   came = h.came ++ b ∷ [];
   left_is = h.left_is ∙ (ap (λ ls. h.gave ++ ls) left ∙ sym (append_assoc h.gave (a ∷ []) rest));
   came_is = ap (λ ls. ls ++ b ∷ []) h.came_is ∙ append_assoc x.came h.came (b ∷ []);
   out_is = h.out_is;
-  attended = attended_more Ran h.gave h.came a b share s share' clock c clock' h.attended one;
+  attended = attended_more Ran h.gave h.came a b own o own' clock c clock' h.attended one;
 }
 
-pub nothing_worked : (Ran : ℕ → Frame → Told → Type 0) (x : Lines) (share : ℕ) (clock : Clock) → HasWorked Ran x x share share clock clock
-nothing_worked Ran x share clock = record { gave = []; came = []; left_is = refl; came_is = sym (append-nil x.came); out_is = refl; attended = (refl, refl) }
+pub nothing_worked : {O : Type 0} (Ran : O → Frame → Told → O → Type 0) (x : Lines) (own : O) (clock : Clock) → HasWorked Ran x x own own clock clock
+nothing_worked Ran x own clock = record { gave = []; came = []; left_is = refl; came_is = sym (append-nil x.came); out_is = refl; attended = (refl, refl) }
 
-pub ended_at : (Ran : ℕ → Frame → Told → Type 0) (left got left' got' : Option (List ℕ)) (a b : Line) (moments moments' : Option (List Tick)) (share share' : ℕ) (how : Ended) → left ≡ Some a.left → got ≡ Some a.got → left' ≡ Some b.left → got' ≡ Some b.got →
-    IsEnded Ran (record { left = left; got = got; moments = moments; share = share }) (record { left = left'; got = got'; moments = moments'; share = share' }) how → IsEnded Ran (sides_of a moments share) (sides_of b moments' share') how
-ended_at Ran left got left' got' a b moments moments' share share' how l g l' g' h =
-    subst (λ (s : Sides). IsEnded Ran s (sides_of b moments' share') how) (λ i. record { left = l i; got = g i; moments = moments; share = share })
-    (subst (λ (s : Sides). IsEnded Ran (record { left = left; got = got; moments = moments; share = share }) s how) (λ i. record { left = l' i; got = g' i; moments = moments'; share = share' }) h)
+pub ended_at : {O : Type 0} (Ran : O → Frame → Told → O → Type 0) (left got left' got' : Option (List ℕ)) (a b : Line) (moments moments' : Option (List Tick)) (own own' : O) (how : Ended) → left ≡ Some a.left → got ≡ Some a.got → left' ≡ Some b.left → got' ≡ Some b.got →
+    IsEnded Ran (record { left = left; got = got; moments = moments; own = own }) (record { left = left'; got = got'; moments = moments'; own = own' }) how → IsEnded Ran (sides_of a moments own) (sides_of b moments' own') how
+ended_at Ran left got left' got' a b moments moments' own own' how l g l' g' h =
+    subst (λ (s : Sides _). IsEnded Ran s (sides_of b moments' own') how) (λ i. record { left = l i; got = g i; moments = moments; own = own })
+    (subst (λ (s : Sides _). IsEnded Ran (record { left = left; got = got; moments = moments; own = own }) s how) (λ i. record { left = l' i; got = g' i; moments = moments'; own = own' }) h)
 
 -- ---- a listener's calls
 

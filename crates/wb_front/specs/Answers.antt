@@ -6,7 +6,7 @@ use Rattle.wb_model.specs.Readings.{closes_always}
 use Rattle.wb_model.specs.Requests.{Frame}
 use Rattle.wb_model.specs.Scripts.{Reply}
 use Rattle.wb_links.specs.Lines.{Tick}
-use Rattle.wb_front.specs.Served.{IsReply, Loses, refusal, share_by, tick_of}
+use Rattle.wb_front.specs.Served.{IsReply, Loses, refusal, tick_of}
 use Rattle.wb_front.specs.declared.answers.Answer.{Answer}
 
 abbrev pub reply_of : Answer → Reply
@@ -18,9 +18,8 @@ abbrev pub IsFatal : Option WireFault → Reply → Option Tick → Type 0
 IsFatal None reply tick = (tick ≢ None) ⊎ ((fault : WireFault) × (close : Bool) × (closes_always fault ≡ false) × (reply ≡ refusal fault close))
 IsFatal (Some fault) reply tick = (closes_always fault ≡ true) × (tick ≡ None) × (reply ≡ refusal fault reply.close)
 
--- the answer is the reply to these bytes, by a turn at this tick or none, with the pass's share and the ticks that are left before and after
-pub record IsAnswered (Ran : ℕ → Frame → Told → Type 0) (share share' : ℕ) (moments moments' : Option (List Tick)) (bytes : List ℕ) (a : Answer) (tick : Option Tick) : Type 0 where
-  pub replied : IsReply Ran share bytes (reply_of a) tick
-  pub share_is : share' ≡ share_by tick a.told share
+-- the answer is the reply to these bytes, by a turn at this tick or none, with what is had of the gate and the ticks that are left before and after
+pub record IsAnswered {O : Type 0} (Ran : O → Frame → Told → O → Type 0) (own own' : O) (moments moments' : Option (List Tick)) (bytes : List ℕ) (a : Answer) (tick : Option Tick) : Type 0 where
+  pub replied : IsReply Ran own own' bytes (reply_of a) tick
   pub turns : Loses moments moments' (tick_of tick)
   pub fatal : IsFatal a.fatal (reply_of a) tick

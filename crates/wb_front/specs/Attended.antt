@@ -17,35 +17,35 @@ pub record Clock : Type 0 where
 abbrev pub clock_of : Option (List Tick) → ℕ → Clock
 clock_of left count = record { left = left; count = count }
 
--- a link that tells, at a share of the turns and with these ticks to come
-abbrev pub sides_of : Line → Option (List Tick) → ℕ → Sides
-sides_of line moments share = record { left = Some line.left; got = Some line.got; moments = moments; share = share }
+-- a link that tells, with these ticks to come and this of the gate
+abbrev pub sides_of : {O : Type 0} → Line → Option (List Tick) → O → Sides O
+sides_of line moments own = record { left = Some line.left; got = Some line.got; moments = moments; own = own }
 
 -- a connection over it ended so: by a fault of the link, or of the ticker, where and only where that failed
-pub record IsAttended (Ran : ℕ → Frame → Told → Type 0) (a b : Line) (share share' : ℕ) (clock clock' : Clock) : Type 0 where
+pub record IsAttended {O : Type 0} (Ran : O → Frame → Told → O → Type 0) (a b : Line) (own own' : O) (clock clock' : Clock) : Type 0 where
   pub how : Ended
-  pub ended : IsEnded Ran (sides_of a clock.left share) (sides_of b clock'.left share') how
+  pub ended : IsEnded Ran (sides_of a clock.left own) (sides_of b clock'.left own') how
   pub read_failed : how ≡ endings.ReadFault → Rose a.count b.count
   pub write_failed : how ≡ endings.WriteFault → Rose a.count b.count
   pub clock_failed : how ≡ endings.ClockFault → Rose clock.count clock'.count
   pub link_stayed : how ≢ endings.ReadFault → how ≢ endings.WriteFault → b.count ≡ a.count
   pub clock_stayed : how ≢ endings.ClockFault → clock'.count ≡ clock.count
 
--- each in turn, each from the share and the ticks that the one before it left
-abbrev pub AreAttended : (ℕ → Frame → Told → Type 0) → List Line → List Line → ℕ → ℕ → Clock → Clock → Type 0
-AreAttended Ran [] [] share share' clock clock' = (share' ≡ share) × (clock' ≡ clock)
-AreAttended Ran [] (b ∷ bs) share share' clock clock' = ⊥
-AreAttended Ran (a ∷ lines) [] share share' clock clock' = ⊥
-AreAttended Ran (a ∷ lines) (b ∷ bs) share share' clock clock' = (s : ℕ) × (c : Clock) × IsAttended Ran a b share s clock c × AreAttended Ran lines bs s share' c clock'
+-- each in turn, each from what the one before it left of the gate and the ticks
+abbrev pub AreAttended : {O : Type 0} → (O → Frame → Told → O → Type 0) → List Line → List Line → O → O → Clock → Clock → Type 0
+AreAttended {O} Ran [] [] own own' clock clock' = (own' ≡ own) × (clock' ≡ clock)
+AreAttended {O} Ran [] (b ∷ bs) own own' clock clock' = ⊥
+AreAttended {O} Ran (a ∷ lines) [] own own' clock clock' = ⊥
+AreAttended {O} Ran (a ∷ lines) (b ∷ bs) own own' clock clock' = (o : O) × (c : Clock) × IsAttended Ran a b own o clock c × AreAttended Ran lines bs o own' c clock'
 
 -- the links that came back are those that were given, in order, each attended
-pub record HasWorked (Ran : ℕ → Frame → Told → Type 0) (x y : Lines) (share share' : ℕ) (clock clock' : Clock) : Type 0 where
+pub record HasWorked {O : Type 0} (Ran : O → Frame → Told → O → Type 0) (x y : Lines) (own own' : O) (clock clock' : Clock) : Type 0 where
   pub gave : List Line
   pub came : List Line
   pub left_is : x.left ≡ gave ++ y.left
   pub came_is : y.came ≡ x.came ++ came
   pub out_is : y.out ≡ x.out
-  pub attended : AreAttended Ran gave came share share' clock clock'
+  pub attended : AreAttended Ran gave came own own' clock clock'
 
 -- a count rose by so many, or stands at its last value
 abbrev pub RoseOften : ℕ → ℕ → ℕ → Type 0

@@ -12,7 +12,7 @@ use Rattle.wb_front.specs.declared.connection.Ended.{Ended}
 use Rattle.wb_front.specs.declared.connection.Ended.TheVariants as ended
 
 -- exchanges were made and replied to, none of which closes, and these bytes were read besides
-pub record IsOpenYet (Ran : ℕ → Frame → Told → Type 0) (a b : Sides) (xs : List Exchange) (held : List ℕ) : Type 0 where
+pub record IsOpenYet {O : Type 0} (Ran : O → Frame → Told → O → Type 0) (a b : Sides O) (xs : List Exchange) (held : List ℕ) : Type 0 where
   pub replied : HasReplied Ran a b xs held
   pub stay : StayOpen xs
 
@@ -25,7 +25,7 @@ abbrev pub IsRefusedLast : WireFault → List Exchange → Type 0
 IsRefusedLast fault xs = (x : Exchange) × ClosesLast xs x × IsFatal (Some fault) x.reply x.tick
 
 -- the bytes that follow the exchanges are no request, and were refused
-pub record IsRefusedHead (Ran : ℕ → Frame → Told → Type 0) (a b : Sides) (fault : WireFault) (xs : List Exchange) (held : List ℕ) : Type 0 where
+pub record IsRefusedHead {O : Type 0} (Ran : O → Frame → Told → O → Type 0) (a b : Sides O) (fault : WireFault) (xs : List Exchange) (held : List ℕ) : Type 0 where
   pub served : HasServed Ran a b xs held
   pub stay : StayOpen xs
   pub room : length xs < 1000
@@ -33,7 +33,7 @@ pub record IsRefusedHead (Ran : ℕ → Frame → Told → Type 0) (a b : Sides)
   pub sent : Appends a.got b.got (replies xs ++ reply_bytes (refusal fault true))
 
 -- each reply but the last was sent whole, and of the last a part that begins at its front
-pub record IsCutOff (a b : Sides) (xs : List Exchange) (held : List ℕ) : Type 0 where
+pub record IsCutOff {O : Type 0} (a b : Sides O) (xs : List Exchange) (held : List ℕ) : Type 0 where
   pub before : List ℕ
   pub last : List ℕ
   pub is_last : IsSentLast xs held before last
@@ -43,7 +43,7 @@ pub record IsCutOff (a b : Sides) (xs : List Exchange) (held : List ℕ) : Type 
   pub sent : Appends a.got b.got (before ++ part)
 
 -- by the exchanges that were made and the bytes that were read besides
-abbrev pub EndsSo : (ℕ → Frame → Told → Type 0) → Sides → Sides → List Exchange → List ℕ → Ended → Type 0
+abbrev pub EndsSo : {O : Type 0} → (O → Frame → Told → O → Type 0) → Sides O → Sides O → List Exchange → List ℕ → Ended → Type 0
 EndsSo Ran a b xs held ended.Closed = (IsOpenYet Ran a b xs held × (held ≡ []) × IsAtEnd b.left) ⊎ (HasReplied Ran a b xs held × IsClosed xs)
 EndsSo Ran a b xs held ended.CutShort = IsOpenYet Ran a b xs held × IsCut held Part × IsAtEnd b.left
 EndsSo Ran a b xs held ended.ReadFault = IsOpenYet Ran a b xs held × IsUnfinished held
@@ -54,5 +54,5 @@ EndsSo Ran a b xs held (ended.Refused fault) = IsRefusedHead Ran a b fault xs he
 EndsSo Ran a b xs held ended.Memory = b ≡ a
 
 -- a connection that stood so is ended so, after a thousand exchanges at most
-abbrev pub IsEnded : (ℕ → Frame → Told → Type 0) → Sides → Sides → Ended → Type 0
+abbrev pub IsEnded : {O : Type 0} → (O → Frame → Told → O → Type 0) → Sides O → Sides O → Ended → Type 0
 IsEnded Ran a b ended = (xs : List Exchange) × (held : List ℕ) × EndsSo Ran a b xs held ended × (length xs ≤ 1000)

@@ -11,7 +11,6 @@ use Rattle.wb_model.specs.Readings.{Asks, Refuses, Reads, Closes}
 use Rattle.wb_model.specs.Replies.{fault_told, fault_allow, reply_text}
 use Rattle.wb_model.specs.Requests.{Frame}
 use Rattle.wb_model.specs.Scripts.{Reply}
-use Rattle.wb_kept.specs.Turned.{turns_with}
 use Rattle.wb_links.specs.Lines.{Tick}
 
 -- a request's bytes, its reply, and the moment and words of its turn, where it was one
@@ -26,9 +25,9 @@ frame_at tick asked = record { moment = tick.0; words = tick.1; asked = asked }
 
 -- ---- what a reply is
 
--- the gate's answer to what the bytes ask: the turn ran, for a pass with this share
-abbrev pub IsTurn : (ℕ → Frame → Told → Type 0) → ℕ → Tick → List ℕ → Reply → Type 0
-IsTurn Ran share tick bytes reply = (asked : Asked) × Reads bytes (Asks asked) × Ran share (frame_at tick asked) reply.told × (reply.allow ≡ None) × (reply.close ≡ asked.close)
+-- the gate's answer to what the bytes ask: the turn ran, for one who had this of the gate before and that after
+abbrev pub IsTurn : {O : Type 0} → (O → Frame → Told → O → Type 0) → O → O → Tick → List ℕ → Reply → Type 0
+IsTurn Ran own own' tick bytes reply = (asked : Asked) × Reads bytes (Asks asked) × Ran own (frame_at tick asked) reply.told own' × (reply.allow ≡ None) × (reply.close ≡ asked.close)
 
 abbrev pub refusal : WireFault → Bool → Reply
 refusal fault close = record { told = fault_told fault; allow = fault_allow fault; close = close }
@@ -41,32 +40,22 @@ AsksNoHealth bytes = (asked : Asked) → Reads bytes (Asks asked) → is_health 
 abbrev pub IsRefused : List ℕ → WireFault → Bool → Type 0
 IsRefused bytes fault close = (fault ≢ faults.Memory → Reads bytes (Refuses fault close)) × (fault ≡ faults.Memory → Closes bytes close × AsksNoHealth bytes)
 
-abbrev pub IsReply : (ℕ → Frame → Told → Type 0) → ℕ → List ℕ → Reply → Option Tick → Type 0
-IsReply Ran share bytes reply (Some tick) = IsTurn Ran share tick bytes reply
-IsReply Ran share bytes reply None = (fault : WireFault) × (close : Bool) × IsRefused bytes fault close × (reply ≡ refusal fault close)
+-- a turn, or no turn and the refusal of what asks nothing
+abbrev pub IsReply : {O : Type 0} → (O → Frame → Told → O → Type 0) → O → O → List ℕ → Reply → Option Tick → Type 0
+IsReply Ran own own' bytes reply (Some tick) = IsTurn Ran own own' tick bytes reply
+IsReply Ran own own' bytes reply None = (own' ≡ own) × (fault : WireFault) × (close : Bool) × IsRefused bytes fault close × (reply ≡ refusal fault close)
 
 -- a request is a head with its whole body, and has its reply
-pub record IsExchange (Ran : ℕ → Frame → Told → Type 0) (share : ℕ) (x : Exchange) : Type 0 where
+pub record IsExchange {O : Type 0} (Ran : O → Frame → Told → O → Type 0) (own own' : O) (x : Exchange) : Type 0 where
   pub whole : (body : List ℕ) × HasHead x.request body (length body)
-  pub replied : IsReply Ran share x.request x.reply x.tick
+  pub replied : IsReply Ran own own' x.request x.reply x.tick
 
 -- ---- one after another
 
--- the pass's share of the turns after an exchange
-abbrev pub share_by : Option Tick → Told → ℕ → ℕ
-share_by None told share = share
-share_by (Some tick) told share = turns_with told share
-
-abbrev pub share_after : Exchange → ℕ → ℕ
-share_after x share = share_by x.tick x.reply.told share
-
-abbrev pub shares : List Exchange → ℕ → ℕ
-shares [] share = share
-shares (x ∷ xs) share = shares xs (share_after x share)
-
-abbrev pub AreExchanges : (ℕ → Frame → Told → Type 0) → ℕ → List Exchange → Type 0
-AreExchanges Ran share [] = Unit {0}
-AreExchanges Ran share (x ∷ xs) = IsExchange Ran share x × AreExchanges Ran (share_after x share) xs
+-- each from what the one before it left
+abbrev pub AreExchanges : {O : Type 0} → (O → Frame → Told → O → Type 0) → O → List Exchange → O → Type 0
+AreExchanges {O} Ran own [] own' = own' ≡ own
+AreExchanges {O} Ran own (x ∷ xs) own' = (o : O) × IsExchange Ran own o x × AreExchanges Ran o xs own'
 
 -- the bytes of all requests, and of all replies
 abbrev pub requests : List Exchange → List ℕ
@@ -108,26 +97,25 @@ StayOpen (x ∷ xs) = (x.reply.close ≡ false) × StayOpen xs
 
 -- ---- a connection so far
 
--- the two ends of a connection: the bytes that its link has left, those that it got, the ticks to come, and the pass's share of the turns
-pub record Sides : Type 0 where
+-- the two ends of a connection: the bytes that its link has left, those that it got, the ticks to come, and what its worker has of the gate
+pub record Sides (O : Type 0) : Type 0 where
   pub left : Option (List ℕ)
   pub got : Option (List ℕ)
   pub moments : Option (List Tick)
-  pub share : ℕ
+  pub own : O
 
 -- what told content was, and is now, where this went away in front of it
 abbrev pub Loses : {X : Type 0} → Option (List X) → Option (List X) → List X → Type 0
 Loses {X} old new front = (xs : List X) → old ≡ Some xs → (ys : List X) × (new ≡ Some ys) × (xs ≡ front ++ ys)
 
 -- these exchanges were made, and these bytes were read besides
-pub record HasServed (Ran : ℕ → Frame → Told → Type 0) (a b : Sides) (xs : List Exchange) (held : List ℕ) : Type 0 where
-  pub exchanges : AreExchanges Ran a.share xs
-  pub share_is : b.share ≡ shares xs a.share
+pub record HasServed {O : Type 0} (Ran : O → Frame → Told → O → Type 0) (a b : Sides O) (xs : List Exchange) (held : List ℕ) : Type 0 where
+  pub exchanges : AreExchanges Ran a.own xs b.own
   pub bytes : Loses a.left b.left (requests xs ++ held)
   pub turns : Loses a.moments b.moments (ticks xs)
 
 -- and all their replies were sent
-pub record HasReplied (Ran : ℕ → Frame → Told → Type 0) (a b : Sides) (xs : List Exchange) (held : List ℕ) : Type 0 where
+pub record HasReplied {O : Type 0} (Ran : O → Frame → Told → O → Type 0) (a b : Sides O) (xs : List Exchange) (held : List ℕ) : Type 0 where
   pub served : HasServed Ran a b xs held
   pub sent : Appends a.got b.got (replies xs)
 

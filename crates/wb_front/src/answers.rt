@@ -5,7 +5,7 @@ ghost use Rattle.wb_base.specs.Outside.{AppendsFront, HasCause};
 ghost use Rattle.wb_model.specs.declared.command.Asked.{Asked as AskedOf};
 ghost use Rattle.wb_model.specs.Readings.{Asks, Reads, closes_always};
 ghost use Rattle.wb_links.specs.Lines.{Tick};
-ghost use Rattle.wb_front.specs.Served.{IsReply, Loses, closing, refusal as refusal_of, reply_bytes, share_by, tick_of};
+ghost use Rattle.wb_front.specs.Served.{IsReply, Loses, closing, refusal as refusal_of, reply_bytes, tick_of};
 ghost use Rattle.wb_front.specs.Answers.{reply_of, IsAnswered};
 
 use std::alloc::Global;
@@ -13,7 +13,7 @@ use std::sync::Wait;
 use std::sync::ledger::Ledger;
 use wb_base::{Failed, Keeper};
 use wb_gate::{Gate, Turn};
-use wb_kept::{Origin, Pass};
+use wb_kept::Origin;
 use wb_links::{Link, Ticker};
 use wb_model::{Body, Told};
 use wb_wire::{
@@ -57,13 +57,15 @@ pub fn reply_to<R: Wait, K: Keeper, A: Origin, B: Ledger, G: Gate<K, A, B, Turn>
     alloc: Global,
     gate: &G,
     routes: &Routes,
-    pass: &mut Pass<A, B>,
+    own: &mut G::Own,
     ticker: &mut T,
     bytes: &[u8],
 ) -> Result<Answer, Failed>
-    ensures answered { IfOk result (λ a. (tick : Option Tick) × IsAnswered (λ share frame told. G.ran share frame told) pass.old.turns pass.new.turns (T.left ticker.old) (T.left ticker.new) bytes.now a tick) }
-    ensures failed { OnErr result ((pass.new.turns ≡ pass.old.turns) × (T.left ticker.new ≡ T.left ticker.old) × ((asked : AskedOf) × Reads bytes.now (Asks asked))) }
-    ensures parts { pass.new.parts ≡ pass.old.parts }
+    requires of { G.of gate.now own.old }
+    ensures of { G.of gate.now own.new }
+    ensures answered { IfOk result (λ a. (tick : Option Tick) × IsAnswered (λ own frame told own'. G.ran own frame told own') own.old own.new (T.left ticker.old) (T.left ticker.new) bytes.now a tick) }
+    ensures failed { OnErr result ((own.new ≡ own.old) × (T.left ticker.new ≡ T.left ticker.old) × ((asked : AskedOf) × Reads bytes.now (Asks asked))) }
+    ensures parts { G.parts own.new ≡ G.parts own.old }
     ensures cause { HasCause (T.count ticker.old) (T.count ticker.new) result }
 {
     match read_request(alloc, routes, bytes) {
@@ -73,7 +75,7 @@ pub fn reply_to<R: Wait, K: Keeper, A: Origin, B: Ledger, G: Gate<K, A, B, Turn>
             };
             let close = asked.close;
             Ok(Answer {
-                told: gate.enter(rt, pass, Turn::new(asked, tick.0, tick.1)),
+                told: gate.enter(rt, own, Turn::new(asked, tick.0, tick.1)),
                 allow: None,
                 close,
                 fatal: None,

@@ -13,7 +13,7 @@ use std::sync::Wait;
 use std::sync::ledger::Ledger;
 use wb_base::Keeper;
 use wb_gate::{Gate, Turn};
-use wb_kept::{Origin, Pass};
+use wb_kept::Origin;
 use wb_links::{Link, Ticker};
 use wb_wire::{Routes, WireFault, WireNo};
 
@@ -86,12 +86,14 @@ pub fn serve_connection<
     alloc: Global,
     gate: &G,
     routes: &Routes,
-    pass: &mut Pass<A, B>,
+    own: &mut G::Own,
     link: &mut L,
     ticker: &mut T,
 ) -> Ended
-    ensures ended { IsEnded (λ share frame told. G.ran share frame told) (record { left = L.left link.old; got = L.got link.old; moments = T.left ticker.old; share = pass.old.turns }) (record { left = L.left link.new; got = L.got link.new; moments = T.left ticker.new; share = pass.new.turns }) result }
-    ensures parts { pass.new.parts ≡ pass.old.parts }
+    requires of { G.of gate.now own.old }
+    ensures of { G.of gate.now own.new }
+    ensures ended { IsEnded (λ own frame told own'. G.ran own frame told own') (record { left = L.left link.old; got = L.got link.old; moments = T.left ticker.old; own = own.old }) (record { left = L.left link.new; got = L.got link.new; moments = T.left ticker.new; own = own.new }) result }
+    ensures parts { G.parts own.new ≡ G.parts own.old }
     ensures later { (L.count link.old ≤ L.count link.new) × (T.count ticker.old ≤ T.count ticker.new) }
     ensures read_fault { result ≡ Ended.ReadFault → Rose (L.count link.old) (L.count link.new) }
     ensures write_fault { result ≡ Ended.WriteFault → Rose (L.count link.old) (L.count link.new) }
@@ -113,7 +115,7 @@ pub fn serve_connection<
             Arrived::Part => return Ended::CutShort,
             Arrived::No(fault) => return refuse(link, &WireNo { fault, close: true }),
         };
-        let Ok(answer) = reply_to(rt, alloc, gate, routes, pass, ticker, inbox.first(size)) else {
+        let Ok(answer) = reply_to(rt, alloc, gate, routes, own, ticker, inbox.first(size)) else {
             return Ended::ClockFault;
         };
         let Ok(()) = send(link, &answer, closes_after(answer.close, before)) else {

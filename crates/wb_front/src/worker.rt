@@ -9,7 +9,7 @@ use std::sync::Wait;
 use std::sync::ledger::Ledger;
 use wb_base::Keeper;
 use wb_gate::{Gate, Turn};
-use wb_kept::{Origin, Pass};
+use wb_kept::Origin;
 use wb_links::{Listener, Ticker};
 use wb_wire::Routes;
 
@@ -43,26 +43,20 @@ fn attend<
     alloc: Global,
     gate: &G,
     routes: &Routes,
-    pass: &mut Pass<A, B>,
+    own: &mut G::Own,
     station: &mut Station<Li, T>,
     link: Li::End,
 )
+    requires of { G.of gate.now own.old }
     requires out { (x : Lines) → Li.told station.old.listener ≡ Some x → 0 < x.out }
-    ensures attended { (x : Lines) (a : Line) → Li.told station.old.listener ≡ Some x → IsLine (Li.End.left link) (Li.End.got link) (Li.End.count link) a → (b : Line) × IsAttended (λ share frame told. G.ran share frame told) a b pass.old.turns pass.new.turns (clock_of (T.left station.old.ticker) (T.count station.old.ticker)) (clock_of (T.left station.new.ticker) (T.count station.new.ticker)) × (Li.told station.new.listener ≡ Some (record x { out = x.out - 1; came = x.came ++ b ∷ [] })) }
+    ensures of { G.of gate.now own.new }
+    ensures attended { (x : Lines) (a : Line) → Li.told station.old.listener ≡ Some x → IsLine (Li.End.left link) (Li.End.got link) (Li.End.count link) a → (b : Line) × IsAttended (λ own frame told own'. G.ran own frame told own') a b own.old own.new (clock_of (T.left station.old.ticker) (T.count station.old.ticker)) (clock_of (T.left station.new.ticker) (T.count station.new.ticker)) × (Li.told station.new.listener ≡ Some (record x { out = x.out - 1; came = x.came ++ b ∷ [] })) }
     ensures count { Li.count station.new.listener ≡ Li.count station.old.listener }
-    ensures parts { pass.new.parts ≡ pass.old.parts }
+    ensures parts { G.parts own.new ≡ G.parts own.old }
     ensures later { T.count station.old.ticker ≤ T.count station.new.ticker }
 {
     let mut link = link;
-    serve_connection(
-        rt,
-        alloc,
-        gate,
-        routes,
-        pass,
-        &mut link,
-        &mut station.ticker,
-    );
+    serve_connection(rt, alloc, gate, routes, own, &mut link, &mut station.ticker);
     station.listener.back(link);
 }
 
@@ -80,13 +74,15 @@ pub fn work<
     alloc: Global,
     gate: &G,
     routes: &Routes,
-    pass: &mut Pass<A, B>,
+    own: &mut G::Own,
     station: &mut Station<Li, T>,
 ) -> Worked
-    ensures attended { (x : Lines) → Li.told station.old.listener ≡ Some x → (y : Lines) × (Li.told station.new.listener ≡ Some y) × HasWorked (λ share frame told. G.ran share frame told) x y pass.old.turns pass.new.turns (clock_of (T.left station.old.ticker) (T.count station.old.ticker)) (clock_of (T.left station.new.ticker) (T.count station.new.ticker)) }
+    requires of { G.of gate.now own.old }
+    ensures of { G.of gate.now own.new }
+    ensures attended { (x : Lines) → Li.told station.old.listener ≡ Some x → (y : Lines) × (Li.told station.new.listener ≡ Some y) × HasWorked (λ own frame told own'. G.ran own frame told own') x y own.old own.new (clock_of (T.left station.old.ticker) (T.count station.old.ticker)) (clock_of (T.left station.new.ticker) (T.count station.new.ticker)) }
     ensures ended { result ≡ Worked.End → (y : Lines) → Li.told station.new.listener ≡ Some y → y.left ≡ [] }
     ensures failed { result ≡ Worked.ListenFault → RoseOften 16 (Li.count station.old.listener) (Li.count station.new.listener) }
-    ensures parts { pass.new.parts ≡ pass.old.parts }
+    ensures parts { G.parts own.new ≡ G.parts own.old }
 {
     let mut failed = 0u32;
     for _ in rt.forever() {
@@ -98,7 +94,7 @@ pub fn work<
                 }
             }
             Ok(None) => return Worked::End,
-            Ok(Some(link)) => attend(rt, alloc, gate, routes, pass, station, link),
+            Ok(Some(link)) => attend(rt, alloc, gate, routes, own, station, link),
         }
     }
     unreachable!()

@@ -1,21 +1,30 @@
 //! Gates to a host.
 ghost use Rattle.std.specs.Prelude.{◌≡◌, ℕ};
-ghost use Rattle.wb_kept.specs.Hosted.{Hosted};
 
 use crate::job::Job;
 use std::sync::Wait;
 use std::sync::ledger::Ledger;
 use wb_base::Keeper;
-use wb_kept::{Origin, Pass};
+use wb_kept::Origin;
 
-/// Lets jobs in to the one host that it stands before. A pass is of that host by its ledgers, which say what the host was opened with.
+/// Lets jobs in to the one host that it stands before.
 pub trait Gate<K: Keeper, A: Origin, B: Ledger, J: Job<K, A, B>> {
-    /// For a pass with this share of the turns the job ran on this gate's host, and gave this answer.
-    ghost ran: { ℕ → J → J.Told → Type 0 };
+    /// What one who comes in has of a gate: a pass, or a seat with one.
+    type Own: Drop;
+
+    /// It is of this gate.
+    ghost of: { Self → Self.Own → Type 0 };
+
+    /// How many parts of the host's ledgers it has.
+    ghost parts: { Self.Own → ℕ };
+
+    /// A job ran on the gate's host, for one who had this of the gate before and that after, and gave this answer.
+    ghost ran: { Self.Own → J → J.Told → Self.Own → Type 0 };
 
     /// Runs the job on this gate's host. It may wait for others that are in.
-    fn enter<R: Wait>(&self, rt: &R, pass: &mut Pass<A, B>, job: J) -> J::Told
-        ensures ran { ran pass.old.turns job result }
-        ensures does { (host : Hosted) × (host' : Hosted) × (host.opened ≡ A.desk) × (host'.opened ≡ A.desk) × J.does job host pass.old host' pass.new result }
-        ensures parts { pass.new.parts ≡ pass.old.parts };
+    fn enter<R: Wait>(&self, rt: &R, own: &mut Self::Own, job: J) -> J::Told
+        requires of { of self.now own.old }
+        ensures of { of self.now own.new }
+        ensures ran { ran own.old job result own.new }
+        ensures parts { parts own.new ≡ parts own.old };
 }

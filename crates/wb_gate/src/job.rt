@@ -3,6 +3,7 @@ ghost use Rattle.std.specs.Prelude.{◌≡◌, ◌≤◌, true};
 ghost use Rattle.wb_model.specs.Fits.{fits};
 ghost use Rattle.wb_kept.specs.Hosted.{Hosted, Hand};
 ghost use Rattle.wb_kept.specs.Turned.{Turned};
+ghost use Rattle.wb_gate.specs.Turns.{IsAsked};
 
 use std::marker::Model;
 use std::sync::ledger::Ledger;
@@ -25,7 +26,7 @@ pub trait Job<K: Keeper, A: Origin, B: Ledger> {
         ensures book { kept.old.turns ≤ kept.new.turns };
 }
 
-/// One turn: a request that keeps the ranges of its fields, its moment and its random words.
+/// One turn: a request that some bytes ask and that keeps the ranges of its fields, its moment and its random words.
 #[derive(Drop)]
 pub struct Turn {
     asked: Asked,
@@ -37,18 +38,20 @@ impl Model for Turn {
     ghost use Rattle.std.specs.Prelude.{◌≡◌, true};
     ghost use Rattle.wb_model.specs.Fits.{fits};
     ghost use Rattle.wb_model.specs.Requests.{Frame};
+    ghost use Rattle.wb_gate.specs.Turns.{IsAsked};
 
     ghost Value = { Frame };
 
     ghost view = { λ t. record { moment = t.moment; words = t.words; asked = t.asked } };
 
-    ghost invariant = { λ t. fits t.asked ≡ true };
+    ghost invariant = { λ t. (fits t.asked ≡ true) × IsAsked t.asked };
 }
 
 impl Turn {
     /// The turn of a request.
     pub fn new(asked: Asked, moment: Moment, words: Words) -> Turn
-        requires { fits asked ≡ true }
+        requires fits { fits asked ≡ true }
+        requires asked { IsAsked asked }
         ensures { result ≡ record { moment = moment; words = words; asked = asked } }
     {
         Turn {
@@ -56,6 +59,13 @@ impl Turn {
             moment,
             words,
         }
+    }
+
+    /// Some bytes ask it.
+    pub fn is_asked(&self)
+        ensures { IsAsked self.now.asked }
+    {
+        let _ = &self.asked;
     }
 }
 

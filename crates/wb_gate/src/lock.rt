@@ -1,7 +1,8 @@
 //! A gate that is a lock.
 ghost use Rattle.std.specs.Prelude.{◌≡◌, ◌≢◌, ◌+◌, IfOk, IfErr, IsOk};
 ghost use Rattle.wb_kept.specs.GoneOn.{IsLater};
-ghost use Rattle.wb_kept.specs.Hosted.{Hosted, Hand, parts_of, turns_of, numbers_drawn};
+ghost use Rattle.wb_kept.specs.Hosted.{Hosted, parts_of, turns_of, numbers_drawn};
+ghost use Rattle.wb_kept.specs.Whole.{IsWhole};
 ghost use Rattle.wb_model.specs.Drawn.{numbers_of};
 ghost use Rattle.wb_model.specs.Rows.{rows_of};
 ghost use Rattle.wb_tables.specs.Standing.{hosts_of};
@@ -29,12 +30,19 @@ impl<K: Keeper, A: Origin, B: Ledger> LockGate<K, A, B> {
 }
 
 impl<K: Keeper, A: Origin, B: Ledger, J: Job<K, A, B>> Gate<K, A, B, J> for LockGate<K, A, B> {
-    ghost ran = { λ share job told. (host : Hosted) × (pass : Hand) × (host' : Hosted) × (pass' : Hand) × (host.opened ≡ A.desk) × (pass.turns ≡ share) × J.does job host pass host' pass' told };
+    type Own = Pass<A, B>;
 
-    fn enter<R: Wait>(&self, rt: &R, pass: &mut Pass<A, B>, job: J) -> J::Told {
+    // A pass is of the host by its ledgers, which say what it was opened with.
+    ghost of = { λ gate pass. Unit {0} };
+
+    ghost parts = { λ pass. pass.parts };
+
+    ghost ran = { λ pass job told pass'. (host : Hosted) × (host' : Hosted) × (host.opened ≡ A.desk) × (host'.opened ≡ A.desk) × IsWhole host × IsWhole host' × J.does job host pass host' pass' told };
+
+    fn enter<R: Wait>(&self, rt: &R, own: &mut Pass<A, B>, job: J) -> J::Told {
         let mut kept = self.host.lock(rt);
         kept.is_whole();
-        let told = job.run(&mut *kept, pass);
+        let told = job.run(&mut *kept, own);
         kept.is_whole();
         told
     }

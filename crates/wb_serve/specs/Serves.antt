@@ -1,26 +1,40 @@
 -- How a host that was to serve began and ended, by the status of the call.
-use Rattle.std.specs.Prelude.{ℕ, ◌≡◌, ◌≤◌, ◌<◌, ◌⊎◌, List, Option, IfSome, length}
+use Rattle.std.specs.Prelude.{ℕ, ◌≡◌, ◌≤◌, ◌<◌, ◌⊎◌, List, Option, IfSome, Ok, length}
 use Rattle.std.specs.Io.KnownBytes.{Consumes, IsAtEnd}
 use Rattle.wb_base.specs.declared.rows.Row.{Row}
 use Rattle.wb_base.specs.Outside.{Rose}
 use Rattle.wb_model.specs.Past.{Past}
 use Rattle.wb_model.specs.Pasts.{AllOpened}
-use Rattle.wb_model.specs.Rows.{rows_of}
+use Rattle.wb_model.specs.Rows.{rows}
+use Rattle.wb_model.specs.Scripts.{past_after}
 use Rattle.wb_model.specs.Tenants.{Hosts}
 use Rattle.wb_tables.specs.Standing.{Standing, hosts_of}
 use Rattle.wb_desk.specs.Openings.{AreLoaded}
 use Rattle.wb_desk.specs.Turns.{StandsFor}
 use Rattle.wb_kept.specs.GoneOn.{HasGoneOn}
-use Rattle.wb_kept.specs.Hosted.{Hand, turns_of}
+use Rattle.wb_kept.specs.Hosted.{Hand, Hosted, turns_of}
+use Rattle.wb_words.specs.declared.plans.Lock.{Lock}
+use Rattle.wb_words.specs.declared.plans.Lock.TheVariants.{Mutex, Ticket}
 use Rattle.wb_words.specs.declared.plans.Plan.TheVariants.{Serve}
 use Rattle.wb_words.specs.CommandLine.{Asks}
+use Rattle.wb_rows.specs.Judged.{judged}
+use Rattle.wb_rows.specs.Left.{left as left_by}
+use Rattle.wb_ticket_lock.specs.Histories.{IsSplitInto}
+use Rattle.wb_ticket.specs.Owned.{TurnEntry}
+use Rattle.wb_ticket.specs.Scripts.{IsScript}
+use Rattle.wb_workers.specs.InOrder.{begun}
+use Rattle.wb_promise.specs.Promises.{IsAsPromised}
 use Rattle.wb_start.specs.declared.status.Status.{Status}
 use Rattle.wb_start.specs.declared.status.Status.TheVariants.{Done, Usage, ReadFault, WriteFault, NoMemory, BadFrame, Setup, OpenFault, KeptRows, TooLong, ListenFault}
 use Rattle.wb_start.specs.Starts.{IsOpenedBy, Refuses, KeepsRows}
 
+-- the words ask for a host that serves by this lock
+abbrev pub AsksLock : List (List ℕ) → Lock → Type 0
+AsksLock words lock = (setup : List ℕ) × (listen : List ℕ) × (workers : ℕ) × (store : Option (List ℕ)) × Asks words (Serve setup listen workers lock store)
+
 -- the words ask for a host that serves
 abbrev pub IsServeForm : List (List ℕ) → Type 0
-IsServeForm words = (setup : List ℕ) × (listen : List ℕ) × (workers : ℕ) × (store : Option (List ℕ)) × Asks words (Serve setup listen workers store)
+IsServeForm words = (lock : Lock) × AsksLock words lock
 
 -- the greatest size of a setup's text, in bytes
 abbrev pub setup_limit : ℕ
@@ -73,11 +87,39 @@ pub record OpensOne (left left' : Option (List ℕ)) (honest : Type 0) (holds : 
   pub opened : IsOpenedBy loaded text start
   pub stands : StandsFor (hosts_of desk) start
 
--- that host served: by its desk and the shares of its passes, what was attended; and where the keeper is honest, it held the rows that were
--- loaded, and holds those of the host after as many turns as the passes took part in
+-- by a mutex that host served: by its desk and its passes, what was attended; and it has gone on by as many turns as the passes took part in
 pub record ServesIt (left left' : Option (List ℕ)) (honest : Type 0) (holds holds' : List Row → Type 0) (Attended : Standing → List Hand → Type 0) : Type 0 where
   pub desk : Standing
   pub opens : OpensOne left left' honest holds desk
   pub passes : List Hand
   pub attended : Attended desk passes
-  pub kept : honest → (hosts : Hosts) × HasGoneOn opens.start (turns_of passes) hosts × holds' (rows_of hosts.list)
+  pub hosts : Hosts
+  pub gone_on : HasGoneOn opens.start (turns_of passes) hosts
+  -- where the keeper is honest it holds the rows of the past that was reached, which are read as what that holds
+  pub kept : honest → holds' (rows (past_after opens.start gone_on.places))
+  pub read_back : judged (rows (past_after opens.start gone_on.places)) ≡ Ok (left_by (past_after opens.start gone_on.places))
+
+-- by a lock with tickets that host served: all turns are one history, which is split into those of each station, and one script
+pub record ServesInOrder (left left' : Option (List ℕ)) (honest : Type 0) (holds holds' : List Row → Type 0) (keeper keeper' : ℕ) (Attended : List (List TurnEntry) → Type 0) : Type 0 where
+  pub desk : Standing
+  pub opens : OpensOne left left' honest holds desk
+  pub entries : List TurnEntry
+  pub stations : List (List TurnEntry)
+  pub split : IsSplitInto entries stations
+  pub attended : Attended stations
+  -- the keeper's count when the host was open, and the host at the end
+  pub faults : ℕ
+  pub opened : keeper ≤ faults
+  pub last : Hosted
+  pub counted : keeper' ≡ last.faults
+  -- the script, from the past that was opened to that for which the host stands at the end, which is played as promised
+  pub script : IsScript opens.start (begun desk faults) entries last
+  pub promised : IsAsPromised opens.loaded opens.text opens.start script.frames script.places
+  -- where the keeper is honest it holds the rows of that past, which are read as what it holds
+  pub kept : honest → holds' (rows (past_after opens.start script.places))
+  pub read_back : judged (rows (past_after opens.start script.places)) ≡ Ok (left_by (past_after opens.start script.places))
+
+-- by the one lock, or by the other
+abbrev pub ByLock : Lock → Type 0 → Type 0 → Type 0
+ByLock Mutex mutex ticket = mutex
+ByLock Ticket mutex ticket = ticket

@@ -3,6 +3,7 @@ ghost use Rattle.std.specs.Prelude.{◌≡◌, true, IfOk};
 ghost use Rattle.wb_model.specs.Fits.{fits};
 ghost use Rattle.wb_model.specs.Rows.{rows_of};
 ghost use Rattle.wb_tables.specs.Standing.{hosts_of};
+ghost use Rattle.wb_gate.specs.Turns.{IsAsked};
 
 use crate::hosts::{moment, opened};
 use std::alloc::Global;
@@ -37,7 +38,8 @@ const REPORT: &str =
 
 // What a request asks.
 fn asked(alloc: Global, routes: &Routes, text: &str) -> Result<Asked, Fail>
-    ensures { IfOk result (λ asked. fits asked ≡ true) }
+    ensures fits { IfOk result (λ asked. fits asked ≡ true) }
+    ensures asked { IfOk result (λ asked. IsAsked asked) }
 {
     match read_request(alloc, routes, text.as_bytes()) {
         Ok(asked) => Ok(asked),
@@ -46,7 +48,7 @@ fn asked(alloc: Global, routes: &Routes, text: &str) -> Result<Asked, Fail>
 }
 
 // The turn of a request, so many seconds after the start of 2025 in UTC.
-fn turn(
+pub fn turn(
     alloc: Global,
     routes: &Routes,
     text: &str,

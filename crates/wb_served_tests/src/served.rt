@@ -1,5 +1,6 @@
 //! How the call that serves ends, by its words, its setup's text, what is kept and what comes to its stations.
 ghost use Rattle.std.specs.Prelude.{◌≡◌, ℕ, List, Option, IfOk, vec_len};
+ghost use Rattle.wb_words.specs.declared.plans.Lock.{Lock as LockOf};
 ghost use Rattle.wb_words.specs.declared.plans.Plan.TheVariants.{Serve};
 ghost use Rattle.wb_words.specs.CommandLine.{Asks};
 
@@ -19,6 +20,10 @@ use wb_start::Status;
 use wb_words::{Plan, PlanFault, plan};
 
 const SERVE: &str = "serve --setup s --listen 127.0.0.1:80 --workers 2";
+
+const TICKETS: &str = "serve --setup s --listen 127.0.0.1:80 --workers 2 --lock ticket";
+
+const SPIN: &str = "serve --setup s --listen 127.0.0.1:80 --workers 2 --lock spin";
 
 const NO_WORKERS: &str = "serve --setup s --listen 127.0.0.1:80";
 
@@ -72,6 +77,10 @@ const CASES: &[Case] = &[
         Status::BadFrame(0),
         0,
     ),
+    (TICKETS, None, 0, "", &[], &[], 0, Status::Done, 6),
+    (TICKETS, Some("="), 0, "", &[], &[], 0, NOT_TOML, 0),
+    (TICKETS, None, 0, "", &[], &[], 16, Status::ListenFault, 0),
+    (SPIN, None, 0, "", &[], &[], 0, Status::Usage, 0),
     (NO_WORKERS, None, 0, "", &[], &[], 0, Status::Usage, 0),
     ("play", None, 0, "", &[], &[], 0, Status::Usage, 0),
     (SERVE, Some("="), 0, "", &[], &[], 0, NOT_TOML, 0),
@@ -96,7 +105,7 @@ fn words_of(alloc: Global, line: &str) -> Result<Vec<Text>, Fail> {
 
 // How many stations there are for the words: as many as workers, and two where the words ask for none.
 fn workers_of(alloc: Global, words: &[Text]) -> Result<u32, Fail>
-    ensures { IfOk result (λ workers. (text : List ℕ) (at : List ℕ) (count : ℕ) (store : Option (List ℕ)) → Asks words.now (Serve text at count store) → count ≡ workers) }
+    ensures { IfOk result (λ workers. (text : List ℕ) (at : List ℕ) (count : ℕ) (lock : LockOf) (store : Option (List ℕ)) → Asks words.now (Serve text at count lock store) → count ≡ workers) }
 {
     match plan(alloc, words) {
         Ok(Plan::Serve { workers, .. }) => Ok(workers),

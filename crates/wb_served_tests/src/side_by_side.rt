@@ -13,7 +13,8 @@ use wb_base::{Failed, MemKeeper};
 use wb_front::Station;
 use wb_links::{Link, Listener, MemTicker};
 use wb_wire::Routes;
-use wb_workers::{Ended, serve_all};
+use wb_words::Lock;
+use wb_workers::{Ended, serve_all, serve_in_order};
 
 /// A link with two submissions. It holds its second back until the other link has a reply, for a million looks.
 #[derive(Drop)]
@@ -162,17 +163,22 @@ fn two_stations(alloc: Global, stations: &mut Vec<Station<OneLink, MemTicker>>) 
     Ok(())
 }
 
-// Serves a host at these stations.
+// Serves a host at these stations by a lock.
 fn serve_at<R: Threads + Wait + Sync>(
     rt: &R,
     alloc: Global,
+    lock: Lock,
     stations: &mut Vec<Station<OneLink, MemTicker>>,
 ) -> Result<Ended<MemKeeper>, Fail>
-    requires { 0 < vec_len stations.old }
+    requires { (0 < vec_len stations.old) × (vec_len stations.old ≤ 64) }
 {
     let routes = Routes::new(alloc)?;
     let (desk, keeper) = opened(alloc)?;
-    match serve_all(rt, alloc, &routes, desk, keeper, stations) {
+    let ended = match lock {
+        Lock::Mutex => serve_all(rt, alloc, &routes, desk, keeper, stations),
+        Lock::Ticket => serve_in_order(rt, alloc, &routes, desk, keeper, stations),
+    };
+    match ended {
         Ok(ended) => Ok(ended),
         Err(_) => Err("no memory".into()),
     }
@@ -188,17 +194,33 @@ fn are_served(came: &[HeldLink]) -> bool {
     came.len() == 1
 }
 
+// Two links that wait for each other's reply are both served by a lock.
+fn are_beside_each_other<R: Threads + Wait + Sync>(
+    rt: &R,
+    alloc: Global,
+    lock: Lock,
+) -> Result<bool, Fail> {
+    let mut stations = Vec::new(alloc);
+    two_stations(alloc, &mut stations)?;
+    let ended = serve_at(rt, alloc, lock, &mut stations)?;
+    let mut all = ended.all && ended.closed.turns == 4 && ended.closed.numbers == 4;
+    for station in &stations {
+        all = all && are_served(&station.listener.came);
+    }
+    Ok(all && stations.len() == 2)
+}
+
 #[test]
 fn links_that_wait_for_each_others_reply_are_served_beside_each_other(
     rt: HostRuntime,
 ) -> Result<(), Fail> {
-    let mut stations = Vec::new(rt.alloc());
-    two_stations(rt.alloc(), &mut stations)?;
-    let ended = serve_at(&rt, rt.alloc(), &mut stations)?;
-    assert!(rt; ended.all && ended.closed.turns == 4 && ended.closed.numbers == 4);
-    assert_eq!(rt; stations.len(), 2);
-    for station in &stations {
-        assert!(rt; are_served(&station.listener.came), "a link waited in vain");
-    }
+    assert!(rt;
+        are_beside_each_other(&rt, rt.alloc(), Lock::Mutex)?,
+        "a link waited in vain"
+    );
+    assert!(rt;
+        are_beside_each_other(&rt, rt.alloc(), Lock::Ticket)?,
+        "a link waited in vain"
+    );
     Ok(())
 }

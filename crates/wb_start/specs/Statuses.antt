@@ -24,7 +24,7 @@ rows_text RowsMemory = codes "no memory\n"
 
 abbrev pub status_text : Status → List ℕ
 status_text Done = []
-status_text Usage = codes "usage: whistle play [--store PATH], make N, tally N, serve --setup PATH --listen ADDRESS --workers N [--store PATH]\n"
+status_text Usage = codes "usage: whistle play [--store PATH], make N, tally N, serve --setup PATH --listen ADDRESS --workers N [--lock mutex|ticket] [--store PATH]\n"
 status_text ReadFault = codes "read fault\n"
 status_text WriteFault = codes "write fault\n"
 status_text NoMemory = codes "no memory\n"

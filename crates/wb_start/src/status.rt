@@ -166,7 +166,7 @@ pub fn exit_line<W: Sink>(status: &Status, sink: &mut W) -> Result<(), Failed>
     match status {
         Status::Done => Ok(()),
         Status::Usage => sink.write_all(
-            b"usage: whistle play [--store PATH], make N, tally N, serve --setup PATH --listen ADDRESS --workers N [--store PATH]\n",
+            b"usage: whistle play [--store PATH], make N, tally N, serve --setup PATH --listen ADDRESS --workers N [--lock mutex|ticket] [--store PATH]\n",
         ),
         Status::ReadFault => sink.write_all(b"read fault\n"),
         Status::WriteFault => sink.write_all(b"write fault\n"),

@@ -1,24 +1,20 @@
 -- Seats of a gate, and the entries of its host, as contracts see them.
-use Rattle.std.specs.Prelude.{◌≡◌, ◌++◌, ℕ, List, [], ◌∷◌}
+use Rattle.std.specs.Prelude.{◌≡◌, ◌++◌, List, [], ◌∷◌}
 use Rattle.atomic_table.specs.Seated.{TableId}
 use Rattle.wb_model.specs.declared.body.Told.{Told}
-use Rattle.wb_model.specs.Readings.{Asks, Reads}
 use Rattle.wb_model.specs.Requests.{Frame}
 use Rattle.wb_kept.specs.Hosted.{Hosted, Hand}
 use Rattle.wb_kept.specs.Turned.{Turned}
+use Rattle.wb_gate.specs.Turns.{IsAsked}
 use Rattle.wb_ticket_lock.specs.declared.entry.Entry.{Entry}
 
 -- what was asked at a moment with random words, and what was told
 abbrev pub Answered : Type 0
 Answered = Frame × Told
 
--- some bytes are a request that asks this
-abbrev pub IsAsked : Frame → Type 0
-IsAsked f = (bytes : List ℕ) × Reads bytes (Asks f.asked)
-
 -- a turn that some bytes ask, of a host in which this pass took part
 abbrev pub IsAskedTurn : Frame → Hosted → Hand → Hosted → Hand → Told → Type 0
-IsAskedTurn f host pass host' pass' told = IsAsked f × Turned f host pass host' pass' told
+IsAskedTurn f host pass host' pass' told = IsAsked f.asked × Turned f host pass host' pass' told
 
 -- such a turn of the host, in which some pass took part
 abbrev pub IsTurnOf : Hosted → Answered → Hosted → Type 0
@@ -38,6 +34,6 @@ pub record Owned : Type 0 where
   pub hand : Hand
   pub mine : List TurnEntry
 
--- a turn that is the next entry of a seat, and in which its pass took part
+-- a turn that is the next entry of a seat of one gate, and in which its pass took part
 abbrev pub IsNextEntry : Owned → Frame → Told → Owned → Type 0
 IsNextEntry own f told own' = (e : TurnEntry) × (own'.mine ≡ own.mine ++ e ∷ []) × (e.deed ≡ (f, told)) × Turned f e.before own.hand e.after own'.hand told

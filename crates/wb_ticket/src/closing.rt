@@ -1,12 +1,11 @@
 //! How a host is taken out of its gate, and apart.
-ghost use Rattle.std.specs.Prelude.{◌≡◌, ◌≤◌, ◌+◌, List, [], All, map, vec_len, vec_capacity, IfOk, IfErr, IsOk, ◌↔◌};
+ghost use Rattle.std.specs.Prelude.{◌≡◌, ◌≤◌, ◌+◌, [], All, map, vec_len, vec_capacity, IfOk, IfErr, IsOk, ◌↔◌};
 ghost use Rattle.wb_model.specs.Drawn.{numbers_of};
 ghost use Rattle.wb_model.specs.Rows.{rows_of};
 ghost use Rattle.wb_tables.specs.Standing.{hosts_of};
 ghost use Rattle.wb_kept.specs.GoneOn.{IsLater};
-ghost use Rattle.wb_kept.specs.Hosted.{Hosted, turns_of, numbers_drawn, parts_of};
-ghost use Rattle.wb_ticket.specs.OneHistory.{WentThrough};
-ghost use Rattle.wb_ticket.specs.Owned.{TurnEntry};
+ghost use Rattle.wb_kept.specs.Hosted.{turns_of, numbers_drawn, parts_of};
+ghost use Rattle.wb_ticket.specs.OneHistory.{IsLastOf};
 
 use crate::gate::TicketGate;
 use crate::laws::a_history_is_a_script;
@@ -87,7 +86,7 @@ pub fn close_tickets<K: Keeper, A: Origin, B: Ledger>(
     requires room { vec_len seats ≤ room }
     ensures exact { IsOk result ↔ (vec_len seats ≡ gate.seats) }
     ensures back { IfErr result (λ out. (out.gate ≡ gate) × (out.seats.items ≡ seats.items) × (out.room ≡ room)) }
-    ensures history { IfOk result (λ c. (entries : List TurnEntry) × (last : Hosted) × WentThrough gate.first entries (map (λ s. s.mine) seats.items) last × (c.desk ≡ last.desk) × (c.turns ≡ last.turns) × (c.numbers ≡ last.numbers) × (K.count c.keeper ≡ last.faults)) }
+    ensures history { IfOk result (λ c. IsLastOf gate.first (map (λ s. s.mine) seats.items) c.desk c.turns c.numbers (K.count c.keeper)) }
     ensures books { IfOk result (λ c. (c.turns ≡ turns_of (map (λ s. s.hand) seats.items)) × (c.numbers ≡ numbers_drawn (map (λ s. s.hand) seats.items))) }
     // An honest keeper holds the rows of the desk, which is the one that was opened, gone on by the turns of its book.
     ensures kept { IfOk result (λ c. K.honest c.keeper → K.holds c.keeper (rows_of (hosts_of c.desk).list)) }

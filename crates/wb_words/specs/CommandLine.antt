@@ -6,6 +6,8 @@ use Rattle.clap.specs.Simple.{App, new_app, new_rule, with_rule, matches_of}
 use Rattle.clap.specs.Faults.{fault_of}
 use Rattle.clap.specs.Kinds.{Kinds}
 use Rattle.clap.specs.declared.builder.action.ArgAction.TheVariants.{Set}
+use Rattle.wb_words.specs.declared.plans.Lock.{Lock}
+use Rattle.wb_words.specs.declared.plans.Lock.TheVariants.{Mutex, Ticket}
 use Rattle.wb_words.specs.declared.plans.Plan.{Plan}
 use Rattle.wb_words.specs.declared.plans.Plan.TheVariants.{Play, Make, Tally, Serve}
 
@@ -29,9 +31,9 @@ play_app = with_rule (bare_app (codes "play")) (option_rule (codes "store"))
 abbrev pub turns_app : App
 turns_app = with_rule (bare_app (codes "turns")) (word_rule (codes "turns"))
 
--- `serve`, with the options `--setup`, `--listen`, `--workers` and `--store`
+-- `serve`, with the options `--setup`, `--listen`, `--workers`, `--lock` and `--store`
 abbrev pub serve_app : App
-serve_app = with_rule (with_rule (with_rule (with_rule (bare_app (codes "serve")) (option_rule (codes "setup"))) (option_rule (codes "listen"))) (option_rule (codes "workers"))) (option_rule (codes "store"))
+serve_app = with_rule (with_rule (with_rule (with_rule (with_rule (bare_app (codes "serve")) (option_rule (codes "setup"))) (option_rule (codes "listen"))) (option_rule (codes "workers"))) (option_rule (codes "lock"))) (option_rule (codes "store"))
 
 -- there is no fault among these
 abbrev pub has_none : Kinds → Bool
@@ -61,6 +63,16 @@ abbrev pub SaysNumber : ℕ → Option Text → ℕ → Type 0
 SaysNumber greatest None number = ⊥
 SaysNumber greatest (Some word) number = (word ≡ decimal number) × (1 ≤ number) × (number ≤ greatest)
 
+-- a lock by its name
+abbrev pub lock_name : Lock → Text
+lock_name Mutex = codes "mutex"
+lock_name Ticket = codes "ticket"
+
+-- a lock: the one that is named, or a mutex
+abbrev pub SaysLock : Option Text → Lock → Type 0
+SaysLock None lock = lock ≡ Mutex
+SaysLock (Some word) lock = word ≡ lock_name lock
+
 -- the words after `play`
 pub record AsksPlay (words : List Text) (store : Option Text) : Type 0 where
   pub taken : takes_words play_app words ≡ true
@@ -73,11 +85,12 @@ pub record AsksTurns (words : List Text) (turns : ℕ) : Type 0 where
   pub said : SaysNumber 20_000 (value_of turns_app (codes "turns") words) turns
 
 -- the words after `serve`
-pub record AsksServe (words : List Text) (setup listen : Text) (workers : ℕ) (store : Option Text) : Type 0 where
+pub record AsksServe (words : List Text) (setup listen : Text) (workers : ℕ) (lock : Lock) (store : Option Text) : Type 0 where
   pub taken : takes_words serve_app words ≡ true
   pub set_up : SaysPath (value_of serve_app (codes "setup") words) setup
   pub heard : SaysPath (value_of serve_app (codes "listen") words) listen
   pub said : SaysNumber 64 (value_of serve_app (codes "workers") words) workers
+  pub locked : SaysLock (value_of serve_app (codes "lock") words) lock
   pub named : value_of serve_app (codes "store") words ≡ store
   pub good : IsStore store
 
@@ -87,7 +100,7 @@ Asks [] plan = ⊥
 Asks (command ∷ rest) (Play store) = (command ≡ codes "play") × AsksPlay rest store
 Asks (command ∷ rest) (Make turns) = (command ≡ codes "make") × AsksTurns rest turns
 Asks (command ∷ rest) (Tally turns) = (command ≡ codes "tally") × AsksTurns rest turns
-Asks (command ∷ rest) (Serve setup listen workers store) = (command ≡ codes "serve") × AsksServe rest setup listen workers store
+Asks (command ∷ rest) (Serve setup listen workers lock store) = (command ≡ codes "serve") × AsksServe rest setup listen workers lock store
 
 -- the words are a form of a call
 abbrev pub IsForm : List Text → Type 0
@@ -98,7 +111,7 @@ abbrev pub IsRun : Plan → Type 0
 IsRun (Play store) = Unit {0}
 IsRun (Make turns) = Unit {0}
 IsRun (Tally turns) = Unit {0}
-IsRun (Serve setup listen workers store) = ⊥
+IsRun (Serve setup listen workers lock store) = ⊥
 
 -- the words are a form of a run
 abbrev pub IsRunForm : List Text → Type 0

@@ -1,13 +1,14 @@
 //! What the words after the program's name ask.
-ghost use Rattle.std.specs.Prelude.{◌≡◌, ◌↔◌, ◌≤◌, ◌<◌, ◌^◌, ℕ, List, Option, true, false, decimal, map, codes, Err, IfOk, IfSome, IsTrue, Some, option_map};
-ghost use Rattle.clap.specs.Simple.{app_of};
+ghost use Rattle.std.specs.Prelude.{◌≡◌, ◌↔◌, ◌≤◌, ◌<◌, ◌^◌, ℕ, List, Option, true, false, decimal, map, codes, Err, IfOk, IfSome, IsTrue, None, Some, option_map};
+ghost use Rattle.clap.specs.Simple.{app_of, with_rule};
 ghost use Rattle.clap.specs.Walk.{rule_of};
 ghost use Rattle.clap.specs.Faults.{is_simple_and_free};
 ghost use Rattle.clap.specs.Matches.{found_of, first_value};
+ghost use Rattle.wb_words.specs.declared.plans.Lock.{Lock as LockOf};
 ghost use Rattle.wb_words.specs.declared.plans.Plan.{Plan};
-ghost use Rattle.wb_words.specs.CommandLine.{Asks, AsksPlay, AsksServe, AsksTurns, IsForm, IsStore, SaysNumber, SaysPath, bare_app, option_rule, play_app, serve_app, turns_app, takes_words, value_of};
+ghost use Rattle.wb_words.specs.CommandLine.{Asks, AsksPlay, AsksServe, AsksTurns, IsForm, IsStore, SaysLock, SaysNumber, SaysPath, bare_app, option_rule, play_app, serve_app, turns_app, takes_words, value_of};
 
-use crate::plans::{Plan, PlanFault};
+use crate::plans::{Lock, Plan, PlanFault};
 use clap::error::ErrorKind;
 use clap::{Arg, ArgAction, ArgMatches, Command};
 use itoa::Buffer;
@@ -32,11 +33,18 @@ fn option<'a>(alloc: Global, name: &'a str) -> Arg<'a>
     Arg::new(alloc, name).long(name).action(ArgAction::Set)
 }
 
+// The command with an option of one value more.
+fn with<'a>(alloc: Global, command: Command<'a>, name: &'a str) -> Result<Command<'a>, AllocError>
+    ensures { IfOk result (λ more. app_of more ≡ with_rule (app_of command.entry) (option_rule name.entry.now)) }
+{
+    command.arg(option(alloc, name))
+}
+
 // What may follow `play`.
 fn play_command<'a>(alloc: Global) -> Result<Command<'a>, AllocError>
     ensures { IfOk result (λ command. app_of command ≡ play_app) }
 {
-    bare(alloc, "play").arg(option(alloc, "store"))
+    with(alloc, bare(alloc, "play"), "store")
 }
 
 // What may follow `make` or `tally`.
@@ -51,11 +59,11 @@ fn turns_command<'a>(alloc: Global) -> Result<Command<'a>, AllocError>
 fn serve_command<'a>(alloc: Global) -> Result<Command<'a>, AllocError>
     ensures { IfOk result (λ command. app_of command ≡ serve_app) }
 {
-    bare(alloc, "serve")
-        .arg(option(alloc, "setup"))?
-        .arg(option(alloc, "listen"))?
-        .arg(option(alloc, "workers"))?
-        .arg(option(alloc, "store"))
+    let command = with(alloc, bare(alloc, "serve"), "setup")?;
+    let command = with(alloc, command, "listen")?;
+    let command = with(alloc, command, "workers")?;
+    let command = with(alloc, command, "lock")?;
+    with(alloc, command, "store")
 }
 
 // The values that a command finds in the words, by their names.
@@ -131,6 +139,18 @@ fn number_to(greatest: u32, word: Option<&str>) -> Option<u32>
     }
 }
 
+// The lock that a word names, or a mutex.
+fn lock_of(word: Option<&str>) -> Option<Lock>
+    ensures found { IfSome result (SaysLock (option_map (λ word. word.now) word.entry)) }
+    ensures none { result ≡ None → (lock : LockOf) → SaysLock (option_map (λ word. word.now) word.entry) lock → ⊥ }
+{
+    match word {
+        None | Some("mutex") => Some(Lock::Mutex),
+        Some("ticket") => Some(Lock::Ticket),
+        Some(_) => None,
+    }
+}
+
 // What the words after `play` ask.
 fn play(alloc: Global, words: &[&str]) -> Result<Plan, PlanFault>
     ensures ok { IfOk result (λ plan. (store : Option (List ℕ)) × (plan ≡ Plan.Play store) × AsksPlay (map (λ word. word.now) words.now) store) }
@@ -156,11 +176,14 @@ fn turns(alloc: Global, words: &[&str]) -> Result<u32, PlanFault>
 
 // What the words after `serve` ask.
 fn serve(alloc: Global, words: &[&str]) -> Result<Plan, PlanFault>
-    ensures ok { IfOk result (λ plan. (setup : List ℕ) × (listen : List ℕ) × (workers : ℕ) × (store : Option (List ℕ)) × (plan ≡ Plan.Serve setup listen workers store) × AsksServe (map (λ word. word.now) words.now) setup listen workers store) }
-    ensures usage { result ≡ Err PlanFault.Usage → (setup : List ℕ) (listen : List ℕ) (workers : ℕ) (store : Option (List ℕ)) → AsksServe (map (λ word. word.now) words.now) setup listen workers store → ⊥ }
+    ensures ok { IfOk result (λ plan. (setup : List ℕ) × (listen : List ℕ) × (workers : ℕ) × (lock : LockOf) × (store : Option (List ℕ)) × (plan ≡ Plan.Serve setup listen workers lock store) × AsksServe (map (λ word. word.now) words.now) setup listen workers lock store) }
+    ensures usage { result ≡ Err PlanFault.Usage → (setup : List ℕ) (listen : List ℕ) (workers : ℕ) (lock : LockOf) (store : Option (List ℕ)) → AsksServe (map (λ word. word.now) words.now) setup listen workers lock store → ⊥ }
 {
     let matches = matched(serve_command(alloc)?, words)?;
     let Some(workers) = number_to(64, matches.get_str("workers")) else {
+        return Err(PlanFault::Usage);
+    };
+    let Some(lock) = lock_of(matches.get_str("lock")) else {
         return Err(PlanFault::Usage);
     };
     let setup = path_of(alloc, matches.get_str("setup"))?;
@@ -170,6 +193,7 @@ fn serve(alloc: Global, words: &[&str]) -> Result<Plan, PlanFault>
         setup,
         listen,
         workers,
+        lock,
         store,
     })
 }

@@ -1,5 +1,5 @@
 use crate::command_line::plan;
-use crate::plans::{Plan, PlanFault};
+use crate::plans::{Lock, Plan, PlanFault};
 use std::alloc::Global;
 use std::test::Fail;
 use wb_base::Text;
@@ -102,6 +102,18 @@ const SERVE_FORMS: &[(&str, &str)] = &[
         "serve --setup s --listen l --workers 2 --",
         "serve s at l by 2",
     ),
+    (
+        "serve --setup s --listen l --workers 2 --lock mutex",
+        "serve s at l by 2",
+    ),
+    (
+        "serve --lock=ticket --setup s --listen l --workers 2",
+        "serve s at l by 2 with tickets",
+    ),
+    (
+        "serve --setup s --listen l --workers 2 --lock ticket --store f",
+        "serve s at l by 2 with tickets over f",
+    ),
 ];
 
 // Such words that ask nothing.
@@ -148,6 +160,13 @@ const SERVE_NO_FORMS: &[&str] = &[
     "serve --setup s --listen l --workers 1 --help",
     "serve --setup s --listen l --workers 1 --version",
     "serve --set s --listen l --workers 1",
+    "serve --setup s --listen l --workers 1 --lock spin",
+    "serve --setup s --listen l --workers 1 --lock Ticket",
+    "serve --setup s --listen l --workers 1 --lock ",
+    "serve --setup s --listen l --workers 1 --lock=",
+    "serve --setup s --listen l --workers 1 --lock",
+    "serve --setup s --listen l --workers 1 --lock ticket --lock ticket",
+    "play --lock ticket",
     "serve -setup s --listen l --workers 1",
 ];
 
@@ -157,15 +176,20 @@ fn told_of_serving(
     setup: &Text,
     listen: &Text,
     workers: u32,
+    lock: Lock,
     store: &Option<Text>,
 ) -> Result<String, Fail> {
     let setup = setup.as_str();
     let listen = listen.as_str();
+    let lock = match lock {
+        Lock::Mutex => "",
+        Lock::Ticket => " with tickets",
+    };
     match store {
-        None => Ok(format!(in alloc; "serve {setup} at {listen} by {workers}")?),
+        None => Ok(format!(in alloc; "serve {setup} at {listen} by {workers}{lock}")?),
         Some(path) => {
             let path = path.as_str();
-            Ok(format!(in alloc; "serve {setup} at {listen} by {workers} over {path}")?)
+            Ok(format!(in alloc; "serve {setup} at {listen} by {workers}{lock} over {path}")?)
         }
     }
 }
@@ -188,9 +212,10 @@ fn told(alloc: Global, words: &[&str]) -> Result<String, Fail> {
                 setup,
                 listen,
                 workers,
+                lock,
                 store,
             },
-        ) => told_of_serving(alloc, &setup, &listen, workers, &store),
+        ) => told_of_serving(alloc, &setup, &listen, workers, lock, &store),
         Err(PlanFault::Usage) => Ok(String::from_str(alloc, "usage")?),
         Err(PlanFault::Memory) => Err("no memory".into()),
     }

@@ -5,7 +5,7 @@ mod command_line;
 mod plans;
 
 pub use command_line::plan;
-pub use plans::{Plan, PlanFault};
+pub use plans::{Lock, Plan, PlanFault};
 
 #[cfg(test)]
 mod command_line_tests;

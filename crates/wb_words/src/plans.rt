@@ -5,6 +5,15 @@ ghost use Rattle.wb_words.specs.declared.plans.PlanFault.TheVariants.{Memory as 
 use std::alloc::AllocError;
 use wb_base::{Memory, Text};
 
+/// What the workers of a host take their turns by.
+#[derive(Clone, Copy, Debug, PartialEq, Eq)]
+pub enum Lock {
+    /// A mutex of the standard library.
+    Mutex,
+    /// A lock with tickets: first come, first served, with one history of all turns.
+    Ticket,
+}
+
 /// What the words ask.
 #[derive(Drop)]
 pub enum Plan {
@@ -16,11 +25,13 @@ pub enum Plan {
     Make(u32),
     /// Plays that script, and writes what its replies and its host at the end come to.
     Tally(u32),
-    /// Serves a host at an address by so many workers: its setup is in the file of a path, and its rows are in memory, or in the file of this path.
+    /// Serves a host at an address by so many workers, which take turns by a lock: its setup is in the file of a path, and its rows are in
+    /// memory, or in the file of this path.
     Serve {
         setup: Text,
         listen: Text,
         workers: u32,
+        lock: Lock,
         store: Option<Text>,
     },
 }

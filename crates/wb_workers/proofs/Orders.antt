@@ -1,5 +1,6 @@
 -- Workers that are taken from the end, and whose stations stand in the order in which they came.
-use Rattle.std.proofs.Common.{◌≡◌, ◌<◌, ◌+◌, ◌-◌, ℕ, List, [], ◌∷◌, ◌++◌, length, take, slice_index_or, sym, ap, ◌∙◌, arith}
+use Rattle.std.proofs.Common.{◌≡◌, ◌<◌, ◌+◌, ◌-◌, ℕ, List, [], ◌∷◌, ◌++◌, All, length, take, slice_index_or, sym, ap, ◌∙◌, subst, arith}
+use Rattle.std.proofs.lemmas.List.Elements.{All-from_get_or, All-get_or, All-nil}
 use Rattle.std.proofs.Math.ListN.{get_or-append, length-append}
 use Rattle.std.proofs.Math.Seq.{get_or-append_seam}
 use Rattle.std.proofs.lemmas.List.{get_or-take}
@@ -53,3 +54,20 @@ in_place station n m i d e w old new before written after all within placed back
 -- what holds at a place of the written list holds at that place of the list that it was written from
 pub same_place : {W X : Type 0} (f : W → X) (written after : List W) (j k : ℕ) (w : W) (x : X) → j ≡ k → written ≡ after → f (slice_index_or written k w) ≡ x → f (slice_index_or after j w) ≡ x
 same_place f written after j k w x there same e = ap (λ i. f (slice_index_or after i w)) there ∙ ap (λ xs. f (slice_index_or xs k w)) (sym same) ∙ e
+
+-- what holds of each of a list holds of what each of as many has, where these have them in the opposite order
+pub all_given : {W O : Type 0} (own : W → O) (P : O → Type 0) (n : ℕ) (ws : List W) (os : List O) → length ws ≡ n → length os ≡ n
+    → ((k : ℕ) (d : W) (e : O) → k < n → own (slice_index_or ws k d) ≡ slice_index_or os (n - 1 - k) e) → All P os → All (λ w. P (own w)) ws
+all_given own P n [] os many same order all = All-nil (λ w. P (own w))
+all_given own P n (w ∷ ws) os many same order all =
+    All-from_get_or (λ v. P (own v)) (w ∷ ws) w
+    (λ k within. subst P (sym (order k w (own w) (omega (arith, within, many)))) (All-get_or P os (n - 1 - k) (own w) (omega (arith, within, many, same)) all))
+
+-- and the other way round
+pub all_back : {W O : Type 0} (own : W → O) (P : O → Type 0) (n : ℕ) (ws : List W) (os : List O) → length ws ≡ n → length os ≡ n
+    → ((k : ℕ) (d : W) (e : O) → k < n → slice_index_or os k e ≡ own (slice_index_or ws (n - 1 - k) d)) → All (λ w. P (own w)) ws → All P os
+all_back own P n ws [] many same order all = All-nil P
+all_back own P n [] (o ∷ os) many same order all = absurd (omega (arith, many, same))
+all_back own P n (w ∷ ws) (o ∷ os) many same order all =
+    All-from_get_or P (o ∷ os) o
+    (λ k within. subst P (sym (order k w o (omega (arith, within, same)))) (All-get_or (λ v. P (own v)) (w ∷ ws) (n - 1 - k) w (omega (arith, within, many, same)) all))

@@ -1,10 +1,11 @@
 -- Workers and the listeners of their stations.
-use Rattle.std.specs.Prelude.{◌≡◌, ℕ, [], Option, Some}
+use Rattle.std.specs.Prelude.{◌≡◌, ◌<◌, ℕ, List, [], Option, Some, length, slice_index_or}
 use Rattle.wb_model.specs.declared.body.Told.{Told}
 use Rattle.wb_model.specs.Requests.{Frame}
 use Rattle.wb_tables.specs.Standing.{Standing}
 use Rattle.wb_kept.specs.Hosted.{Hosted, Hand}
 use Rattle.wb_kept.specs.Turned.{Turned}
+use Rattle.wb_kept.specs.Whole.{IsWhole}
 use Rattle.wb_links.specs.Lines.{Lines}
 use Rattle.wb_front.specs.Attended.{Clock, HasWorked}
 use Rattle.wb_front.specs.declared.worker.Worked.{Worked}
@@ -18,14 +19,24 @@ HasEnded told worked = worked ≡ End → (x : Lines) → told ≡ Some x → x.
 abbrev pub HasNone : Option Lines → Type 0
 HasNone told = (x : Lines) → told ≡ Some x → x.left ≡ []
 
--- the links that a listener gave, where it tells, came back in order, each attended: with a share of the turns and the ticker before and now
-pub record IsServed (Ran : ℕ → Frame → Told → Type 0) (told told' : Option Lines) (share share' : ℕ) (clock clock' : Clock) : Type 0 where
-  pub links : (x : Lines) → told ≡ Some x → (y : Lines) × (told' ≡ Some y) × HasWorked Ran x y share share' clock clock'
+-- the links that a listener gave, where it tells, came back in order, each attended: with what is had of the gate and the ticker before and now
+pub record IsServed {O : Type 0} (Ran : O → Frame → Told → O → Type 0) (told told' : Option Lines) (own own' : O) (clock clock' : Clock) : Type 0 where
+  pub links : (x : Lines) → told ≡ Some x → (y : Lines) × (told' ≡ Some y) × HasWorked Ran x y own own' clock clock'
 
--- a turn that was made of the host that was opened with this desk, for a pass with this share of its turns
-abbrev pub IsTurnOfHost : Standing → ℕ → Frame → Told → Type 0
-IsTurnOfHost opened share frame told = (host : Hosted) × (pass : Hand) × (host' : Hosted) × (pass' : Hand) × (host.opened ≡ opened) × (pass.turns ≡ share) × Turned frame host pass host' pass' told
+-- so it is at each of as many stations, by what its listener tells and its ticker has, before and now
+abbrev pub AtEach : {S : Type 0} → (S → Option Lines) → (S → Clock) → List S → List S → (ℕ → Option Lines → Option Lines → Clock → Clock → Type 0) → Type 0
+AtEach {S} told clock before now Is = (i : ℕ) (d e : S) → i < length before →
+    Is i (told (slice_index_or before i d)) (told (slice_index_or now i e)) (clock (slice_index_or before i d)) (clock (slice_index_or now i e))
 
--- each reply over the links of a station was a turn of that host, so many in all, or the refusal of what asks nothing
-abbrev pub WasServed : Standing → ℕ → Option Lines → Option Lines → Clock → Clock → Type 0
-WasServed opened turns told told' clock clock' = IsServed (IsTurnOfHost opened) told told' 0 turns clock clock'
+-- a turn that was made of the host that was opened with this desk, and in which a pass took part
+abbrev pub IsTurnOfHost : Standing → Hand → Frame → Told → Hand → Type 0
+IsTurnOfHost opened pass frame told pass' =
+    (host : Hosted) × (host' : Hosted) × (host.opened ≡ opened) × (host'.opened ≡ opened) × IsWhole host × IsWhole host' × Turned frame host pass host' pass' told
+
+-- a pass of one part before its first turn
+abbrev pub fresh : Hand
+fresh = record { parts = 1; turns = 0; numbers = 0 }
+
+-- each reply over the links of a station was a turn of that host, in which its pass took part, or the refusal of what asks nothing
+abbrev pub WasServed : Standing → Hand → Option Lines → Option Lines → Clock → Clock → Type 0
+WasServed opened pass told told' clock clock' = IsServed (IsTurnOfHost opened) told told' fresh pass clock clock'

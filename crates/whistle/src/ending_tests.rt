@@ -301,7 +301,7 @@ fn the_program_ends_with_the_number_and_the_line_of_its_status(
             "serve",
             b"".as_slice(),
             2,
-            "usage: whistle play [--store PATH], make N, tally N, serve --setup PATH --listen ADDRESS --workers N [--store PATH]\n",
+            "usage: whistle play [--store PATH], make N, tally N, serve --setup PATH --listen ADDRESS --workers N [--lock mutex|ticket] [--store PATH]\n",
         ),
     ] {
         let mut source = source(alloc, script, 1, &[])?;

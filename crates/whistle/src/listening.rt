@@ -1,6 +1,7 @@
 //! The host that links over TCP reach: its stations, and its end.
 ghost use Rattle.std.specs.Prelude.{◌≡◌, ℕ, List, Option, All, IfOk, is_some, vec_len};
 ghost use Rattle.wb_base.specs.declared.rows.Row.{Row as KeptRow};
+ghost use Rattle.wb_words.specs.declared.plans.Lock.{Lock as LockOf};
 ghost use Rattle.wb_words.specs.declared.plans.Plan.TheVariants.{Serve};
 ghost use Rattle.wb_words.specs.CommandLine.{Asks};
 
@@ -53,7 +54,7 @@ pub fn listen<
     workers: u32,
     keeper: K,
 ) -> u8
-    requires asked { (text : List ℕ) (at : List ℕ) (count : ℕ) (store : Option (List ℕ)) → Asks words.now (Serve text at count store) → (text ≡ setup.now) × (at ≡ address.now) × (count ≡ workers) }
+    requires asked { (text : List ℕ) (at : List ℕ) (count : ℕ) (lock : LockOf) (store : Option (List ℕ)) → Asks words.now (Serve text at count lock store) → (text ≡ setup.now) × (at ≡ address.now) × (count ≡ workers) }
     requires held { K.honest keeper → (rows : List KeptRow) × K.holds keeper rows }
 {
     let mut errors = StdSink::new(rt.stderr());

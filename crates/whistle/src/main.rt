@@ -71,6 +71,7 @@ fn run_words<R: Threads + Wait + Net<Listener = TcpListener, Stream = TcpStream>
                 setup,
                 listen: address,
                 workers,
+                lock: _,
                 store,
             },
         ) => {

@@ -9,15 +9,14 @@ use Rattle.wb_front.proofs.worker.attend.Goals as goal
 
 pub returns-clause-attended : goal.returns-clause-attended
 returns-clause-attended g c = λ x a told line.
-    let Ran : ℕ → Frame → Told → Type 0 = λ share frame told. g.G.Gate.ran share frame told in
-    let before : Sides = record { left = g.Li.End.Link.left c.args.link; got = g.Li.End.Link.got c.args.link; moments = g.T.Ticker.left c.args.station.now.ticker; share = c.args.pass.now.turns } in
-    let after : Sides = record { left = g.Li.End.Link.left c.serve_connection.new.link; got = g.Li.End.Link.got c.serve_connection.new.link; moments = g.T.Ticker.left c.serve_connection.new.ticker; share = c.serve_connection.new.pass.turns } in
-    let still = still_tells Ran before after a.left a.got c.serve_connection.result line.has_left line.has_got c.serve_connection.ensures.ended in
+    let before : Sides _ = record { left = g.Li.End.Link.left c.args.link; got = g.Li.End.Link.got c.args.link; moments = g.T.Ticker.left c.args.station.now.ticker; own = c.args.own.now } in
+    let after : Sides _ = record { left = g.Li.End.Link.left c.serve_connection.new.link; got = g.Li.End.Link.got c.serve_connection.new.link; moments = g.T.Ticker.left c.serve_connection.new.ticker; own = c.serve_connection.new.own } in
+    let still = still_tells (λ own frame told own'. g.G.Gate.ran own frame told own') before after a.left a.got c.serve_connection.result line.has_left line.has_got c.serve_connection.ensures.ended in
     let b : Line = record { left = still.0; got = still.1; count = g.Li.End.Link.count c.serve_connection.new.link } in (
       b,
       record {
         how = c.serve_connection.result;
-        ended = ended_at Ran before.left before.got after.left after.got a b before.moments after.moments before.share after.share c.serve_connection.result line.has_left line.has_got still.2 still.3 c.serve_connection.ensures.ended;
+        ended = ended_at (λ own frame told own'. g.G.Gate.ran own frame told own') before.left before.got after.left after.got a b before.moments after.moments before.own after.own c.serve_connection.result line.has_left line.has_got still.2 still.3 c.serve_connection.ensures.ended;
         read_failed = λ e. subst (λ n. Rose n b.count) line.counts (c.serve_connection.ensures.read_fault e);
         write_failed = λ e. subst (λ n. Rose n b.count) line.counts (c.serve_connection.ensures.write_fault e);
         clock_failed = c.serve_connection.ensures.clock_fault;

@@ -5,7 +5,7 @@ use Rattle.wb_front.proofs.Working.{nothing_worked, worked_more, out_given, none
 use Rattle.wb_front.proofs.worker.work.Goals as goal
 
 pub loop-init : goal.loop-init
-loop-init g c = ((λ x is. (x, is, nothing_worked (λ share frame told. g.G.Gate.ran share frame told) x c.args.pass.now.turns (clock_of (g.T.Ticker.left c.args.station.now.ticker) (g.T.Ticker.count c.args.station.now.ticker)))), inl (omega arith), omega arith, refl)
+loop-init g c = ((λ x is. (x, is, nothing_worked (λ own frame told own'. g.G.Gate.ran own frame told own') x c.args.own.now (clock_of (g.T.Ticker.left c.args.station.now.ticker) (g.T.Ticker.count c.args.station.now.ticker)))), inl (omega arith), omega arith, refl, c.requires.of)
 
 pub overflow_add-failed : goal.overflow_add-failed
 overflow_add-failed g c = omega (arith, c.loop.invariant.2)
@@ -24,6 +24,7 @@ loop-preserved-else-failed-eq16 g c = (
   rose_more c.loop.failed (g.Li.Listener.count c.args.station.now.listener) (g.Li.Listener.count c.loop.station.listener) (g.Li.Listener.count c.next-in-loop.new.self) c.loop.invariant.1 c.in-Err.ensures.cause.later c.in-Err.ensures.cause.failed,
   omega (arith, c.loop.invariant.2, c.if-failed-eq16.false),
   c.loop.invariant.3,
+  c.loop.invariant.4,
 )
 
 pub returns-in-Ok-None-clause-attended : goal.returns-in-Ok-None-clause-attended
@@ -32,11 +33,10 @@ returns-in-Ok-None-clause-attended g c = λ x is. let y = c.loop.invariant.0 x i
 pub returns-in-Ok-None-clause-ended : goal.returns-in-Ok-None-clause-ended
 returns-in-Ok-None-clause-ended g c = λ e z is. none_left (g.Li.Listener.told c.loop.station.listener) (g.Li.Listener.told c.next-in-loop.new.self) c.in-Ok-None.ensures.untold (λ x told. rw c.in-Ok-None.field-0-is at (c.in-Ok-None.ensures.none x told)) z is
 
-pub attend-requires : goal.attend-requires
-attend-requires g c = record {
-  out = out_given (g.Li.Listener.told c.loop.station.listener) (g.Li.Listener.told c.next-in-loop.new.self) (λ x line rest. x.left ≡ line ∷ rest)
-      (λ line. IsLine (g.Li.End.Link.left c.in-Ok-Some.link) (g.Li.End.Link.got c.in-Ok-Some.link) (g.Li.End.Link.count c.in-Ok-Some.link) line) c.in-Ok-Some.ensures.untold (λ x told. rw c.in-Ok-Some.field-0-is at (c.in-Ok-Some.ensures.given x told));
-}
+pub attend-requires-clause-out : goal.attend-requires-clause-out
+attend-requires-clause-out g c =
+    out_given (g.Li.Listener.told c.loop.station.listener) (g.Li.Listener.told c.next-in-loop.new.self) (λ x line rest. x.left ≡ line ∷ rest)
+    (λ line. IsLine (g.Li.End.Link.left c.in-Ok-Some.link) (g.Li.End.Link.got c.in-Ok-Some.link) (g.Li.End.Link.count c.in-Ok-Some.link) line) c.in-Ok-Some.ensures.untold (λ x told. rw c.in-Ok-Some.field-0-is at (c.in-Ok-Some.ensures.given x told))
 
 pub loop-preserved : goal.loop-preserved
 loop-preserved g c = (
@@ -47,9 +47,10 @@ loop-preserved g c = (
       let back : y.0.out + 1 - 1 ≡ y.0.out = omega arith in (
         record { left = gave.1; out = y.0.out; came = y.0.came ++ one.0 ∷ [] },
         one.2 ∙ ap (λ n. Some (record { left = gave.1; out = n; came = y.0.came ++ one.0 ∷ [] })) back,
-        worked_more (λ share frame told. g.G.Gate.ran share frame told) x y.0 gave.0 one.0 gave.1 c.args.pass.now.turns c.loop.pass.turns c.attend.new.pass.turns (clock_of (g.T.Ticker.left c.args.station.now.ticker) (g.T.Ticker.count c.args.station.now.ticker)) (clock_of (g.T.Ticker.left c.loop.station.ticker) (g.T.Ticker.count c.loop.station.ticker)) (clock_of (g.T.Ticker.left c.attend.new.station.ticker) (g.T.Ticker.count c.attend.new.station.ticker)) y.2 gave.2 one.1,
+        worked_more (λ own frame told own'. g.G.Gate.ran own frame told own') x y.0 gave.0 one.0 gave.1 c.args.own.now c.loop.own c.attend.new.own (clock_of (g.T.Ticker.left c.args.station.now.ticker) (g.T.Ticker.count c.args.station.now.ticker)) (clock_of (g.T.Ticker.left c.loop.station.ticker) (g.T.Ticker.count c.loop.station.ticker)) (clock_of (g.T.Ticker.left c.attend.new.station.ticker) (g.T.Ticker.count c.attend.new.station.ticker)) y.2 gave.2 one.1,
       )),
   rose_stays c.loop.failed (g.Li.Listener.count c.args.station.now.listener) (g.Li.Listener.count c.loop.station.listener) (g.Li.Listener.count c.attend.new.station.listener) c.loop.invariant.1 (omega (arith, c.attend.ensures.count, c.in-Ok-Some.ensures.cause.later)),
   c.loop.invariant.2,
   c.attend.ensures.parts ∙ c.loop.invariant.3,
+  c.attend.ensures.of,
 )

@@ -15,16 +15,17 @@ close-requires g c =
 pub returns-clause-history : goal.returns-clause-history
 returns-clause-history g c =
     let h = c.in-Ok.ensures.history in
-    let leads : Leads IsTurnOf 0 c.args.gate.first h.0 c.in-Ok.kept = subst (λ (x : Hosted). Leads IsTurnOf 0 x h.0 c.in-Ok.kept) (ap (λ (l : Locked Hosted). l.first) c.gate.view_is) h.1 in (
-      h.0,
-      c.in-Ok.kept,
-      record {
+    let leads : Leads IsTurnOf 0 c.args.gate.first h.0 c.in-Ok.kept = subst (λ (x : Hosted). Leads IsTurnOf 0 x h.0 c.in-Ok.kept) (ap (λ (l : Locked Hosted). l.first) c.gate.view_is) h.1 in
+    record {
+      entries = h.0;
+      last = c.in-Ok.kept;
+      went = record {
         leads = leads;
         split = subst (λ (lists : List (List TurnEntry)). IsSplitInto h.0 lists) c.take_apart.ensures.raw.2 h.2;
         script = λ start stands. c.a_history_is_a_script.ensures c.args.gate.first c.in-Ok.kept h.0 leads start stands;
-      },
-      c.in-Ok-close.ensures.desk.0,
-      c.in-Ok-close.ensures.ok.0,
-      c.in-Ok-close.ensures.ok.1,
-      c.in-Ok-close.ensures.desk.1,
-    )
+      };
+      desk_is = c.in-Ok-close.ensures.desk.0;
+      turns_are = c.in-Ok-close.ensures.ok.0;
+      numbers_are = c.in-Ok-close.ensures.ok.1;
+      faults_are = c.in-Ok-close.ensures.desk.1;
+    }
