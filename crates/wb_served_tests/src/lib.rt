@@ -22,5 +22,3 @@ mod served;
 mod setup_text;
 #[cfg(test)]
 mod side_by_side;
-#[cfg(test)]
-mod tickets;
