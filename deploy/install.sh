@@ -22,7 +22,7 @@ on_machine() { [ -z "$root" ]; }
 if on_machine; then
     [ "$(id -u)" -eq 0 ] || { echo 'install.sh: run it as root' >&2; exit 1; }
     missing=
-    for tool in nginx openssl curl; do command -v "$tool" >/dev/null || missing="$missing $tool"; done
+    for tool in nginx openssl curl sqlite3; do command -v "$tool" >/dev/null || missing="$missing $tool"; done
     [ -z "$missing" ] || DEBIAN_FRONTEND=noninteractive apt-get install -y --no-install-recommends $missing
     id whistle >/dev/null 2>&1 ||
         useradd --system --user-group --home-dir /nonexistent --no-create-home --shell /usr/sbin/nologin whistle
@@ -31,6 +31,7 @@ fi
 # The program stands beside the old one until it is whole, so that a running host is not disturbed.
 install -D -m 755 "$program" "$root/usr/local/bin/whistle.new"
 mv -f "$root/usr/local/bin/whistle.new" "$root/usr/local/bin/whistle"
+install -D -m 755 "$here/deploy/erase-deleted" "$root/usr/local/lib/whistle/erase-deleted"
 
 # The pages, and none that an older version had.
 pages=$root/usr/share/whistle/web
@@ -68,7 +69,7 @@ install -d "$root/etc/nginx/sites-available" "$root/etc/nginx/sites-enabled"
 sed "s/report\.example\.org/$name/g" "$here/deploy/nginx.conf" > "$site.new" && mv "$site.new" "$site"
 ln -sfn ../sites-available/whistle "$root/etc/nginx/sites-enabled/whistle"
 
-for unit in whistle.service whistle-health.service whistle-health.timer; do
+for unit in whistle.service whistle-health.service whistle-health.timer whistle-erase.service whistle-erase.timer; do
     install -D -m 644 "$here/deploy/$unit" "$root/etc/systemd/system/$unit"
 done
 
@@ -79,7 +80,7 @@ elif on_machine; then
     nginx -t
     if [ -d /run/systemd/system ]; then
         systemctl daemon-reload
-        systemctl enable --now whistle.service whistle-health.timer nginx.service
+        systemctl enable --now whistle.service whistle-health.timer whistle-erase.timer nginx.service
         systemctl restart whistle.service
         systemctl reload nginx.service
         echo "install.sh: the host serves at https://$name/"

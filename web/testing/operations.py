@@ -23,12 +23,12 @@ def check_unit(machine):
         return print("web/test: systemd-analyze is not on this machine: the unit was not checked")
     room = f"{machine.room}/units"
     os.makedirs(room, exist_ok=True)
-    for name in ("whistle.service", "whistle-health.service", "whistle-health.timer"):
+    for name in ("whistle.service", "whistle-health.service", "whistle-health.timer", "whistle-erase.service", "whistle-erase.timer"):
         with open(f"{DEPLOY}/{name}") as it:
-            text = it.read().replace("/usr/local/bin/whistle", f"{machine.there}/usr/local/bin/whistle")
+            text = it.read().replace("/usr/local/", f"{machine.there}/usr/local/")
         with open(f"{room}/{name}", "w") as it:
             it.write(text)
-    told = run("systemd-analyze", "verify", "--man=no", f"{room}/whistle.service", f"{room}/whistle-health.timer")
+    told = run("systemd-analyze", "verify", "--man=no", f"{room}/whistle.service", f"{room}/whistle-health.timer", f"{room}/whistle-erase.timer")
     mine = [line for line in told.stderr.splitlines() if "whistle" in line]
     assert told.returncode == 0 and mine == [], told.stderr
     told = run("systemd-analyze", "security", "--no-pager", "--offline=yes", f"--threshold={EXPOSURE}", f"{room}/whistle.service")

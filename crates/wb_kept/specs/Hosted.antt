@@ -14,6 +14,10 @@ pub record Hosted : Type 0 where
   pub numbers : ℕ
   pub faults : ℕ
 
+-- a host that was opened with this desk, whose keeper counts so many faults, before its first turn
+abbrev pub begun : Standing → ℕ → Hosted
+begun desk faults = record { desk = desk; opened = desk; turns = 0; numbers = 0; faults = faults }
+
 -- a desk has made the turns that stood when the books were opened and those of the book, and drawn the numbers that stood then and those of
 -- the book; an honest keeper holds its rows; and it is the desk over which they were opened, gone on by the turns of the book
 pub record IsBooked (d opened : Standing) (turns numbers : ℕ) (honest : Type 0) (holds : List Row → Type 0) : Type 0 where
@@ -29,6 +33,10 @@ pub record Hand : Type 0 where
   pub parts : ℕ
   pub turns : ℕ
   pub numbers : ℕ
+
+-- a pass of one part before its first turn
+abbrev pub fresh : Hand
+fresh = record { parts = 1; turns = 0; numbers = 0 }
 
 abbrev pub parts_of : List Hand → ℕ
 parts_of ps = sum_by (λ (p : Hand). p.parts) ps

@@ -4,6 +4,7 @@ ghost use Rattle.wb_model.specs.Drawn.{is_accepted as accepted};
 ghost use Rattle.wb_model.specs.Fits.{fits};
 ghost use Rattle.wb_model.specs.Rows.{rows_of};
 ghost use Rattle.wb_tables.specs.Standing.{hosts_of};
+ghost use Rattle.wb_kept.specs.Hosted.{begun};
 ghost use Rattle.wb_kept.specs.Turned.{Turned};
 ghost use Rattle.wb_kept.specs.Whole.{IsWhole};
 
@@ -79,7 +80,7 @@ impl<K: Keeper, A: Origin, B: Ledger> Kept<K, A, B> {
         requires honest { K.honest keeper → A.honest }
         requires turns { (turns.name ≡ A.name) × (turns.parts ≡ A.parts) × (turns.parts ≡ parts) }
         requires numbers { (numbers.name ≡ B.name) × (numbers.parts ≡ B.parts) × (numbers.parts ≡ parts) }
-        ensures host { result.0 ≡ record { desk = desk; opened = desk; turns = 0; numbers = 0; faults = K.count keeper } }
+        ensures host { result.0 ≡ begun desk (K.count keeper) }
         ensures pass { result.1 ≡ record { parts = parts; turns = 0; numbers = 0 } }
     {
         let (turn_book, mut turn_share) = turns.open::<A>();

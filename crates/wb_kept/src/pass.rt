@@ -1,5 +1,6 @@
 //! Passes: parts of a host's two ledgers, with the shares that they hold.
 ghost use Rattle.std.specs.Prelude.{◌≡◌, ◌+◌, ◌≤◌};
+ghost use Rattle.wb_kept.specs.Hosted.{fresh};
 
 use std::marker::Model;
 use std::sync::ledger::{Ledger, Share};
@@ -29,7 +30,7 @@ impl<A: Ledger, B: Ledger> Pass<A, B> {
     /// A pass of the same host with one of this one's parts, whose shares are 0.
     pub fn split(&mut self) -> Pass<A, B>
         requires { 2 ≤ self.old.parts }
-        ensures given { result ≡ record { parts = 1; turns = 0; numbers = 0 } }
+        ensures given { result ≡ fresh }
         ensures left { self.new.parts + 1 ≡ self.old.parts }
         ensures turns { self.new.turns ≡ self.old.turns }
         ensures numbers { self.new.numbers ≡ self.old.numbers }

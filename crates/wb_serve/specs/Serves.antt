@@ -12,7 +12,7 @@ use Rattle.wb_tables.specs.Standing.{Standing, hosts_of}
 use Rattle.wb_desk.specs.Openings.{AreLoaded}
 use Rattle.wb_desk.specs.Turns.{StandsFor}
 use Rattle.wb_kept.specs.GoneOn.{HasGoneOn}
-use Rattle.wb_kept.specs.Hosted.{Hand, Hosted, turns_of}
+use Rattle.wb_kept.specs.Hosted.{Hand, Hosted, turns_of, begun}
 use Rattle.wb_words.specs.declared.plans.Lock.{Lock}
 use Rattle.wb_words.specs.declared.plans.Lock.TheVariants.{Mutex, Ticket}
 use Rattle.wb_words.specs.declared.plans.Plan.TheVariants.{Serve}
@@ -22,7 +22,6 @@ use Rattle.wb_rows.specs.Left.{left as left_by}
 use Rattle.wb_ticket_lock.specs.Histories.{IsSplitInto}
 use Rattle.wb_ticket.specs.Owned.{TurnEntry}
 use Rattle.wb_ticket.specs.Scripts.{IsScript}
-use Rattle.wb_workers.specs.InOrder.{begun}
 use Rattle.wb_promise.specs.Promises.{IsAsPromised}
 use Rattle.wb_start.specs.declared.status.Status.{Status}
 use Rattle.wb_start.specs.declared.status.Status.TheVariants.{Done, Usage, ReadFault, WriteFault, NoMemory, BadFrame, Setup, OpenFault, KeptRows, TooLong, ListenFault}

@@ -1,5 +1,6 @@
 //! How a gate is made.
 ghost use Rattle.std.specs.Prelude.{◌≡◌, ◌<◌, ◌≤◌, [], All, IfOk, IfErr, vec_len, vec_capacity};
+ghost use Rattle.wb_kept.specs.Hosted.{fresh};
 
 use crate::closing::ClosingRoom;
 use crate::gate::TicketGate;
@@ -37,7 +38,7 @@ fn seat_all<K: Keeper, A: Origin, B: Ledger>(
     requires room { (vec_len seats.old ≡ 0) × (vec_len raw ≤ vec_capacity seats.old) }
     requires here { All (λ s. (s.lock ≡ lock.now.id) × (s.mine ≡ [])) raw.items }
     ensures many { vec_len seats.new ≡ vec_len raw }
-    ensures here { All (λ s. s ≡ record { gate = lock.now.id; hand = record { parts = 1; turns = 0; numbers = 0 }; mine = [] }) seats.new.items }
+    ensures here { All (λ s. s ≡ record { gate = lock.now.id; hand = fresh; mine = [] }) seats.new.items }
 {
     let mut pass = pass;
     while raw.len() > 1 {
@@ -67,7 +68,7 @@ impl<K: Keeper, A: Origin, B: Ledger> TicketGate<K, A, B> {
         requires parts { (A.parts ≡ seats) × (B.parts ≡ seats) }
         requires pass { pass ≡ record { parts = seats; turns = 0; numbers = 0 } }
         ensures gate { IfOk result (λ t. (t.gate.seats ≡ seats) × (t.gate.first ≡ kept) × (t.room ≡ seats)) }
-        ensures seats { IfOk result (λ t. (vec_len t.seats ≡ seats) × All (λ s. s ≡ record { gate = t.gate.id; hand = record { parts = 1; turns = 0; numbers = 0 }; mine = [] }) t.seats.items) }
+        ensures seats { IfOk result (λ t. (vec_len t.seats ≡ seats) × All (λ s. s ≡ record { gate = t.gate.id; hand = fresh; mine = [] }) t.seats.items) }
         ensures back { IfErr result (λ m. (m.kept ≡ kept) × (m.pass ≡ pass)) }
     {
         let Ok(room) = ClosingRoom::new(alloc, seats) else {

@@ -1,15 +1,9 @@
 -- Stations of a host that goes through one history.
-use Rattle.std.specs.Prelude.{◌≡◌, ℕ, List, [], Option}
-use Rattle.wb_tables.specs.Standing.{Standing}
-use Rattle.wb_kept.specs.Hosted.{Hosted}
+use Rattle.std.specs.Prelude.{◌≡◌, List, [], Option}
 use Rattle.wb_links.specs.Lines.{Lines}
 use Rattle.wb_front.specs.Attended.{Clock}
 use Rattle.wb_ticket.specs.Owned.{Owned, TurnEntry, IsNextEntry}
 use Rattle.wb_workers.specs.Workers.{IsServed}
-
--- a host that was opened with this desk, whose keeper counts so many faults, before its first turn
-abbrev pub begun : Standing → ℕ → Hosted
-begun desk faults = record { desk = desk; opened = desk; turns = 0; numbers = 0; faults = faults }
 
 -- the requests that came over the links of a station were attended at one seat: each that was a turn is the next entry of the seat's list, with
 -- the reply that was told

@@ -3,7 +3,7 @@ use Rattle.std.specs.Prelude.{◌≡◌, ◌<◌, ℕ, List, [], Option, Some, l
 use Rattle.wb_model.specs.declared.body.Told.{Told}
 use Rattle.wb_model.specs.Requests.{Frame}
 use Rattle.wb_tables.specs.Standing.{Standing}
-use Rattle.wb_kept.specs.Hosted.{Hosted, Hand}
+use Rattle.wb_kept.specs.Hosted.{Hosted, Hand, fresh}
 use Rattle.wb_kept.specs.Turned.{Turned}
 use Rattle.wb_kept.specs.Whole.{IsWhole}
 use Rattle.wb_links.specs.Lines.{Lines}
@@ -32,10 +32,6 @@ AtEach {S} told clock before now Is = (i : ℕ) (d e : S) → i < length before 
 abbrev pub IsTurnOfHost : Standing → Hand → Frame → Told → Hand → Type 0
 IsTurnOfHost opened pass frame told pass' =
     (host : Hosted) × (host' : Hosted) × (host.opened ≡ opened) × (host'.opened ≡ opened) × IsWhole host × IsWhole host' × Turned frame host pass host' pass' told
-
--- a pass of one part before its first turn
-abbrev pub fresh : Hand
-fresh = record { parts = 1; turns = 0; numbers = 0 }
 
 -- each reply over the links of a station was a turn of that host, in which its pass took part, or the refusal of what asks nothing
 abbrev pub WasServed : Standing → Hand → Option Lines → Option Lines → Clock → Clock → Type 0

@@ -2,10 +2,11 @@
 ghost use Rattle.std.specs.Prelude.{◌≡◌, ◌<◌, ◌≤◌, ℕ, List, [], true, false, All, length, vec_len, slice_index_or, IfOk, IfErr};
 ghost use Rattle.wb_model.specs.Rows.{rows_of};
 ghost use Rattle.wb_tables.specs.Standing.{hosts_of};
+ghost use Rattle.wb_kept.specs.Hosted.{begun};
 ghost use Rattle.wb_front.specs.Attended.{clock_of, RoseOften};
 ghost use Rattle.wb_ticket.specs.OneHistory.{IsLastOf};
 ghost use Rattle.wb_ticket.specs.Owned.{TurnEntry};
-ghost use Rattle.wb_workers.specs.InOrder.{WasServedInOrder, begun};
+ghost use Rattle.wb_workers.specs.InOrder.{WasServedInOrder};
 ghost use Rattle.wb_workers.specs.Workers.{AtEach, HasNone};
 
 use crate::placing::{place, unplace};

@@ -4,9 +4,9 @@ ghost use Rattle.wb_model.specs.Drawn.{numbers_of};
 ghost use Rattle.wb_model.specs.Rows.{rows_of};
 ghost use Rattle.wb_tables.specs.Standing.{hosts_of};
 ghost use Rattle.wb_kept.specs.GoneOn.{IsLater};
-ghost use Rattle.wb_kept.specs.Hosted.{Hand, turns_of, numbers_drawn};
+ghost use Rattle.wb_kept.specs.Hosted.{Hand, turns_of, numbers_drawn, fresh};
 ghost use Rattle.wb_front.specs.Attended.{clock_of, RoseOften};
-ghost use Rattle.wb_workers.specs.Workers.{AtEach, HasNone, WasServed, fresh};
+ghost use Rattle.wb_workers.specs.Workers.{AtEach, HasNone, WasServed};
 
 use crate::placing::{place, unplace};
 use crate::worker::attend_all;

@@ -1,4 +1,5 @@
 use Rattle.std.proofs.Common.{◌≡◌, ◌<◌, ◌≤◌, ◌+◌, [], All, vec_len, vec_capacity}
+use Rattle.wb_kept.specs.Hosted.{fresh}
 use Rattle.wb_ticket.proofs.opening.seat_all.Given as goal
 
 abbrev pub invariant-loop-raw : goal.invariant-loop-raw
@@ -10,7 +11,7 @@ invariant-loop-raw g l = record {
   many : vec_len l.seats + vec_len l.raw ≡ vec_len l.fn.raw;
   room : vec_len l.fn.raw ≤ vec_capacity l.seats;
   left : All (λ s. (s.lock ≡ l.lock.id) × (s.mine ≡ [])) l.raw.items;
-  done : All (λ s. s ≡ record { gate = l.lock.id; hand = record { parts = 1; turns = 0; numbers = 0 }; mine = [] }) l.seats.items;
+  done : All (λ s. s ≡ record { gate = l.lock.id; hand = fresh; mine = [] }) l.seats.items;
 }
 
 abbrev pub decreases-loop-raw : goal.decreases-loop-raw

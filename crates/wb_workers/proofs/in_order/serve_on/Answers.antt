@@ -5,9 +5,10 @@ use Rattle.std.proofs.Math.ListN.{get_or-map}
 use Rattle.std.proofs.lemmas.List.{length-map}
 use Rattle.std.proofs.lemmas.List.Elements.{All-get_or, All-same, All-weaker}
 use Rattle.wb_front.specs.declared.worker.Worked.TheVariants.{End, ListenFault}
+use Rattle.wb_kept.specs.Hosted.{fresh}
 use Rattle.wb_ticket.specs.OneHistory.{IsLastOf}
 use Rattle.wb_ticket.specs.Owned.{Owned}
-use Rattle.wb_workers.specs.Workers.{HasEnded, fresh}
+use Rattle.wb_workers.specs.Workers.{HasEnded}
 use Rattle.wb_workers.proofs.Orders.{all_back, all_given, back_in_place, in_place, same_place}
 use Rattle.wb_workers.proofs.Parts.{take_written}
 use Rattle.wb_workers.proofs.Sent.{gate_sync, gate_sync_as_argument, seat_send, seat_send_as_argument}
