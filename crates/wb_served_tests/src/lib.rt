@@ -22,3 +22,5 @@ mod served;
 mod setup_text;
 #[cfg(test)]
 mod side_by_side;
+#[cfg(test)]
+mod tickets;

@@ -1,0 +1,4 @@
+pub mod LineLemmas
+pub mod ByExpiry
+pub mod Going
+pub mod Entries

@@ -1,0 +1,6 @@
+use Rattle.std.specs.List.Sorted.{IsStrictlySortedBy}
+use Rattle.wb_export.proofs.tests.tables.Goals as goal
+
+pub new-keeper-requires : goal.new-keeper-requires
+unfolding IsStrictlySortedBy
+new-keeper-requires c = rw c.new.ensures.items tt
