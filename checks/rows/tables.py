@@ -21,7 +21,7 @@ A table is a file `NAME.rows` beside this one, of cases. `#` begins a remark whe
     change KEY OLD => NEW, put KEY TEXT, drop KEY, move KEY KEY, sql STATEMENT
                                   a change of the file before the start; a key is KIND/TENANT/A/B
     rows N, holds KEY TEXT, lacks KEY, stays
-                                  what the file has after the start; with `stays` the rows that it had before
+                                  what the file has after the start; with `stays`, and after an end with 9, the rows that it had before
     input waits [N] | breaks [N]  each reply is awaited before the next frame is sent, in pieces of N bytes; `breaks`: then reading fails
     output full                   standard output takes no byte
     call WORDS, prints TEXT       the words of the program in place of `play`, and its output; `prints script` is the case's own script
