@@ -5,7 +5,8 @@ A table is a file `NAME.rows` beside this one, of cases. `#` begins a remark whe
     case NAME                     begins a case: what follows up to the next one
     from NAME                     its file begins as the one that this earlier case of the table left
     file TEXT                     its file begins as these bytes, and is to stay so
-    setup city | docks | TEXT     the setup: one tenant (where none is named), two of them, or the text itself
+    setup city | docks | none | TEXT
+                                  the setup: one tenant (where none is named), two of them, no frame of a setup, or the text itself
     in setup OLD => NEW           it has NEW in place of the first OLD
     > SECONDS WHO METHOD PATH BODY
                                   a request: seconds after 2025-01-01 00:00 UTC; `-` for no session, the turn of the login, or `=` and the session's text
@@ -24,7 +25,7 @@ A table is a file `NAME.rows` beside this one, of cases. `#` begins a remark whe
                                   what the file has after the start; with `stays`, and after an end with 9, the rows that it had before
     input waits [N] | breaks [N]  each reply is awaited before the next frame is sent, in pieces of N bytes; `breaks`: then reading fails
     output full                   standard output takes no byte
-    call WORDS, prints TEXT       the words of the program in place of `play`, and its output; `prints script` is the case's own script
+    call WORDS, prints TEXT       the words of the program in place of `play`, without a file, and its output; `prints script` is the case's own script
 
 In BYTES, TEXT, OLD and NEW of all lines but `holds`, `put` and `change`, `\n`, `\r`, `\t`, `\xHH` and `\\` stand for bytes. In each line `$s<K>` is the session
 of turn K, `$r<N>` the receipt of the number N, `$x<T,N>` the text T N times, and `$each<A,B|T>` is T for each number from A to B, which is `#` in it, with
@@ -52,6 +53,12 @@ def as_bytes(text):
                   {b"n": b"\n", b"r": b"\r", b"t": b"\t", b"\\": b"\\"}[m[1]], text.encode())
 
 
+def parted(text):
+    """The two sides of `OLD => NEW`; the second may be empty."""
+    old, _, new = text.partition(" =>")
+    return old, new.removeprefix(" ")
+
+
 class Start:
     """One start of a case: the changes before it, its turns, and what is wanted of it."""
 
@@ -60,7 +67,8 @@ class Start:
         self.status, self.line, self.input, self.output, self.call, self.prints, self.cut = 0, "", None, None, None, None, None
 
     def script(self, frames=None):
-        return b"@setup %d\n%s\n" % (len(self.setup), self.setup) + b"".join(self.frames if frames is None else frames)
+        setup = b"" if self.setup is None else b"@setup %d\n%s\n" % (len(self.setup), self.setup)
+        return setup + b"".join(self.frames if frames is None else frames)
 
 
 class Case:
@@ -74,9 +82,9 @@ class Case:
         verb, _, rest = line.partition(" ")
         if verb == "from": self.source = rest
         elif verb == "file": self.file = as_bytes(rest)
-        elif verb == "setup": start.setup = self.setups.get(rest) or as_bytes(rest)
+        elif verb == "setup": start.setup = None if rest == "none" else self.setups.get(rest) or as_bytes(rest)
         elif verb == "in":
-            old, new = (as_bytes(part) for part in rest.removeprefix("setup ").split(" => "))
+            old, new = map(as_bytes, parted(rest.removeprefix("setup ")))
             if old not in start.setup: raise ValueError("the setup has no such text")
             start.setup = start.setup.replace(old, new, 1)
         elif verb == "words": self.words = [int(word) for word in rest.split()]
