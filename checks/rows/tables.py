@@ -67,6 +67,7 @@ class Start:
         self.status, self.line, self.input, self.output, self.call, self.prints, self.cut = 0, "", None, None, None, None, None
 
     def script(self, frames=None):
+        """The script of the setup and these frames, or all of them."""
         setup = b"" if self.setup is None else b"@setup %d\n%s\n" % (len(self.setup), self.setup)
         return setup + b"".join(self.frames if frames is None else frames)
 
@@ -94,10 +95,11 @@ class Case:
             session = "" if who == "-" else f"X-Session: {who[1:] if who[0] == '=' else written(f'$s<{who}>')}\r\n"
             text = body[0].encode() if body else b""
             length = f"Content-Length: {len(text)}\r\n" if body else ""
-            self.frame(start, int(seconds), f"{method} {path} HTTP/1.1\r\nHost: h\r\n{session}".encode() + self.fields + f"{length}\r\n".encode() + text, at)
+            head = f"{method} {path} HTTP/1.1\r\nHost: h\r\n{session}".encode() + self.fields + f"{length}\r\n".encode()
+            self.frame(start, int(seconds), head + text)
         elif verb == ">>":
             seconds, text = rest.split(" ", 1)
-            self.frame(start, int(seconds), as_bytes(text), at)
+            self.frame(start, int(seconds), as_bytes(text))
         elif verb == "frame": start.frames.append(as_bytes(rest))
         elif verb == "<":
             status, body = rest.split(" ", 1)
@@ -118,7 +120,7 @@ class Case:
         elif verb == "prints": start.prints = rest
         else: raise ValueError(f"no line of a table begins so: {verb}")
 
-    def frame(self, start, seconds, request, at):
+    def frame(self, start, seconds, request):
         n = len(start.frames) + 1
         words = self.words or [0, n, 0, n]
         start.frames.append(b"@%d %016x %016x %016x %016x %d\n%s\n" % (BEGIN + seconds, *words, len(request), request))
