@@ -24,6 +24,7 @@ A table is a file `NAME.rows` beside this one, of cases. `#` begins a remark whe
     rows N, holds KEY TEXT, lacks KEY, stays
                                   what the file has after the start; with `stays`, and after an end with 9, the rows that it had before
     input waits [N] | breaks [N]  each reply is awaited before the next frame is sent, in pieces of N bytes; `breaks`: then reading fails
+    full                          with `input waits`: the file takes no byte while the next request is answered
     output full                   standard output takes no byte
     call WORDS, prints TEXT       the words of the program in place of `play`, without a file, and its output; `prints script` is the case's own script
 
@@ -63,7 +64,7 @@ class Start:
     """One start of a case: the changes before it, its turns, and what is wanted of it."""
 
     def __init__(self, setup):
-        self.setup, self.changes, self.frames, self.replies, self.lines, self.after = setup, [], [], [], [], []
+        self.setup, self.changes, self.frames, self.full, self.replies, self.lines, self.after = setup, [], [], set(), [], [], []
         self.status, self.line, self.input, self.output, self.call, self.prints, self.cut = 0, "", None, None, None, None, None
 
     def script(self, frames=None):
@@ -113,6 +114,7 @@ class Case:
         elif verb == "ends":
             status, _, start.line = rest.partition(" ")
             start.status = int(status)
+        elif verb == "full": start.full.add(len(start.frames) + 1)
         elif verb == "cut": start.cut = len(start.frames)
         elif verb in ("change", "put", "drop", "move", "sql"): start.changes.append((verb, rest))
         elif verb in ("rows", "holds", "lacks", "stays"): start.after.append((verb, rest))
