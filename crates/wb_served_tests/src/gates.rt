@@ -48,7 +48,7 @@ fn asked(alloc: Global, routes: &Routes, text: &str) -> Result<Asked, Fail>
 }
 
 // The turn of a request, so many seconds after the start of 2025 in UTC.
-fn turn(
+pub fn turn(
     alloc: Global,
     routes: &Routes,
     text: &str,
