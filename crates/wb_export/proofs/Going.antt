@@ -17,7 +17,7 @@ use Rattle.wb_model.specs.Trails.{expires}
 use Rattle.wb_model.proofs.HeldTables.{held_now}
 use Rattle.wb_model.proofs.LegalPasts.{held_legal}
 use Rattle.wb_model.proofs.TurnLaw.{event, idle_law}
-use Rattle.wb_export.specs.Forecasts.{expires_by}
+use Rattle.wb_export.specs.Forecasts.{after_idle, expires_by, without_expired}
 
 -- a report whose trail has an entry lives while it does not expire by the day
 lives : (settings : TenantItem) (time : ℕ) (days : Reckoning) (c : Case) → is_legal days c.trail ≡ true → is_live settings time c ≡ not (expires_by (day_of time settings.offset) c)
@@ -38,7 +38,7 @@ later : (a b : ℕ) → a ≤ b → max a b ≡ b
 later a b le = omega (arith, le)
 
 pub goes : (t : ℕ) (past : Past Opened) (f : Frame) → AreByVerdicts t past → now past ≤ f.moment →
-    (held (Turn (event f Idle) past)).plain.cases ≡ filter (λ c. not (expires_by (day_of f.moment (held past).plain.registry.settings.offset) c)) (held past).plain.cases
+    (held (after_idle past f)).plain.cases ≡ without_expired f.moment (held past).plain
 goes t past f made le =
     let settings = (held past).plain.registry.settings in
     let purged_is : purged (max (now past) f.moment) (held past) ≡ held (Turn (event f Idle) past) = held_now past f ∙ sym (idle_law past f) in

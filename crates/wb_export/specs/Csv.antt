@@ -4,19 +4,22 @@ use Rattle.csv.specs.Records.{Row, fields_of, partial_of}
 use Rattle.csv.specs.Writing.{row_text, default_writer, text_written, writer_setup, fields_written, has_written}
 use Rattle.csv.specs.declared.writer.Writer.{Writer}
 
--- the text of lines, each a list of its fields
-abbrev pub csv_text : List (List (List ℕ)) → List ℕ
+-- a line: its fields
+abbrev pub Line : Type 0
+Line = List (List ℕ)
+
+abbrev pub csv_text : List Line → List ℕ
 csv_text [] = []
 csv_text (line ∷ lines) = row_text default_writer line ++ csv_text lines
 
 -- a writer has written these lines whole
-pub record HasWritten {W : Type 0} (contents : W → Option (List ℕ)) (writer : Writer W) (lines : List (List (List ℕ))) : Type 0 where
+pub record HasWritten {W : Type 0} (contents : W → Option (List ℕ)) (writer : Writer W) (lines : List Line) : Type 0 where
   pub text : text_written contents writer ≡ Some (csv_text lines)
   pub setup : writer_setup writer ≡ default_writer
   pub fields : fields_written writer ≡ 0
   pub wrote : has_written writer ≡ false
 
 -- a line has these fields, and nothing after the last
-pub record IsLine (row : Row) (fields : List (List ℕ)) : Type 0 where
+pub record IsLine (row : Row) (fields : Line) : Type 0 where
   pub all : fields_of row ≡ fields
   pub ended : partial_of row ≡ []

@@ -3,9 +3,14 @@ use Rattle.std.specs.Prelude.{◌≡◌, ℕ, ℤ, Bool, not, int_lt, List, [], 
 use Rattle.std.specs.List.Sorted.{IsSortedBy}
 use Rattle.std.specs.Ordering.{int_eq}
 use Rattle.wb_base.specs.DateTexts.{date_text}
-use Rattle.wb_model.specs.Tables.{Case}
+use Rattle.wb_base.specs.Days.{day_of}
+use Rattle.wb_model.specs.declared.event.What.TheVariants.{Idle}
+use Rattle.wb_model.specs.Opened.{Opened}
+use Rattle.wb_model.specs.Past.{Past, Turn}
+use Rattle.wb_model.specs.Requests.{Frame}
+use Rattle.wb_model.specs.Tables.{Case, Plain}
 use Rattle.wb_model.specs.Trails.{expires}
-use Rattle.wb_export.specs.Csv.{csv_text}
+use Rattle.wb_export.specs.Csv.{Line, csv_text}
 use Rattle.wb_export.specs.declared.forecasts.Expiring.{Expiring}
 
 -- the expiry of a report is this day or before
@@ -21,16 +26,25 @@ expires_before x y = int_lt x.expires y.expires
 abbrev pub expires_on : ℤ → Expiring → Bool
 expires_on day x = int_eq x.expires day
 
--- the reports that expire by a day, by expiry, and of each day in the order in which they stand, which is that of their numbers
+-- the reports that expire by a day, by expiry, and of each day in the order in which they stand, which is that of their numbers where the tables are
+-- those of kept rows
 pub record IsForecast (day : ℤ) (cases : List Case) (found : List Expiring) : Type 0 where
   pub by_expiry : IsSortedBy expires_before found
   pub of_each_day : (d : ℤ) → filter (expires_on d) found ≡ filter (expires_on d) (map expiring (filter (expires_by day) cases))
 
-abbrev pub forecast_header : List (List ℕ)
+abbrev pub forecast_header : Line
 forecast_header = codes "number" ∷ codes "expires" ∷ []
 
-abbrev pub forecast_line : Expiring → List (List ℕ)
+abbrev pub forecast_line : Expiring → Line
 forecast_line x = decimal x.number ∷ date_text x.expires ∷ []
 
 abbrev pub forecast_text : List Expiring → List ℕ
 forecast_text found = csv_text (forecast_header ∷ map forecast_line found)
+
+-- a turn that changes nothing, with the moment and the words of a frame
+abbrev pub after_idle : Past Opened → Frame → Past Opened
+after_idle past f = Turn (record { moment = f.moment; words = f.words; what = Idle }) past
+
+-- the reports of a tenant but those that expire by its day of a moment
+abbrev pub without_expired : ℕ → Plain → List Case
+without_expired moment p = filter (λ c. not (expires_by (day_of moment p.registry.settings.offset) c)) p.cases

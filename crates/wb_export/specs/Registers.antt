@@ -1,14 +1,11 @@
 -- A user's register: a line for each live report that the user reads.
-use Rattle.std.specs.Prelude.{ℕ, ℤ, Bool, ◌&&◌, ◌==◌, not, int_lt, length, if◌then◌else◌, List, [], ◌∷◌, map, filter, Option, Some, None, codes, decimal}
+use Rattle.std.specs.Prelude.{ℕ, ℤ, if◌then◌else◌, List, [], ◌∷◌, map, filter, Option, Some, None, codes, decimal}
 use Rattle.wb_base.specs.DateTexts.{date_text}
-use Rattle.wb_base.specs.Days.{day_of}
 use Rattle.wb_model.specs.Names.{status_name}
-use Rattle.wb_model.specs.Tables.{Case, Registry}
-use Rattle.wb_model.specs.Trails.{context, label, status, received, ack_due, acknowledged, feedback_due, expires, has_identity, reads}
-use Rattle.wb_row_rules.specs.declared.cases.CaseItem.{CaseItem}
-use Rattle.wb_row_rules.specs.Reports.{case_report}
-use Rattle.wb_rows.specs.Openings.{case_of}
-use Rattle.wb_export.specs.Csv.{csv_text}
+use Rattle.wb_model.specs.Tables.{Case, Registry, is_live}
+use Rattle.wb_model.specs.Trails.{context, label, status, received, ack_due, acknowledged, feedback_due, expires, has_identity}
+use Rattle.wb_model.specs.ViewRows.{readable}
+use Rattle.wb_export.specs.Csv.{Line, csv_text}
 
 -- a day that may be missing is empty then
 abbrev pub day_field : Option ℤ → List ℕ
@@ -19,10 +16,10 @@ day_field (Some day) = date_text day
 abbrev pub identity_field : Case → List ℕ
 identity_field c = if has_identity c.trail then codes "sealed" else codes "none"
 
-abbrev pub register_header : List (List ℕ)
+abbrev pub register_header : Line
 register_header = codes "number" ∷ codes "context" ∷ codes "label" ∷ codes "status" ∷ codes "received" ∷ codes "ack_due" ∷ codes "acknowledged" ∷ codes "feedback_due" ∷ codes "expires" ∷ codes "identity" ∷ []
 
-abbrev pub register_line : Case → List (List ℕ)
+abbrev pub register_line : Case → Line
 register_line c =
     decimal c.number ∷
     decimal (context c.trail) ∷
@@ -35,14 +32,10 @@ register_line c =
     date_text (expires c.trail) ∷
     identity_field c ∷ []
 
--- a report stands in a user's register on a day of its tenant: it is live, and the user reads it
-abbrev pub is_registered : ℤ → ℕ → Case → Bool
-is_registered today user c = (not (length c.trail == 0) && int_lt today (expires c.trail)) && reads user c.trail
+-- the reports in a user's register at a time: those that are live and that the user reads, in the order in which they stand, which is that of their
+-- numbers where the tables are those of kept rows
+abbrev pub registered : Registry → ℕ → ℕ → List Case → List Case
+registered registry now user cases = readable user (filter (is_live registry.settings now) cases)
 
--- so does one of the reports of all tenants, which is this tenant's
-abbrev pub is_among : ℕ → ℤ → ℕ → CaseItem → Bool
-is_among t today user x = (x.tenant == t) && is_registered today user (case_of (case_report x))
-
--- the lines of a tenant's reports at a time, by number, since these stand so
 abbrev pub register_text : Registry → ℕ → ℕ → List Case → List ℕ
-register_text registry now user cases = csv_text (register_header ∷ map register_line (filter (is_registered (day_of now registry.settings.offset) user) cases))
+register_text registry now user cases = csv_text (register_header ∷ map register_line (registered registry now user cases))

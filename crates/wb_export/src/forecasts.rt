@@ -74,8 +74,8 @@ fn text_of(alloc: Global, rows: &[Expiring]) -> Result<Vec<u8>, Memory>
     Ok(end(lines)?)
 }
 
-/// The reports of a tenant that expire by a day, by expiry and number, with a header: `number,expires`. They are those that a host deletes of these
-/// tables in a turn on that day.
+/// The reports of a tenant that expire by a day, by expiry, and of one day in the order of the tables, with a header: `number,expires`. That they are
+/// what goes in a turn on that day is the law `a_forecast_is_what_goes`.
 pub fn forecast(alloc: Global, tables: &Tables, tenant: Tenant, day: Day) -> Result<Vec<u8>, Memory>
     ensures { IfOk result (λ text. (found : List Row) × IsForecast day (tables_of (held_by tables.now) tenant).plain.cases found × (text.items ≡ forecast_text found)) }
 {

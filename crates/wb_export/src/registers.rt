@@ -1,5 +1,5 @@
 //! A user's register.
-ghost use Rattle.std.specs.Prelude.{◌≡◌, ◌++◌, ◌∷◌, [], ℕ, List, if◌then◌else◌, codes, OnOk, IfOk};
+ghost use Rattle.std.specs.Prelude.{◌≡◌, ◌++◌, ◌∷◌, [], if◌then◌else◌, codes, OnOk, IfOk};
 ghost use Rattle.std.specs.Prelude.{Some, true, not, length, ◌==◌, ◌&&◌, int_lt};
 ghost use Rattle.std.specs.List.{list_all};
 ghost use Rattle.wb_model.specs.Openings.{registry_of};
@@ -8,8 +8,8 @@ ghost use Rattle.wb_model.specs.Trails.{expires, reads as reads_by};
 ghost use Rattle.wb_tenants.specs.Sets.{HasTenant};
 ghost use Rattle.wb_rows.specs.Held.{held_by};
 ghost use Rattle.wb_rows.specs.Openings.{tables_of};
-ghost use Rattle.wb_export.specs.Csv.{IsLine};
-ghost use Rattle.wb_export.specs.Registers.{day_field, is_among, register_line, register_text};
+ghost use Rattle.wb_export.specs.Csv.{IsLine, Line};
+ghost use Rattle.wb_export.specs.Registers.{day_field, register_line, register_text};
 
 use crate::lines::{add, add_day, add_number, begin, end, put};
 use csv::ByteRecord;
@@ -36,7 +36,7 @@ const HEADER: [&[u8]; 10] = [
 
 // Puts a day that may be missing at the end of a line.
 fn add_day_or_none(line: &mut ByteRecord, day: Option<Day>) -> Result<(), Memory>
-    ensures { OnOk result ((before : List (List ℕ)) → IsLine line.old before → IsLine line.new (before ++ day_field day ∷ [])) }
+    ensures { OnOk result ((before : Line) → IsLine line.old before → IsLine line.new (before ++ day_field day ∷ [])) }
 {
     match day {
         Some(day) => add_day(line, day),
@@ -86,13 +86,14 @@ fn reads(case: &Case, user: UserId) -> bool
 
 // Whether a report is a tenant's, live on its day, and read by a user.
 fn is_in(item: &CaseItem, tenant: Tenant, today: Day, user: UserId) -> bool
-    ensures { result ≡ is_among tenant today user item.now }
+    ensures { result ≡ ((item.now.tenant == tenant) && ((not (length item.now.case.items == 0) && int_lt today (expires item.now.case.items)) && reads_by user item.now.case.items)) }
 {
     item.tenant == tenant && lives(&item.case, today) && reads(&item.case, user)
 }
 
-/// The live reports of a tenant that a user reads, by number, a line a report, with a header: `number,context,label,status,received,ack_due,
-/// acknowledged,feedback_due,expires,identity`. Days are the tenant's. Of identity answers it tells whether there are any.
+/// The live reports of a tenant that a user reads, a line a report, in the order of the tables: by number, where they are those of kept rows. The
+/// header is `number,context,label,status,received,ack_due,acknowledged,feedback_due,expires,identity`. Days are the tenant's. Of identity answers
+/// it tells whether there are any.
 pub fn register(
     alloc: Global,
     tables: &Tables,

@@ -1,11 +1,14 @@
-use Rattle.std.proofs.Common.{◌≡◌, ◌++◌, ◌∷◌, [], Some, find, unwrap_or, rules, to_z, of_z, w32, refl, sym, ap, ◌∙◌}
+use Rattle.std.proofs.Common.{◌≡◌, ◌++◌, ◌∷◌, [], Some, map, find, unwrap_or, rules, to_z, of_z, w32, refl, sym, ap, ◌∙◌}
 use Rattle.wb_base.specs.Days.{IsOffset, day_of}
 use Rattle.wb_model.specs.declared.registry.TenantItem.{TenantItem}
 use Rattle.wb_model.specs.Openings.{no_settings, registry_of}
 use Rattle.wb_model.specs.SetUps.{is_tenant_item}
+use Rattle.wb_model.specs.Tables.{Case, is_live}
+use Rattle.wb_model.specs.Trails.{reads}
+use Rattle.wb_model.proofs.Found.{filter_both}
 use Rattle.wb_tenants.specs.Sets.{is_tenant}
 use Rattle.wb_row_rules.specs.Reports.{case_report}
-use Rattle.wb_rows.specs.Openings.{case_of}
+use Rattle.wb_rows.specs.Openings.{case_of, cases_of}
 use Rattle.wb_export.specs.Csv.{csv_text}
 use Rattle.wb_export.specs.Registers.{register_header, register_line}
 use Rattle.wb_export.proofs.Entries.{all_done, lines_of, with_line, without_line}
@@ -52,4 +55,5 @@ returns c =
     let today : c.day_of-today.result ≡ day_of c.args.now (registry_of lists t).settings.offset = c.day_of-today.ensures.day ∙ (ap (day_of c.args.now) offset ∙ ap (λ (x : TenantItem). day_of c.args.now x.offset) (sym settings)) in
     let over = rw c.as_slice-item-items.ensures at c.loop-item-test.false in
     let all = all_done t c.day_of-today.result c.args.user inv.0 c.args.tables.now.cases c.loop-item.item-index over inv.2 in
-    c.in_ok-end.ensures _ inv.1 ∙ (ap (λ ls. csv_text (register_header ∷ ls)) all ∙ ap (λ d. csv_text (register_header ∷ lines_of t d c.args.user c.args.tables.now.cases)) today)
+    c.in_ok-end.ensures _ inv.1 ∙ (ap (λ ls. csv_text (register_header ∷ ls)) all ∙ (ap (λ d. csv_text (register_header ∷ lines_of t d c.args.user c.args.tables.now.cases)) today
+    ∙ ap (λ cs. csv_text (register_header ∷ map register_line cs)) (sym (filter_both (is_live (registry_of lists t).settings c.args.now) (λ (x : Case). reads c.args.user x.trail) (cases_of (map case_report c.args.tables.now.cases) t)))))
