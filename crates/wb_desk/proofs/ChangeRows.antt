@@ -24,9 +24,9 @@ use Rattle.wb_model.proofs.Found.{Held}
 use Rattle.wb_model.proofs.KindRows.{texts, opened_puts}
 use Rattle.wb_model.proofs.PastLaw.{there_before}
 use Rattle.wb_model.proofs.TurnRows.{opened_rows}
-use Rattle.wb_plan.specs.declared.plan.Planned.{Planned}
-use Rattle.wb_plan.specs.declared.plan.Planned.TheVariants as planned
-use Rattle.wb_plan.specs.Plans.{IsFit, IsRoomy, begins, change_of, given_of}
+use Rattle.wb_commands.specs.declared.plan.Mutation.{Mutation}
+use Rattle.wb_commands.specs.declared.plan.Mutation.TheVariants as planned
+use Rattle.wb_commands.specs.Plans.{IsFit, IsRoomy, begins, change_of, given_of}
 use Rattle.wb_rows.specs.Puts.{sealed_put, setting_row, IsVersion}
 use Rattle.wb_rows.proofs.ConfiguredRows.{configured_rows}
 use Rattle.wb_rows.proofs.NotedRows.{noted_rows}
@@ -44,7 +44,7 @@ use Rattle.wb_desk.proofs.Rooms.{live_report}
 -- ---- what is asked of a change
 
 -- an entry comes to a report that is there, and a setting has its row and a version that may be
-abbrev pub IsPuttable : PlainTenancy → Planned → Type 0
+abbrev pub IsPuttable : PlainTenancy → Mutation → Type 0
 IsPuttable x (planned.Notes n) = is_there n.number x.plain.cases ≡ true
 IsPuttable x (planned.Configures c) = (c.row ≡ setting_row x.id x.plain.registry (setting_of x.id x.plain.registry c.proposal)) × IsVersion (setting_of x.id x.plain.registry c.proposal)
 IsPuttable x _ = Unit {0}
@@ -69,7 +69,7 @@ version_is t g (proposals.ToUser u next) e = tt
 version_is t g (proposals.ToContext c next) e = tt
 version_is t g (proposals.ToForm f form) e = few_versions _ (next_version f g.forms) e
 
-pub puttable : (time spare : ℕ) (x : KeptTenancy) (c : Planned) → IsRoomy time x spare c → IsPuttable (place_of x) c
+pub puttable : (time spare : ℕ) (x : KeptTenancy) (c : Mutation) → IsRoomy time x spare c → IsPuttable (place_of x) c
 puttable time spare x (planned.Notes n) h = there_before (is_live x.configuration.registry.settings time) n.number (place_of x).plain.cases h.fit
 puttable time spare x (planned.Configures c) h = (
   h.fit ∙ setting_is x.configuration.tenant x.configuration.registry c.proposal,
@@ -79,7 +79,7 @@ puttable time spare x _ h = tt
 
 -- ---- the rows over the tables before and after a purge
 
-pub live_puts : (now time : ℕ) (x : PlainTenancy) (c : Planned) → Apart has_number x.plain.cases → IsPuttable (live_place time x) c → puts_of now (live_place time x) c ≡ puts_of now x c
+pub live_puts : (now time : ℕ) (x : PlainTenancy) (c : Mutation) → Apart has_number x.plain.cases → IsPuttable (live_place time x) c → puts_of now (live_place time x) c ≡ puts_of now x c
 live_puts now time x (planned.Begins o) apart h = by o.case.items
   where
     by : (trail : List Entry) → first_puts now (live_place time x) trail o.secret ≡ first_puts now x trail o.secret
@@ -107,7 +107,7 @@ kinds_same (f ∷ fs) before after y z same = λ i. of_same f before after y z s
 abbrev pub as_place : Tenancy → PlainTenancy
 as_place y = record { id = y.id; plain = y.tables.plain }
 
-abbrev pub made_one : ℕ → Planned → Tenancy → Tenancy
+abbrev pub made_one : ℕ → Mutation → Tenancy → Tenancy
 made_one now c y = record { id = y.id; tables = changed now (change_of y.id y.tables.plain.registry c) (given_of c) y.tables }
 
 -- what holds of the tables of a tenant whose rows are changed
@@ -117,7 +117,7 @@ pub record IsRowed (y : Tenancy) : Type 0 where
   pub ascend : Ascend 0 y.tables.plain.cases
   pub versions : AreVersions y.tables.plain.registry.forms
 
-pub change_rows : (before after : List Tenancy) (y : Tenancy) → ((x : Tenancy) → Held x before → x.id < y.id) → ((x : Tenancy) → Held x after → y.id < x.id) → IsRowed y → (now : ℕ) (c : Planned) → IsPuttable (as_place y) c
+pub change_rows : (before after : List Tenancy) (y : Tenancy) → ((x : Tenancy) → Held x before → x.id < y.id) → ((x : Tenancy) → Held x after → y.id < x.id) → IsRowed y → (now : ℕ) (c : Mutation) → IsPuttable (as_place y) c
     → all_changed (rows_of (before ++ (y ∷ after))) (puts_of now (as_place y) c) ≡ rows_of (before ++ (made_one now c y ∷ after))
 change_rows before after y below above is now (planned.Begins o) h = by o.case.items
   where
@@ -151,7 +151,7 @@ good_row t g (proposals.ToUser u next) = (omega arith, λ e. absurd (omega (arit
 good_row t g (proposals.ToContext c next) = (omega arith, λ e. absurd (omega (arith, e)))
 good_row t g (proposals.ToForm f form) = (omega arith, λ e. absurd (omega (arith, e)))
 
-pub good_puts : (now : ℕ) (x : KeptTenancy) (c : Planned) → IsFit now x c → All IsGoodChange (puts_of now (place_of x) c)
+pub good_puts : (now : ℕ) (x : KeptTenancy) (c : Mutation) → IsFit now x c → All IsGoodChange (puts_of now (place_of x) c)
 good_puts now x (planned.Begins o) fit = by o.case.items
   where
     next : ℕ

@@ -24,10 +24,10 @@ use Rattle.wb_tables.specs.Kept.{tenancy_of}
 use Rattle.wb_tables.specs.Standing.{hosts_of}
 use Rattle.wb_setup.specs.Joined.{joined}
 use Rattle.wb_desk.specs.Desks.{IsDesk}
-use Rattle.wb_opening.specs.HeldPlaces.{held_places}
+use Rattle.wb_recovery.specs.HeldPlaces.{held_places}
 use Rattle.wb_desk.specs.Openings.{IsOpenedOver}
 use Rattle.wb_desk.specs.Turns.{StandsFor, standing}
-use Rattle.wb_opening.proofs.OpenedPlaces.{held_right, no_sessions}
+use Rattle.wb_recovery.proofs.OpenedPlaces.{held_right, no_sessions}
 
 -- what is known of tables that were read
 pub record AreRead (h : Held) : Type 0 where

@@ -8,7 +8,7 @@ use Rattle.wb_model.specs.declared.command.Asked.{Asked}
 use Rattle.wb_model.specs.declared.command.Command.{Command}
 use Rattle.wb_model.specs.declared.command.Command.TheVariants as commands
 use Rattle.wb_model.specs.declared.entry.Entry.{Entry}
-use Rattle.wb_model.specs.Changes.{At, Nothing}
+use Rattle.wb_model.specs.Changes.{TurnContext, Nothing}
 use Rattle.wb_model.specs.Host.{Tables, purged, change_of as verdict_change, ruling, ruling_at}
 use Rattle.wb_model.specs.Past.{Past}
 use Rattle.wb_model.specs.Pasts.{AllOpened, standing_hosts, what_in}
@@ -20,19 +20,19 @@ use Rattle.wb_model.specs.Targets.{target}
 use Rattle.wb_model.specs.declared.body.Told.{Told}
 use Rattle.wb_model.specs.Tenants.{Tenancy, Hosts, tenant_at, one, hosts_after}
 use Rattle.wb_model.proofs.Keeping.{keeps_in}
-use Rattle.wb_looks.specs.declared.turn.At.{At as KeptAt}
-use Rattle.wb_plan.specs.declared.plan.Plan.{Plan}
-use Rattle.wb_plan.specs.declared.plan.Planned.{Planned}
-use Rattle.wb_plan.specs.declared.plan.Planned.TheVariants as planned
-use Rattle.wb_looks.specs.Looks.{at_of}
-use Rattle.wb_plan.specs.Plans.{Plans, begins, change_of}
+use Rattle.wb_queries.specs.declared.turn.TurnContext.{TurnContext as KeptAt}
+use Rattle.wb_commands.specs.declared.plan.TurnPlan.{TurnPlan}
+use Rattle.wb_commands.specs.declared.plan.Mutation.{Mutation}
+use Rattle.wb_commands.specs.declared.plan.Mutation.TheVariants as planned
+use Rattle.wb_queries.specs.Looks.{at_of}
+use Rattle.wb_commands.specs.Plans.{Plans, begins, change_of}
 use Rattle.wb_tables.specs.Dead.{any_dead}
 use Rattle.wb_tables.specs.Kept.{PlainTenancy, place_of, tables_of, tenancy_of, sessions_at}
 use Rattle.wb_tables.specs.Places.{ArePlaces, IsAt}
 use Rattle.wb_tables.specs.Standing.{hosts_of}
 use Rattle.wb_tables.specs.declared.tenancy.Tenancy.{Tenancy as KeptTenancy}
 use Rattle.wb_desk.specs.Puts.{first_puts, puts_of, IsBatch}
-use Rattle.wb_opening.specs.SetUp.{AreSetUpRight}
+use Rattle.wb_recovery.specs.SetUp.{AreSetUpRight}
 use Rattle.wb_desk.specs.Turns.{HasToKeep, KeepsAt, IsLeft, IsTurn, IsTurnAt, IsFrameAt, standing}
 use Rattle.wb_desk.specs.declared.batch.Lost.{Lost}
 use Rattle.wb_desk.specs.declared.batch.Lost.TheVariants as lost
@@ -68,10 +68,10 @@ keeps_without xs items at asked batch b some = keeps_by xs items at asked [] ref
 ruled : (turns now : ℕ) (f : Frame) (at : KeptAt) (asked : Asked) (t : Tables) → IsFrameAt turns now f at asked → ruling_at (one turns now t) f ≡ ruling (purged at.time t) (at_of at) asked
 ruled turns now f at asked t p =
     ap (λ m. ruling (purged m t) (at_turn turns now f) f.asked) p.time
-    ∙ (ap (λ (a : At). ruling (purged at.time t) a f.asked) (at_frame_is turns now f at asked p) ∙ ap (λ (a : Asked). ruling (purged at.time t) (at_of at) a) p.asked_of)
+    ∙ (ap (λ (a : TurnContext). ruling (purged at.time t) a f.asked) (at_frame_is turns now f at asked p) ∙ ap (λ (a : Asked). ruling (purged at.time t) (at_of at) a) p.asked_of)
 
 -- a change whose rows are put is kept
-kept_puts : (now t : ℕ) (g : Registry) (x : PlainTenancy) (c : Planned) → puts_of now x c ≢ [] → IsKept (change_of t g c)
+kept_puts : (now t : ℕ) (g : Registry) (x : PlainTenancy) (c : Mutation) → puts_of now x c ≢ [] → IsKept (change_of t g c)
 kept_puts now t g x (planned.Begins o) put = by o.case.items put
   where
     by : (trail : List Entry) → first_puts now x trail o.secret ≢ [] → IsKept (begins trail)
@@ -99,7 +99,7 @@ kept_keeps f at asked turns now t p kept = (
     by false e = refl
 
 -- a change is something to keep
-change_keeps : (upto t i : ℕ) (at : KeptAt) (asked : Asked) (items : List SealedItem) (ks : List KeptTenancy) (d : KeptTenancy) (plan : Plan) → ArePlaces upto 0 items (map place_of ks) → IsAt t ks i → t ≡ tenant_of asked.command
+change_keeps : (upto t i : ℕ) (at : KeptAt) (asked : Asked) (items : List SealedItem) (ks : List KeptTenancy) (d : KeptTenancy) (plan : TurnPlan) → ArePlaces upto 0 items (map place_of ks) → IsAt t ks i → t ≡ tenant_of asked.command
     → Plans (get_or ks i d).configuration.tenant (purged at.time (tables_of items (place_of (get_or ks i d)))) (at_of at) asked plan → puts_of at.time (place_of (get_or ks i d)) plan.change ≢ [] → KeepsAt (map place_of ks) items at asked
 change_keeps upto t i at asked items ks d plan all is named h put = λ turns now f p.
     let x = get_or ks i d in
@@ -111,7 +111,7 @@ change_keeps upto t i at asked items ks d plan all is named h put = λ turns now
       other = kept.1;
     })
 
-pub keeps_at : (upto t i : ℕ) (at : KeptAt) (asked : Asked) (items : List SealedItem) (ks : List KeptTenancy) (d : KeptTenancy) (plan : Plan) (batch : List RowChange) → ArePlaces upto 0 items (map place_of ks) → IsAt t ks i → t ≡ tenant_of asked.command
+pub keeps_at : (upto t i : ℕ) (at : KeptAt) (asked : Asked) (items : List SealedItem) (ks : List KeptTenancy) (d : KeptTenancy) (plan : TurnPlan) (batch : List RowChange) → ArePlaces upto 0 items (map place_of ks) → IsAt t ks i → t ≡ tenant_of asked.command
     → Plans (get_or ks i d).configuration.tenant (purged at.time (tables_of items (place_of (get_or ks i d)))) (at_of at) asked plan → IsBatch at.time (map place_of ks) (puts_of at.time (place_of (get_or ks i d)) plan.change) batch → batch ≢ [] → KeepsAt (map place_of ks) items at asked
 keeps_at upto t i at asked items ks d plan batch all is named h b some = by (batch_some at.time (map place_of ks) (puts_of at.time (place_of (get_or ks i d)) plan.change) batch b some)
   where

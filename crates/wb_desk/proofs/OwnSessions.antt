@@ -14,7 +14,7 @@ use Rattle.wb_model.specs.declared.command.Command.TheVariants as commands
 use Rattle.wb_model.specs.declared.entry.Entry.{Entry}
 use Rattle.wb_model.specs.declared.registry.UserItem.{UserItem}
 use Rattle.wb_model.specs.Commands.{Any_session}
-use Rattle.wb_model.specs.Changes.{At, Change, LogsOut, Answer, judged}
+use Rattle.wb_model.specs.Changes.{TurnContext, Change, LogsOut, Answer, judged}
 use Rattle.wb_model.specs.Effects.{Effect, Misses, Looks, Reads, Writes, Submits, Comes, Goes, Sets, caller, effect_of, Erases}
 use Rattle.wb_model.specs.Host.{live_cases, purged, change_of}
 use Rattle.wb_model.specs.Opened.{Apart, has_turn}
@@ -28,12 +28,12 @@ use Rattle.wb_model.proofs.Effects.{comes_is, in_open_is, identity_is, share_is,
 use Rattle.wb_model.proofs.Found.{find_true}
 use Rattle.wb_model.proofs.Leaving.{apart_filter}
 use Rattle.wb_model.proofs.Receipts.{HasOwn, verdict_own as receipt_own}
-use Rattle.wb_looks.specs.declared.turn.At.{At as KeptAt}
-use Rattle.wb_plan.specs.declared.plan.Plan.{Plan}
-use Rattle.wb_plan.specs.declared.plan.Planned.{Planned}
-use Rattle.wb_plan.specs.declared.plan.Planned.TheVariants as planned
-use Rattle.wb_looks.specs.Looks.{at_of}
-use Rattle.wb_plan.specs.Plans.{IsFit, Plans, begins, change_of as planned_change_of}
+use Rattle.wb_queries.specs.declared.turn.TurnContext.{TurnContext as KeptAt}
+use Rattle.wb_commands.specs.declared.plan.TurnPlan.{TurnPlan}
+use Rattle.wb_commands.specs.declared.plan.Mutation.{Mutation}
+use Rattle.wb_commands.specs.declared.plan.Mutation.TheVariants as planned
+use Rattle.wb_queries.specs.Looks.{at_of}
+use Rattle.wb_commands.specs.Plans.{IsFit, Plans, begins, change_of as planned_change_of}
 use Rattle.wb_tables.specs.Kept.{PlainTenancy, place_of, plain_of, tables_of, live_place, live_plain}
 use Rattle.wb_tables.specs.Logins.{who_seen}
 use Rattle.wb_tables.specs.Places.{ArePlaces}
@@ -106,7 +106,7 @@ abbrev Leaves : Presented → Command → Effect → Type 0
 Leaves s d (Goes turn) = (t : ℕ) × (secret : List ℕ) × (d ≡ commands.Logout t) × (s ≡ presented.Token turn secret)
 Leaves s d e = Unit {0}
 
-leaves : (at : At) (g : Registry) (who : Option Who) (s : Presented) (trail : List Entry) (d : Command) → Leaves s d (effect_of at g who s trail d)
+leaves : (at : TurnContext) (g : Registry) (who : Option Who) (s : Presented) (trail : List Entry) (d : Command) → Leaves s d (effect_of at g who s trail d)
 leaves at g who (presented.Token turn secret) trail (commands.Logout t) = (t, secret, refl, refl)
 leaves at g who presented.None trail (commands.Logout t) = tt
 leaves at g who presented.Bad trail (commands.Logout t) = tt
@@ -127,7 +127,7 @@ judged_leaves (Some x) ch a turn who e = absurd (grind (arith, e))
 moved : (k turn : ℕ) (v who : Who) (ss : List Session) → LogsOut k v ≡ LogsOut turn who → AreBy k v ss → AreBy turn who ss
 moved k turn v who ss e all = let turns : k ≡ turn = cc in let callers : v ≡ who = cc in subst (λ n. AreBy n who ss) turns (subst (λ w. AreBy k w ss) callers all)
 
-alone_own : (at : At) (g : Registry) (v : Option Who) (o : Outcome) (s : Presented) (d : Command) (turn : ℕ) (who : Who) (ss : List Session) (e : Effect) → ((k t : ℕ) (secret : List ℕ) → d ≡ commands.Logout t → s ≡ presented.Token k secret → AreBy k (TheUser (caller v)) ss)
+alone_own : (at : TurnContext) (g : Registry) (v : Option Who) (o : Outcome) (s : Presented) (d : Command) (turn : ℕ) (who : Who) (ss : List Session) (e : Effect) → ((k t : ℕ) (secret : List ℕ) → d ≡ commands.Logout t → s ≡ presented.Token k secret → AreBy k (TheUser (caller v)) ss)
     → Leaves s d e → change_alone at g v o e ≡ LogsOut turn who → AreBy turn who ss
 alone_own at g v o s d turn who ss (Goes k) own is e = moved k turn (TheUser (caller v)) who ss e (own k is.0 is.1 is.2 is.3)
 alone_own at g v o s d turn who ss (Sets t proposal) own is e = absurd (set_is (λ ch. ch ≡ LogsOut turn who → ⊥) (setting_of t g proposal) (λ z. grind (arith, z)) (λ x k z. grind (arith, z)) e)
@@ -139,7 +139,7 @@ alone_own at g v o s d turn who ss (Submits c form) own is e = absurd (grind (ar
 alone_own at g v o s d turn who ss (Comes role) own is e = absurd (grind (arith, e))
 alone_own at g v o s d turn who ss Erases own is e = absurd (grind (arith, e))
 
-on_own : (at : At) (g : Registry) (v : Who) (n : ℕ) (trail : List Entry) (s : Presented) (d : Command) (turn : ℕ) (who : Who) (ss : List Session) (e : Effect) → ((k t : ℕ) (secret : List ℕ) → d ≡ commands.Logout t → s ≡ presented.Token k secret → AreBy k (TheReporter n) ss)
+on_own : (at : TurnContext) (g : Registry) (v : Who) (n : ℕ) (trail : List Entry) (s : Presented) (d : Command) (turn : ℕ) (who : Who) (ss : List Session) (e : Effect) → ((k t : ℕ) (secret : List ℕ) → d ≡ commands.Logout t → s ≡ presented.Token k secret → AreBy k (TheReporter n) ss)
     → Leaves s d e → change_on at g v n trail e ≡ LogsOut turn who → AreBy turn who ss
 on_own at g v n trail s d turn who ss (Goes k) own is e = moved k turn (TheReporter n) who ss e (own k is.0 is.1 is.2 is.3)
 on_own at g v n trail s d turn who ss Misses own is e = absurd (grind (arith, e))
@@ -151,33 +151,33 @@ on_own at g v n trail s d turn who ss (Comes role) own is e = absurd (grind (ari
 on_own at g v n trail s d turn who ss Erases own is e = absurd (grind (arith, e))
 on_own at g v n trail s d turn who ss (Sets t proposal) own is e = absurd (grind (arith, e))
 
-verdict_own : (p : Plain) (at : At) (q : Request) (t : Target) (turn : ℕ) (who : Who) → ((k t' : ℕ) (secret : List ℕ) → q.command ≡ commands.Logout t' → q.session ≡ presented.Token k secret → OwnTarget k p.sessions t)
+verdict_own : (p : Plain) (at : TurnContext) (q : Request) (t : Target) (turn : ℕ) (who : Who) → ((k t' : ℕ) (secret : List ℕ) → q.command ≡ commands.Logout t' → q.session ≡ presented.Token k secret → OwnTarget k p.sessions t)
     → change_of (verdict_on p at q t) ≡ LogsOut turn who → AreBy turn who p.sessions
 verdict_own p at q (Nobody x) turn who own e = absurd (grind (arith, e))
 verdict_own p at q (Alone v) turn who own e = alone_own at p.registry v q.outcome q.session q.command turn who p.sessions (effect_at p at q v []) own (leaves at p.registry v q.session [] q.command) (judged_leaves _ _ _ turn who e)
 verdict_own p at q (On v c) turn who own e = on_own at p.registry v c.number c.trail q.session q.command turn who p.sessions (effect_at p at q (Some v) c.trail) own (leaves at p.registry (Some v) q.session c.trail q.command) (judged_leaves _ _ _ turn who e)
 
 -- where no two sessions are of one turn, a logout ends a session of its caller
-pub own_logout : (p : Plain) (at : At) (q : Request) (turn : ℕ) (who : Who) → Apart has_turn p.sessions → change_of (verdict_on p at q (target p q.session q.command)) ≡ LogsOut turn who → AreBy turn who p.sessions
+pub own_logout : (p : Plain) (at : TurnContext) (q : Request) (turn : ℕ) (who : Who) → Apart has_turn p.sessions → change_of (verdict_on p at q (target p q.session q.command)) ≡ LogsOut turn who → AreBy turn who p.sessions
 own_logout p at q turn who apart e = verdict_own p at q (target p q.session q.command) turn who
     (λ k t secret d s. subst (λ x. OwnTarget k p.sessions (target p x q.command)) (sym s) (subst (λ x. OwnTarget k p.sessions (target p (presented.Token k secret) x)) (sym d) (target_own p k secret apart))) e
 
 -- ---- a report that begins
 
-own_begun : (p : Plain) (at : At) (q : Request) (trail : List Entry) (e : Entry) → trail ≡ e ∷ [] → change_of (verdict p at q) ≡ begins trail → HasOwnReceipt trail p.cases
+own_begun : (p : Plain) (at : TurnContext) (q : Request) (trail : List Entry) (e : Entry) → trail ≡ e ∷ [] → change_of (verdict p at q) ≡ begins trail → HasOwnReceipt trail p.cases
 own_begun p at q trail e one is =
     let own = subst (HasOwn p) (is ∙ ap begins one) (receipt_own p at q (target p q.session q.command)) in
     subst (λ es. HasOwnReceipt es p.cases) (sym one) (λ d has. own d 0 has)
 
 -- ---- what is planned
 
-planned_own : (p : Plain) (at : At) (q : Request) (t : ℕ) (g : Registry) (time : ℕ) (x : KeptTenancy) (c : Planned) → Apart has_turn p.sessions → IsFit time x c → change_of (verdict p at q) ≡ planned_change_of t g c → IsOwn p c
+planned_own : (p : Plain) (at : TurnContext) (q : Request) (t : ℕ) (g : Registry) (time : ℕ) (x : KeptTenancy) (c : Mutation) → Apart has_turn p.sessions → IsFit time x c → change_of (verdict p at q) ≡ planned_change_of t g c → IsOwn p c
 planned_own p at q t g time x (planned.LogsOut turn who) apart fit e = own_logout p at q turn (who_seen who) apart e
 planned_own p at q t g time x (planned.Begins o) apart fit e = own_begun p at q o.case.items fit.1.0 fit.1.1 e
 planned_own p at q t g time x _ apart fit e = tt
 
 -- over the tables of a tenant at a place, once they are purged
-pub own_at : (turns i : ℕ) (at : KeptAt) (asked : Asked) (plan : Plan) (items : List SealedItem) (ks ls : List KeptTenancy) (d y : KeptTenancy) → ArePlaces turns 0 items (map place_of ks) → map place_of ls ≡ map (live_place at.time) (map place_of ks) → i < length ks → IsFit at.time y plan.change
+pub own_at : (turns i : ℕ) (at : KeptAt) (asked : Asked) (plan : TurnPlan) (items : List SealedItem) (ks ls : List KeptTenancy) (d y : KeptTenancy) → ArePlaces turns 0 items (map place_of ks) → map place_of ls ≡ map (live_place at.time) (map place_of ks) → i < length ks → IsFit at.time y plan.change
     → Plans (get_or ks i d).configuration.tenant (purged at.time (tables_of items (place_of (get_or ks i d)))) (at_of at) asked plan → IsOwn (plain_of (get_or ls i d)) plan.change
 own_at turns i at asked plan items ks ls d y all e lt fit h =
     let x = get_or ks i d in

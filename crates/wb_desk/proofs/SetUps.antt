@@ -11,9 +11,9 @@ use Rattle.wb_model.specs.declared.registry.FormItem.{FormItem}
 use Rattle.wb_model.specs.Host.{registry_after}
 use Rattle.wb_model.specs.Settings.{configured, form_key, form_item}
 use Rattle.wb_model.specs.Tables.{Registry}
-use Rattle.wb_plan.specs.declared.plan.Planned.{Planned}
-use Rattle.wb_plan.specs.declared.plan.Planned.TheVariants as planned
-use Rattle.wb_plan.specs.Plans.{IsRoomy, begins}
+use Rattle.wb_commands.specs.declared.plan.Mutation.{Mutation}
+use Rattle.wb_commands.specs.declared.plan.Mutation.TheVariants as planned
+use Rattle.wb_commands.specs.Plans.{IsRoomy, begins}
 use Rattle.wb_tables.specs.Configured.{IsSound, setting_of}
 use Rattle.wb_tables.specs.Kept.{PlainTenancy, place_of, live_place}
 use Rattle.wb_tables.specs.Places.{AreGoodForms}
@@ -21,7 +21,7 @@ use Rattle.wb_tables.specs.declared.proposal.Proposal.{Proposal}
 use Rattle.wb_tables.specs.declared.proposal.Proposal.TheVariants as proposals
 use Rattle.wb_tables.specs.declared.tenancy.Tenancy.{Tenancy as KeptTenancy}
 use Rattle.wb_desk.specs.Ready.{planned_change}
-use Rattle.wb_opening.specs.SetUp.{IsSetUpRight, AreSetUpRight}
+use Rattle.wb_recovery.specs.SetUp.{IsSetUpRight, AreSetUpRight}
 
 -- what changes neither the id nor the registry
 pub right_same : (x y : PlainTenancy) → y.id ≡ x.id → y.plain.registry ≡ x.plain.registry → IsSetUpRight x → IsSetUpRight y
@@ -51,7 +51,7 @@ right_set t x y next sound id registry right = right_same (record { id = x.id; p
     by (proposals.ToForm f form) sound = record { id = right.id; offset = right.offset; forms = good_put x.plain.registry.forms (form_item t f x.plain.registry.forms form) right.forms sound }
 
 -- a planned change
-pub right_planned : (time spare : ℕ) (x : KeptTenancy) (y : PlainTenancy) (c : Planned) → IsRoomy time x spare c → y.id ≡ x.configuration.tenant → y.plain.registry ≡ registry_after (planned_change x c) x.configuration.registry → IsSetUpRight (place_of x) → IsSetUpRight y
+pub right_planned : (time spare : ℕ) (x : KeptTenancy) (y : PlainTenancy) (c : Mutation) → IsRoomy time x spare c → y.id ≡ x.configuration.tenant → y.plain.registry ≡ registry_after (planned_change x c) x.configuration.registry → IsSetUpRight (place_of x) → IsSetUpRight y
 right_planned time spare x y (planned.Begins o) h id registry right = right_same (place_of x) y id (registry ∙ by o.case.items) right
   where
     by : (es : List Entry) → registry_after (begins es) x.configuration.registry ≡ x.configuration.registry

@@ -35,7 +35,7 @@ use Rattle.wb_tables.proofs.HeldSessions.{either, there_held, moments_held}
 use Rattle.wb_tables.proofs.Indexes.{some_none}
 use Rattle.wb_tables.proofs.Lookups.{there-found}
 use Rattle.wb_desk.specs.Desks.{HasPast}
-use Rattle.wb_opening.specs.SetUp.{IsSetUpRight, AreSetUpRight}
+use Rattle.wb_recovery.specs.SetUp.{IsSetUpRight, AreSetUpRight}
 
 -- ---- sessions
 

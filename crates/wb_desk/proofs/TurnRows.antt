@@ -12,8 +12,8 @@ use Rattle.wb_model.specs.Tables.{Case, has_number, is_there}
 use Rattle.wb_model.specs.Tenants.{Tenancy}
 use Rattle.wb_model.proofs.Found.{Held}
 use Rattle.wb_model.proofs.TurnRows.{changed_append}
-use Rattle.wb_plan.specs.declared.plan.Planned.{Planned}
-use Rattle.wb_plan.specs.Plans.{IsFit}
+use Rattle.wb_commands.specs.declared.plan.Mutation.{Mutation}
+use Rattle.wb_commands.specs.Plans.{IsFit}
 use Rattle.wb_tables.specs.Dead.{any_dead}
 use Rattle.wb_tables.specs.Kept.{PlainTenancy, place_of, tables_of, tenancy_of, purged_tenancy}
 use Rattle.wb_tables.specs.Places.{IsPlace, ArePlaces}
@@ -94,7 +94,7 @@ same_at i (x ∷ ks) [] d e = absurd cc
 same_at zero (x ∷ ks) (y ∷ ls) d e = cc
 same_at (suc i) (x ∷ ks) (y ∷ ls) d e = let rest : map place_of ls ≡ map place_of ks = cc in same_at i ks ls d rest
 
-pub batch_same : (now i : ℕ) (ks ls : List KeptTenancy) (d : KeptTenancy) (c : Planned) (batch : List RowChange) → map place_of ls ≡ map place_of ks → IsBatch now (map place_of ls) (puts_of now (place_of (get_or ls i d)) c) batch
+pub batch_same : (now i : ℕ) (ks ls : List KeptTenancy) (d : KeptTenancy) (c : Mutation) (batch : List RowChange) → map place_of ls ≡ map place_of ks → IsBatch now (map place_of ls) (puts_of now (place_of (get_or ls i d)) c) batch
     → IsBatch now (map place_of ks) (puts_of now (place_of (get_or ks i d)) c) batch
 batch_same now i ks ls d c batch e b =
     subst (λ x. IsBatch now (map place_of ks) (puts_of now x c) batch) (same_at i ks ls d e) (subst (λ xs. IsBatch now xs (puts_of now (place_of (get_or ls i d)) c) batch) e b)
@@ -114,7 +114,7 @@ pub rows_without : (now : ℕ) (items new : List SealedItem) (xs ys : List Plain
 rows_without now items new xs ys batch b purge = purge_then now items new xs ys [] batch b purge
 
 -- and where the tenant at a place makes a change
-pub rows_at : (turns now i : ℕ) (items mid new : List SealedItem) (ks ls ms : List KeptTenancy) (c : Planned) (batch : List RowChange) → ArePlaces turns 0 items (map place_of ks) → i < length ks
+pub rows_at : (turns now i : ℕ) (items mid new : List SealedItem) (ks ls ms : List KeptTenancy) (c : Mutation) (batch : List RowChange) → ArePlaces turns 0 items (map place_of ks) → i < length ks
     → ((d : KeptTenancy) → IsBatch now (map place_of ks) (puts_of now (place_of (get_or ks i d)) c) batch) → IsPurge now (map place_of ks) items (map place_of ls) mid → ((d : KeptTenancy) → IsPuttable (place_of (get_or ls i d)) c) → IsMadeAt i now c mid new ls ms
     → all_changed (rows_of (map (tenancy_of items) (map place_of ks))) batch ≡ rows_of (map (tenancy_of new) (map place_of ms))
 rows_at turns now i items mid new ks ls ms c batch all lt b purge puttable_at made =
@@ -151,7 +151,7 @@ same_index i [] d e lt = absurd (omega arith)
 same_index zero (x ∷ ks) d e lt = refl
 same_index (suc i) (x ∷ ks) d e lt = same_index i ks d e (omega arith)
 
-pub batch_made : (now i : ℕ) (ks : List KeptTenancy) (x d : KeptTenancy) (c : Planned) (drops batch : List RowChange) → i < length ks → x ≡ get_or ks i x → IsFit now (get_or ks i d) c
+pub batch_made : (now i : ℕ) (ks : List KeptTenancy) (x d : KeptTenancy) (c : Mutation) (drops batch : List RowChange) → i < length ks → x ≡ get_or ks i x → IsFit now (get_or ks i d) c
     → ((items : List SealedItem) → all_changed (rows_of (map (tenancy_of items) (map place_of ks))) drops ≡ rows_of (map (purged_tenancy now) (map (tenancy_of items) (map place_of ks))))
     → All IsGoodChange drops → (any_dead now (map place_of ks) ≡ false → drops ≡ []) → batch ≡ drops ++ puts_of now (place_of x) c → IsBatch now (map place_of ks) (puts_of now (place_of (get_or ks i d)) c) batch
 batch_made now i ks x d c drops batch lt is fit rows good none e = record {

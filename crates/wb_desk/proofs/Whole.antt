@@ -8,14 +8,14 @@ use Rattle.wb_model.specs.declared.body.Told.{Told}
 use Rattle.wb_model.specs.Commands.{tenant_of}
 use Rattle.wb_model.specs.Tenants.{Tenancy, without_tenant}
 use Rattle.wb_model.specs.Host.{purged, tables_after}
-use Rattle.wb_looks.specs.declared.turn.At.{At as KeptAt}
-use Rattle.wb_plan.specs.declared.plan.Plan.{Plan}
+use Rattle.wb_queries.specs.declared.turn.TurnContext.{TurnContext as KeptAt}
+use Rattle.wb_commands.specs.declared.plan.TurnPlan.{TurnPlan}
 use Rattle.wb_tables.specs.declared.tenancy.Tenancy.{Tenancy as KeptTenancy}
-use Rattle.wb_looks.specs.Looks.{at_of}
-use Rattle.wb_plan.specs.Plans.{Plans}
+use Rattle.wb_queries.specs.Looks.{at_of}
+use Rattle.wb_commands.specs.Plans.{Plans}
 use Rattle.wb_tables.specs.Places.{ArePlaces, IsAt, is_tenant}
 use Rattle.wb_desk.specs.Ready.{IsMadeAt}
-use Rattle.wb_opening.specs.SetUp.{AreSetUpRight}
+use Rattle.wb_recovery.specs.SetUp.{AreSetUpRight}
 use Rattle.wb_tables.specs.Kept.{PlainTenancy, place_of, tables_of, tenancy_of, live_place, purged_tenancy, sessions_at}
 use Rattle.wb_desk.specs.Turns.{IsTurnOver}
 use Rattle.wb_tables.proofs.Purges.{purged_places}
@@ -76,7 +76,7 @@ live_tables time (suc i) items mid (x ∷ ks) (y ∷ ls) d e lt =
     live_tables time i items mid ks ls d rest (omega arith)
 
 -- the turn of the tenant at a place
-pub turn_over : (upto t i : ℕ) (at : KeptAt) (asked : Asked) (plan : Plan) (items mid new : List SealedItem) (ks ls ms : List KeptTenancy) → ArePlaces upto 0 items (map place_of ks) → IsAt t ks i → t ≡ tenant_of asked.command
+pub turn_over : (upto t i : ℕ) (at : KeptAt) (asked : Asked) (plan : TurnPlan) (items mid new : List SealedItem) (ks ls ms : List KeptTenancy) → ArePlaces upto 0 items (map place_of ks) → IsAt t ks i → t ≡ tenant_of asked.command
     → ((d : KeptTenancy) → Plans (get_or ks i d).configuration.tenant (purged at.time (tables_of items (place_of (get_or ks i d)))) (at_of at) asked plan) → IsPurge at.time (map place_of ks) items (map place_of ls) mid → IsMadeAt i at.time plan.change mid new ls ms
     → (AreSetUpRight 0 (map place_of ls) → AreSetUpRight 0 (map place_of ms)) → sessions_at (map place_of ms) ≤ sessions_at (map place_of ls) + 1
     → IsTurnOver (map place_of ks) items at asked plan.told (map place_of ms) new

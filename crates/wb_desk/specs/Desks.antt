@@ -6,7 +6,7 @@ use Rattle.wb_model.specs.Tenants.{Hosts}
 use Rattle.wb_rows.specs.Left.{IsReadBack}
 use Rattle.wb_tables.specs.Kept.{sessions_at}
 use Rattle.wb_tables.specs.Standing.{Standing, hosts_of}
-use Rattle.wb_opening.specs.SetUp.{AreSetUpRight}
+use Rattle.wb_recovery.specs.SetUp.{AreSetUpRight}
 use Rattle.wb_desk.specs.Turns.{StandsFor}
 
 -- the hosts stand for a past whose rows are read back: verdicts made it, from an opening whose rows are

@@ -9,8 +9,8 @@ use Rattle.wb_model.specs.declared.entry.Entry.{Entry}
 use Rattle.wb_model.specs.Host.{drawn}
 use Rattle.wb_model.specs.Rows.{row, rows_of, numbering_data, entry_data}
 use Rattle.wb_model.specs.Tables.{Case, report}
-use Rattle.wb_plan.specs.declared.plan.Planned.{Planned}
-use Rattle.wb_plan.specs.declared.plan.Planned.TheVariants as planned
+use Rattle.wb_commands.specs.declared.plan.Mutation.{Mutation}
+use Rattle.wb_commands.specs.declared.plan.Mutation.TheVariants as planned
 use Rattle.wb_rows.specs.Puts.{sealed_put}
 use Rattle.wb_tables.specs.Dead.{any_dead}
 use Rattle.wb_tables.specs.Kept.{PlainTenancy, tenancy_of, purged_tenancy}
@@ -27,7 +27,7 @@ noted_puts t n entry secret None = []
 noted_puts t n entry secret (Some case) = Put (row 6 t n (length case.trail + 1) (entry_data entry)) ∷ sealed_put t n secret
 
 -- what a change has to keep: rows that are put, or a report whose rows are dropped; of sessions nothing is kept
-abbrev pub puts_of : ℕ → PlainTenancy → Planned → List RowChange
+abbrev pub puts_of : ℕ → PlainTenancy → Mutation → List RowChange
 puts_of now x (planned.Begins o) = first_puts now x o.case.items o.secret
 puts_of now x (planned.Notes n) = noted_puts x.id n.number n.entry n.secret (report n.number x.plain.cases)
 puts_of now x (planned.Deletes n) = DropReport x.id n ∷ []

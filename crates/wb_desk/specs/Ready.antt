@@ -5,9 +5,9 @@ use Rattle.wb_custody.specs.SealedAnswers.{answers_of}
 use Rattle.wb_model.specs.Changes.{Change}
 use Rattle.wb_model.specs.Host.{changed}
 use Rattle.wb_model.specs.Tables.{Plain, Session, Who, same_who}
-use Rattle.wb_plan.specs.declared.plan.Planned.{Planned}
-use Rattle.wb_plan.specs.declared.plan.Planned.TheVariants as planned
-use Rattle.wb_plan.specs.Plans.{change_of, given_of}
+use Rattle.wb_commands.specs.declared.plan.Mutation.{Mutation}
+use Rattle.wb_commands.specs.declared.plan.Mutation.TheVariants as planned
+use Rattle.wb_commands.specs.Plans.{change_of, given_of}
 use Rattle.wb_tables.specs.Kept.{place_of, tables_of}
 use Rattle.wb_tables.specs.Logins.{who_seen}
 use Rattle.wb_tables.specs.Receipted.{HasOwnReceipt}
@@ -19,17 +19,17 @@ AreBy turn who [] = Unit {0}
 AreBy turn who (s ∷ ss) = ((s.turn == turn) ≡ true → same_who s.who who ≡ true) × AreBy turn who ss
 
 -- who logs out ends an own session, and a report that begins has a receipt of its own
-abbrev pub IsOwn : Plain → Planned → Type 0
+abbrev pub IsOwn : Plain → Mutation → Type 0
 IsOwn p (planned.LogsOut turn who) = AreBy turn (who_seen who) p.sessions
 IsOwn p (planned.Begins o) = HasOwnReceipt o.case.items p.cases
 IsOwn p _ = Unit {0}
 
 -- what a plan changes of a tenant
-abbrev pub planned_change : KeptTenancy → Planned → Change
+abbrev pub planned_change : KeptTenancy → Mutation → Change
 planned_change x c = change_of x.configuration.tenant x.configuration.registry c
 
 -- the change of the tenant at a place is made
-pub record IsMadeAt (place time : ℕ) (change : Planned) (items new : List SealedItem) (ks ls : List KeptTenancy) : Type 0 where
+pub record IsMadeAt (place time : ℕ) (change : Mutation) (items new : List SealedItem) (ks ls : List KeptTenancy) : Type 0 where
   pub tenancy : KeptTenancy
   pub set_at : ls ≡ set ks place tenancy
   pub id : (d : KeptTenancy) → tenancy.configuration.tenant ≡ (slice_index_or ks place d).configuration.tenant

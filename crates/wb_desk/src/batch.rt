@@ -12,12 +12,12 @@ ghost use Rattle.wb_rows.specs.Puts.{sealed_put};
 ghost use Rattle.wb_desk.specs.Puts.{first_puts, noted_puts};
 ghost use Rattle.wb_tables.specs.Kept.{place_of};
 
-use crate::take::draw_number;
+use crate::apply::draw_number;
 use std::alloc::Global;
 use wb_base::{Answers, Change, KeepErr, Keeper, Memory, Moment, Number, Row, Tenant};
+use wb_commands::{Noted, Opening};
 use wb_list::TryClone;
 use wb_model::{Entry, Numbering};
-use wb_plan::{Noted, Opening};
 use wb_rows::{entry_row, numbering_row, sealed_row};
 use wb_tables::{Report, Tenancy};
 

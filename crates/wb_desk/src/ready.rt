@@ -5,8 +5,8 @@ ghost use Rattle.wb_model.specs.Commands.{tenant_of as tenant_of_command};
 ghost use Rattle.wb_model.specs.Fits.{fits};
 ghost use Rattle.wb_model.specs.Host.{purged};
 ghost use Rattle.wb_model.specs.Tenants.{without_tenant as told_without};
-ghost use Rattle.wb_looks.specs.Looks.{at_of};
-ghost use Rattle.wb_plan.specs.Plans.{IsFit, IsRoomy, Plans};
+ghost use Rattle.wb_queries.specs.Looks.{at_of};
+ghost use Rattle.wb_commands.specs.Plans.{IsFit, IsRoomy, Plans};
 ghost use Rattle.wb_tables.specs.Dead.{any_dead};
 ghost use Rattle.wb_tables.specs.Kept.{place_of, tables_of};
 ghost use Rattle.wb_tables.specs.Places.{IsPlace, ArePlaces, IsAt};
@@ -16,15 +16,15 @@ ghost use Rattle.wb_desk.specs.Puts.{puts_of, IsBatch};
 use crate::batch::{put_deletion, put_noted, put_opening, put_setting};
 use std::alloc::Global;
 use wb_base::{Change, Memory, Moment};
+use wb_commands::{Mutation, TurnContext, TurnPlan, plan_turn, without_tenant};
 use wb_custody::SealedTable;
 use wb_model::{Asked, Told};
-use wb_plan::{At, Plan, Planned, plan_turn, without_tenant};
 use wb_tables::{Tenancy, dead_batch};
 
 /// A turn that is planned, for which there is room, and what it has to keep.
 #[derive(Drop)]
 pub struct Batched {
-    pub plan: Plan,
+    pub plan: TurnPlan,
     pub batch: Vec<Change>,
 }
 
@@ -41,9 +41,9 @@ fn ready_at(
     tenancies: &mut [Tenancy],
     place: usize,
     sealed: &mut SealedTable,
-    at: &At,
+    at: &TurnContext,
     asked: &Asked,
-) -> Result<Plan, Memory>
+) -> Result<TurnPlan, Memory>
     requires places { (turns : ℕ) × (turns < at.now.turn) × ArePlaces turns 0 sealed.old.items (map place_of tenancies.old) }
     requires place { IsAt (tenant_of_command asked.now.command) tenancies.old place }
     requires fits { fits asked.now ≡ true }
@@ -62,18 +62,18 @@ fn put_change(
     batch: &mut Vec<Change>,
     tenancy: &Tenancy,
     time: Moment,
-    change: &Planned,
+    change: &Mutation,
 ) -> Result<(), Memory>
     requires place { (turns : ℕ) × (items : List SealedItem) × IsPlace turns items (place_of tenancy.now) }
     requires fit { IsFit time tenancy.now change.now }
     ensures { OnOk result (batch.new.items ≡ batch.old.items ++ puts_of time (place_of tenancy.now) change.now) }
 {
     match change {
-        Planned::Begins(opening) => put_opening(alloc, batch, tenancy, time, opening),
-        Planned::Notes(noted) => put_noted(alloc, batch, tenancy, noted),
-        Planned::Deletes(number) => put_deletion(batch, tenancy.configuration.tenant(), *number),
-        Planned::Nothing | Planned::LogsIn(_) | Planned::LogsOut(..) => Ok(()),
-        Planned::Configures(next) => put_setting(batch, &next.row),
+        Mutation::Begins(opening) => put_opening(alloc, batch, tenancy, time, opening),
+        Mutation::Notes(noted) => put_noted(alloc, batch, tenancy, noted),
+        Mutation::Deletes(number) => put_deletion(batch, tenancy.configuration.tenant(), *number),
+        Mutation::Nothing | Mutation::LogsIn(_) | Mutation::LogsOut(..) => Ok(()),
+        Mutation::Configures(next) => put_setting(batch, &next.row),
     }
 }
 
@@ -83,7 +83,7 @@ fn batch_at(
     tenancies: &[Tenancy],
     place: usize,
     time: Moment,
-    change: &Planned,
+    change: &Mutation,
 ) -> Result<Vec<Change>, Memory>
     requires places { (turns : ℕ) × (items : List SealedItem) × ArePlaces turns 0 items (map place_of tenancies.now) }
     requires within { place < length tenancies.now }
@@ -101,7 +101,7 @@ pub fn prepare_at(
     tenancies: &mut [Tenancy],
     place: usize,
     sealed: &mut SealedTable,
-    at: &At,
+    at: &TurnContext,
     asked: &Asked,
 ) -> Result<Batched, Memory>
     requires places { (turns : ℕ) × (turns < at.now.turn) × ArePlaces turns 0 sealed.old.items (map place_of tenancies.old) }

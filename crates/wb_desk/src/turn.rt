@@ -6,27 +6,27 @@ ghost use Rattle.wb_model.specs.Commands.{tenant_of as tenant_of_command};
 ghost use Rattle.wb_model.specs.Fits.{fits};
 ghost use Rattle.wb_model.specs.Host.{changed};
 ghost use Rattle.wb_model.specs.Rows.{rows_of};
-ghost use Rattle.wb_plan.specs.Plans.{IsRoomy, given_of};
+ghost use Rattle.wb_commands.specs.Plans.{IsRoomy, given_of};
 ghost use Rattle.wb_tables.specs.Kept.{place_of, plain_of, tables_of, tenancy_of, sessions_at};
 ghost use Rattle.wb_tables.specs.Places.{IsPlace, ArePlaces, is_tenant, IsAt};
 ghost use Rattle.wb_tables.specs.declared.tenancy.Tenancy.{Tenancy as KeptTenancy};
 ghost use Rattle.wb_desk.specs.Ready.{IsOwn, IsMadeAt, planned_change};
-ghost use Rattle.wb_opening.specs.SetUp.{AreSetUpRight};
+ghost use Rattle.wb_recovery.specs.SetUp.{AreSetUpRight};
 ghost use Rattle.wb_desk.specs.Turns.{IsTurnAt};
 
+use crate::apply::{log_in, log_out, note_entry, open_case};
 use crate::batch::{Lost, keep};
 use crate::ready::{prepare_at, prepare_without};
 use crate::setting::configure;
-use crate::take::{log_in, log_out, note_entry, open_case};
 use std::alloc::Global;
 use wb_base::{Keeper, Moment};
+use wb_commands::{Mutation, TurnContext, TurnPlan, tenant_of};
 use wb_custody::SealedTable;
 use wb_model::{Asked, Told};
-use wb_plan::{At, Plan, Planned, tenant_of};
 use wb_tables::{Tenancy, delete_report, place_at, purge_all};
 
 // Makes the change of a turn that is ready, over purged tables. It takes no memory and cannot fail.
-fn make(tenancy: &mut Tenancy, sealed: &mut SealedTable, time: Moment, change: Planned)
+fn make(tenancy: &mut Tenancy, sealed: &mut SealedTable, time: Moment, change: Mutation)
     requires place { (turns : ℕ) × IsPlace turns sealed.old.items (place_of tenancy.old) }
     requires room { IsRoomy time tenancy.old sealed.old.spare change }
     requires own { IsOwn (plain_of tenancy.old) change }
@@ -35,13 +35,13 @@ fn make(tenancy: &mut Tenancy, sealed: &mut SealedTable, time: Moment, change: P
     ensures others { (t n : ℕ) → t ≢ (place_of tenancy.old).id → answers_of sealed.new.items t n ≡ answers_of sealed.old.items t n }
 {
     match change {
-        Planned::Nothing => {}
-        Planned::Begins(opening) => open_case(tenancy, sealed, time, opening),
-        Planned::Notes(noted) => note_entry(tenancy, sealed, noted),
-        Planned::Deletes(number) => delete_report(tenancy, sealed, number),
-        Planned::LogsIn(login) => log_in(tenancy, login),
-        Planned::LogsOut(turn, _) => log_out(tenancy, turn),
-        Planned::Configures(next) => configure(tenancy, next.proposal),
+        Mutation::Nothing => {}
+        Mutation::Begins(opening) => open_case(tenancy, sealed, time, opening),
+        Mutation::Notes(noted) => note_entry(tenancy, sealed, noted),
+        Mutation::Deletes(number) => delete_report(tenancy, sealed, number),
+        Mutation::LogsIn(login) => log_in(tenancy, login),
+        Mutation::LogsOut(turn, _) => log_out(tenancy, turn),
+        Mutation::Configures(next) => configure(tenancy, next.proposal),
     }
 }
 
@@ -51,7 +51,7 @@ fn make_at(
     place: usize,
     sealed: &mut SealedTable,
     time: Moment,
-    change: Planned,
+    change: Mutation,
 )
     requires places { (turns : ℕ) × ArePlaces turns 0 sealed.old.items (map place_of tenancies.old) }
     requires within { place < length tenancies.old }
@@ -73,7 +73,7 @@ fn turn_at<K: Keeper>(
     place: usize,
     sealed: &mut SealedTable,
     keeper: &mut K,
-    at: &At,
+    at: &TurnContext,
     asked: &Asked,
 ) -> Result<Told, Lost>
     requires places { (turns : ℕ) × (turns < at.now.turn) × ArePlaces turns 0 sealed.old.items (map place_of tenancies.old) }
@@ -94,7 +94,7 @@ fn turn_at<K: Keeper>(
         Err(lost) => return Err(lost),
     }
     purge_all(tenancies, sealed, at.time);
-    let Plan { told, change } = batched.plan;
+    let TurnPlan { told, change } = batched.plan;
     make_at(tenancies, place, sealed, at.time, change);
     Ok(told)
 }
@@ -106,7 +106,7 @@ fn turn_without<K: Keeper>(
     t: u32,
     sealed: &mut SealedTable,
     keeper: &mut K,
-    at: &At,
+    at: &TurnContext,
     asked: &Asked,
 ) -> Result<Told, Lost>
     requires places { (turns : ℕ) × (turns < at.now.turn) × ArePlaces turns 0 sealed.old.items (map place_of tenancies.old) }
@@ -136,7 +136,7 @@ pub fn turn<K: Keeper>(
     tenancies: &mut [Tenancy],
     sealed: &mut SealedTable,
     keeper: &mut K,
-    at: &At,
+    at: &TurnContext,
     asked: &Asked,
 ) -> Result<Told, Lost>
     requires places { (turns : ℕ) × (turns < at.now.turn) × ArePlaces turns 0 sealed.old.items (map place_of tenancies.old) }

@@ -9,7 +9,7 @@ use Rattle.wb_model.specs.declared.wire.WireFault.{WireFault}
 use Rattle.wb_model.specs.Cuts.{Nothing, Part, Cuts, Ends, IsCut}
 use Rattle.wb_model.specs.Readings.{Asks, Reads}
 use Rattle.wb_model.specs.Requests.{Frame}
-use Rattle.wb_links.specs.Lines.{Tick}
+use Rattle.wb_transport.specs.Lines.{Tick}
 use Rattle.wb_front.specs.declared.answers.Answer.{Answer}
 use Rattle.wb_front.specs.declared.connection.Ended.{Ended}
 use Rattle.wb_front.specs.declared.connection.Ended.TheVariants as ended

@@ -4,7 +4,7 @@ use Rattle.std.proofs.lemmas.List.{append_assoc, append-nil, length-append}
 use Rattle.std.specs.Io.KnownBytes.{Appends}
 use Rattle.wb_model.specs.declared.body.Told.{Told}
 use Rattle.wb_model.specs.Requests.{Frame}
-use Rattle.wb_links.specs.Lines.{Tick}
+use Rattle.wb_transport.specs.Lines.{Tick}
 use Rattle.wb_front.specs.Arrivals.{Flows}
 use Rattle.wb_front.specs.Endings.{IsOpenYet}
 use Rattle.wb_front.specs.Served.{Exchange, IsExchange, AreExchanges, requests, replies_after, replies, reply_bytes, said, tick_of, ticks, StayOpen, Sides, Loses, HasServed}

@@ -5,7 +5,7 @@ use Rattle.wb_model.specs.declared.wire.WireFault.{WireFault}
 use Rattle.wb_model.specs.Readings.{closes_always}
 use Rattle.wb_model.specs.Requests.{Frame}
 use Rattle.wb_model.specs.Scripts.{Reply}
-use Rattle.wb_links.specs.Lines.{Tick}
+use Rattle.wb_transport.specs.Lines.{Tick}
 use Rattle.wb_front.specs.Served.{IsReply, Loses, refusal, tick_of}
 use Rattle.wb_front.specs.declared.answers.Answer.{Answer}
 

@@ -3,7 +3,7 @@ use Rattle.std.specs.Prelude.{◌≡◌, ◌≢◌, ◌⊎◌, ◌+◌, ◌-◌,
 use Rattle.wb_base.specs.Outside.{Rose}
 use Rattle.wb_model.specs.declared.body.Told.{Told}
 use Rattle.wb_model.specs.Requests.{Frame}
-use Rattle.wb_links.specs.Lines.{Line, Lines, Tick}
+use Rattle.wb_transport.specs.Lines.{Line, Lines, Tick}
 use Rattle.wb_front.specs.Endings.{IsEnded}
 use Rattle.wb_front.specs.Served.{Sides}
 use Rattle.wb_front.specs.declared.connection.Ended.{Ended}

@@ -11,7 +11,7 @@ use Rattle.wb_model.specs.Readings.{Asks, Refuses, Reads, Closes}
 use Rattle.wb_model.specs.Replies.{fault_told, fault_allow, reply_text}
 use Rattle.wb_model.specs.Requests.{Frame}
 use Rattle.wb_model.specs.Scripts.{Reply}
-use Rattle.wb_links.specs.Lines.{Tick}
+use Rattle.wb_transport.specs.Lines.{Tick}
 
 -- a request's bytes, its reply, and the moment and words of its turn, where it was one
 pub record Exchange : Type 0 where

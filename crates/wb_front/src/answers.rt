@@ -4,7 +4,7 @@ ghost use Rattle.std.specs.Io.KnownBytes.{Appends};
 ghost use Rattle.wb_base.specs.Outside.{AppendsFront, HasCause};
 ghost use Rattle.wb_model.specs.declared.command.Asked.{Asked as AskedOf};
 ghost use Rattle.wb_model.specs.Readings.{Asks, Reads, closes_always};
-ghost use Rattle.wb_links.specs.Lines.{Tick};
+ghost use Rattle.wb_transport.specs.Lines.{Tick};
 ghost use Rattle.wb_front.specs.Served.{IsReply, Loses, closing, refusal as refusal_of, reply_bytes, tick_of};
 ghost use Rattle.wb_front.specs.Answers.{reply_of, IsAnswered};
 
@@ -13,9 +13,9 @@ use std::sync::Wait;
 use std::sync::ledger::Ledger;
 use wb_base::{Failed, Keeper};
 use wb_gate::{Gate, Turn};
-use wb_kept::Origin;
-use wb_links::{Link, Ticker};
+use wb_ledger::Origin;
 use wb_model::{Body, Told};
+use wb_transport::{Link, Ticker};
 use wb_wire::{
     PathNo, Routes, WireFault, WireNo, Written, fault_allow, fault_body, fault_closes,
     fault_status, read_request, reply_head,

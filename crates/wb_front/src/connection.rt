@@ -13,8 +13,8 @@ use std::sync::Wait;
 use std::sync::ledger::Ledger;
 use wb_base::Keeper;
 use wb_gate::{Gate, Turn};
-use wb_kept::Origin;
-use wb_links::{Link, Ticker};
+use wb_ledger::Origin;
+use wb_transport::{Link, Ticker};
 use wb_wire::{Routes, WireFault, WireNo};
 
 /// How a connection ended.

@@ -8,7 +8,7 @@ ghost use Rattle.wb_front.specs.Arrivals.{Flows, IsUnfinished, HasArrived, IsSee
 use std::alloc::Global;
 use std::marker::Model;
 use wb_base::{Failed, Memory};
-use wb_links::Link;
+use wb_transport::Link;
 use wb_wire::{HeadRead, WireFault, read_head};
 
 /// The most bytes of a request: its head and its body.

@@ -1,6 +1,6 @@
 //! A worker: it attends link after link, until its listener has none.
 ghost use Rattle.std.specs.Prelude.{◌≡◌, ◌≤◌, ◌<◌, ◌-◌, ◌++◌, ◌∷◌, [], Some};
-ghost use Rattle.wb_links.specs.Lines.{Line, IsLine, Lines};
+ghost use Rattle.wb_transport.specs.Lines.{Line, IsLine, Lines};
 ghost use Rattle.wb_front.specs.Attended.{clock_of, IsAttended, HasWorked, RoseOften};
 
 use crate::connection::serve_connection;
@@ -9,8 +9,8 @@ use std::sync::Wait;
 use std::sync::ledger::Ledger;
 use wb_base::Keeper;
 use wb_gate::{Gate, Turn};
-use wb_kept::Origin;
-use wb_links::{Listener, Ticker};
+use wb_ledger::Origin;
+use wb_transport::{Listener, Ticker};
 use wb_wire::Routes;
 
 /// What a worker has for itself: what brings its links, and what tells it the time.

@@ -1,8 +1,8 @@
 //! A gate that is a lock.
 ghost use Rattle.std.specs.Prelude.{◌≡◌, ◌≢◌, ◌+◌, IfOk, IfErr, IsOk};
-ghost use Rattle.wb_kept.specs.GoneOn.{IsLater};
-ghost use Rattle.wb_kept.specs.Hosted.{Hosted, parts_of, turns_of, numbers_drawn};
-ghost use Rattle.wb_kept.specs.Whole.{IsWhole};
+ghost use Rattle.wb_ledger.specs.GoneOn.{IsLater};
+ghost use Rattle.wb_ledger.specs.Hosted.{Hosted, parts_of, turns_of, numbers_drawn};
+ghost use Rattle.wb_ledger.specs.Whole.{IsWhole};
 ghost use Rattle.wb_model.specs.Drawn.{numbers_of};
 ghost use Rattle.wb_model.specs.Rows.{rows_of};
 ghost use Rattle.wb_tables.specs.Standing.{hosts_of};
@@ -12,7 +12,7 @@ use crate::job::Job;
 use std::sync::ledger::Ledger;
 use std::sync::{Mutex, Wait};
 use wb_base::Keeper;
-use wb_kept::{Closed, Kept, KeptBack, Origin, Pass, Tally};
+use wb_ledger::{Closed, Kept, KeptBack, Origin, Pass, Tally};
 
 /// A host under a lock: one job at a time is in.
 #[derive(Drop)]

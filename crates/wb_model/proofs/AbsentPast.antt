@@ -6,7 +6,7 @@ use Rattle.wb_model.specs.declared.event.Event.{Event}
 use Rattle.wb_model.specs.declared.event.What.{What}
 use Rattle.wb_model.specs.declared.event.What.TheVariants.{Did, Gap, Idle, Lost}
 use Rattle.wb_model.specs.Tables.{Registry}
-use Rattle.wb_model.specs.Changes.{At}
+use Rattle.wb_model.specs.Changes.{TurnContext}
 use Rattle.wb_model.specs.Tenants.{Tenancy}
 use Rattle.wb_model.specs.Commands.{tenant_of}
 use Rattle.wb_model.specs.Past.{Past, Opening, Turn, turns, now, at_of, about, alone_in, registry, last, live, tables, is_lost, held}
@@ -25,7 +25,7 @@ on_some r None e = absurd (grind (arith, e))
 on_some r (Some n) e = ap Some (grind (arith, nat_tests, e))
 
 -- what gapped puts in the place of an event
-gap_step : (r last : ℕ) (at : At) (g : Registry) (w : What) → WhatStep r last at g w (gap_what r (is_beginning (alone_in w at g) && eqb (last + 1) r) w)
+gap_step : (r last : ℕ) (at : TurnContext) (g : Registry) (w : What) → WhatStep r last at g w (gap_what r (is_beginning (alone_in w at g) && eqb (last + 1) r) w)
 gap_step r last at g (Did a by) = of (is_beginning (alone_in (Did a by) at g) && eqb (last + 1) r) (is_on r (about (Did a by))) refl refl
   where
     of : (b d : Bool) → (is_beginning (alone_in (Did a by) at g) && eqb (last + 1) r) ≡ b → is_on r (about (Did a by)) ≡ d → WhatStep r last at g (Did a by) (cond b (Gap (tenant_of a.command)) (cond d Idle (Did a by)))
@@ -41,7 +41,7 @@ pub gapless_gapped : (r : ℕ) (past : Past Opened) → first_last past < r → 
 gapless_gapped r (Opening o) lt = gapless_start r (Opening o) lt
 gapless_gapped r (Turn e past) lt = gapless_turn r past (gapped r past) e _ (gapless_gapped r past lt) (gap_step r (last past) (at_of past e) (registry past) e.what)
 
-step_lost : (r last : ℕ) (at : At) (g : Registry) (w v : What) → WhatStep r last at g w v → is_lost v ≡ is_lost w
+step_lost : (r last : ℕ) (at : TurnContext) (g : Registry) (w v : What) → WhatStep r last at g w v → is_lost v ≡ is_lost w
 step_lost r last at g w v (stays e off opens) = ap is_lost e
 step_lost r last at g w v (empties on e) = ap is_lost e ∙ sym (placed w on)
   where
@@ -58,7 +58,7 @@ step_lost r last at g w v (draws u opens e) = ap is_lost e ∙ sym (opened w ope
     opened Idle k = refl
     opened Lost k = absurd (grind (arith, k))
 
-pub lost_step : (r last : ℕ) (at : At) (g : Registry) (w v : What) → WhatStep r last at g w v → is_lost v ≡ is_lost w
+pub lost_step : (r last : ℕ) (at : TurnContext) (g : Registry) (w v : What) → WhatStep r last at g w v → is_lost v ≡ is_lost w
 lost_step r last at g w v s = step_lost r last at g w v s
 
 -- ---- all tenants

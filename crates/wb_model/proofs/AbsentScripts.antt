@@ -8,7 +8,7 @@ use Rattle.wb_model.specs.declared.event.What.{What}
 use Rattle.wb_model.specs.declared.event.What.TheVariants.{Did, Gap, Idle, Lost}
 use Rattle.wb_model.specs.Tables.{Registry, is_there}
 use Rattle.wb_model.specs.Requests.{Frame}
-use Rattle.wb_model.specs.Changes.{At, Change, Nothing, Draws, Begins, Notes, Deletes, LogsIn, LogsOut, Configures}
+use Rattle.wb_model.specs.Changes.{TurnContext, Change, Nothing, Draws, Begins, Notes, Deletes, LogsIn, LogsOut, Configures}
 use Rattle.wb_model.specs.Host.{Tables, noted, cases_after, made, change_of, reply_by, ruling}
 use Rattle.wb_model.specs.Tenants.{tenant_at, without_tenant}
 use Rattle.wb_model.specs.Past.{change_at, change_in, trail_of, numbers, trail, case_of, Past, Opening, Turn, turns, now, at_of, report_of, about, alone_in, registry, last, drew, live, live_reports, logins, stands, standing_sessions, plain, tables, is_lost, held}
@@ -105,7 +105,7 @@ lacks_place t r past other p another l = by p.reading another
 -- ---- replies
 
 -- the reply is told by the tables
-abbrev told_over : Tables → At → Frame → Told
+abbrev told_over : Tables → TurnContext → Frame → Told
 told_over t at f = reply_by (ruling t at f.asked) t.sealed
 
 reply_gapless : (r : ℕ) (past other : Past Opened) (f : Frame) → Gapless r past other → live past r (at_frame past f).time ≡ false → reply_at other f ≡ reply_at past f
@@ -151,7 +151,7 @@ later_hosts t r past other (p ∷ ps) a l = later_hosts t r (play past p).past (
 
 -- ---- the submission
 
-pub opened_tenant : (t : ℕ) (past : Past AllOpened) (f : Frame) (at : At) (g : Registry) (b : Bool) → (is_beginning (alone_in (seen t (what_in past f)) at g) && b) ≡ true → tenant_at f ≡ t
+pub opened_tenant : (t : ℕ) (past : Past AllOpened) (f : Frame) (at : TurnContext) (g : Registry) (b : Bool) → (is_beginning (alone_in (seen t (what_in past f)) at g) && b) ≡ true → tenant_at f ≡ t
 opened_tenant t past f at g b opens = by (decide t (tenant_at f))
   where
     by : (t ≡ tenant_at f) ⊎ (t ≢ tenant_at f) → tenant_at f ≡ t
@@ -171,7 +171,7 @@ opening_drew past e r opens = by (Rattle.wb_model.specs.Past.alone_at past e) op
     by (LogsOut turn who) k = absurd (grind (arith, k))
     by (Configures setting) k = absurd (grind (arith, k))
 
-opening_made : (at : At) (g : Registry) (b : Bool) (w : What) → (is_beginning (alone_in w at g) && b) ≡ true → is_lost w ≡ false
+opening_made : (at : TurnContext) (g : Registry) (b : Bool) (w : What) → (is_beginning (alone_in w at g) && b) ≡ true → is_lost w ≡ false
 opening_made at g b (Did a by) k = refl
 opening_made at g b (Gap t) k = refl
 opening_made at g b Idle k = refl

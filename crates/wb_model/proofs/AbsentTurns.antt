@@ -12,7 +12,7 @@ use Rattle.wb_model.specs.Trails.{receipt}
 use Rattle.wb_model.specs.Tables.{Registry, Plain, Case, Who, has_receipt, is_there}
 use Rattle.wb_model.specs.Targets.{Target, Nobody, Alone, On, target}
 use Rattle.wb_model.specs.Requests.{Frame, outline}
-use Rattle.wb_model.specs.Changes.{At}
+use Rattle.wb_model.specs.Changes.{TurnContext}
 use Rattle.wb_model.specs.Submissions.{drawing}
 use Rattle.wb_model.specs.Host.{Tables}
 use Rattle.wb_model.specs.Tenants.{tenant_at}
@@ -56,14 +56,14 @@ off_read : (r : ℕ) (b : Bool) (w : What) → is_on r (about w) ≡ false → i
 off_read r true w e = refl
 off_read r false w e = e
 
-read_step : (r last : ℕ) (at : At) (g : Registry) (b : Bool) (w : What) → r ≤ last → about w ≡ Some r → WhatStep r last at g (cond b Idle w) Idle
+read_step : (r last : ℕ) (at : TurnContext) (g : Registry) (b : Bool) (w : What) → r ≤ last → about w ≡ Some r → WhatStep r last at g (cond b Idle w) Idle
 read_step r last at g true w le on = stays refl refl refl
 read_step r last at g false w le on = empties on refl
 
-moved_step : (r last : ℕ) (at : At) (g : Registry) (w v x y : What) → w ≡ x → v ≡ y → WhatStep r last at g x y → WhatStep r last at g w v
+moved_step : (r last : ℕ) (at : TurnContext) (g : Registry) (w v x y : What) → w ≡ x → v ≡ y → WhatStep r last at g x y → WhatStep r last at g w v
 moved_step r last at g w v x y e f s = subst (λ z. WhatStep r last at g z v) (sym e) (subst (WhatStep r last at g x) (sym f) s)
 
-step_by : (r u : ℕ) (past : Past Opened) (f : Frame) (at : At) (g : Registry) (b : Target) (w v : What) → r ≤ last past → IsKnown past u f.asked b → WhatWithout r u f.asked b w v → WhatStep r (last past) at g w v
+step_by : (r u : ℕ) (past : Past Opened) (f : Frame) (at : TurnContext) (g : Registry) (b : Target) (w v : What) → r ≤ last past → IsKnown past u f.asked b → WhatWithout r u f.asked b w v → WhatStep r (last past) at g w v
 step_by r u past f at g b w v le known (kept e same off) =
     stays same (ap (λ x. is_on r (about x)) e ∙ off_read r (is_read f.asked.command) (did u b f.asked) (off_did r u past f b known off)) (off_opens (is_beginning (alone_in w at g)) (last past) r le)
 step_by r u past f at g b w v le known (idle e same) = moved_step r (last past) at g w v Idle Idle e same (stays refl refl refl)
@@ -76,7 +76,7 @@ pub same_frame : (r : ℕ) (past other : Past Opened) (f : Frame) → Gapless r 
 same_frame r past other f g = λ i. record { time = max (g.moments i) f.moment; turn = g.counts i + 1; words = f.words }
 
 -- what a request's turn is is told by the tables
-abbrev what_of : Tables → At → ℕ → Frame → What
+abbrev what_of : Tables → TurnContext → ℕ → Frame → What
 what_of t at u f = what_for t.plain at u f.asked (target t.plain f.asked.session (outline f.asked.command))
 
 what_gapless : (r u : ℕ) (past other : Past Opened) (f : Frame) → Gapless r past other → what_at u other f ≡ what_of (without r (tables past (at_frame past f).time)) (at_frame past f) u f
@@ -104,7 +104,7 @@ drawing_same r past f draws_other is = ap (λ taken. record (drawing (at_frame p
         ap (λ t. is_text (receipt t) (digest (registry past).settings.salt (receipt_text f.words)).0) (sym same) ∙ draws_other is (there_live past (at_frame past f).time r there)
 
 -- the event of a request without r stands in the place of that with it
-pub request_step : (r u : ℕ) (past other : Past Opened) (f : Frame) (at : At) (g : Registry) → r ≤ last past → Apart has_receipt (live_reports past (at_frame past f).time) → DrawsOther r past f → Gapless r past other → WhatStep r (last past) at g (what_at u past f) (what_at u other f)
+pub request_step : (r u : ℕ) (past other : Past Opened) (f : Frame) (at : TurnContext) (g : Registry) → r ≤ last past → Apart has_receipt (live_reports past (at_frame past f).time) → DrawsOther r past f → Gapless r past other → WhatStep r (last past) at g (what_at u past f) (what_at u other f)
 request_step r u past other f at g le receipts draws_other same =
     let p : Plain = plain past (at_frame past f).time in
     step_by r u past f at g (target_at past f) (what_at u past f) (what_at u other f) le (known_target past u f)
@@ -138,7 +138,7 @@ rest_seen t r u past other f g ne = by (decide u (tenant_at f)) (truth (has_tena
 pub own_seen : (t r : ℕ) (past other : Past AllOpened) (f : Frame) → AllGapless t r past other → r ≤ last (part t past) → Receipts (part t past) → (t ≡ tenant_at f → DrawsOther r (part t past) f) → SeenStep t r past (event_in past f) (what_in other f)
 own_seen t r past other f g le receipts draws_other = by (decide t (tenant_at f)) (truth (has_tenant past (tenant_at f)))
   where
-    at : At
+    at : TurnContext
     at = at_of (part t past) (with_what (event_in past f) (seen t (what_in past f)))
 
     idles : seen t (what_in past f) ≡ Idle → seen t (what_in other f) ≡ Idle → SeenStep t r past (event_in past f) (what_in other f)

@@ -7,7 +7,7 @@ use Rattle.wb_model.specs.declared.event.What.{What}
 use Rattle.wb_model.specs.declared.event.What.TheVariants.{Did, Gap, Idle, Lost}
 use Rattle.wb_model.specs.Tables.{Registry, Who}
 use Rattle.wb_model.specs.Requests.{outline}
-use Rattle.wb_model.specs.Changes.{At, Change, Nothing, Draws}
+use Rattle.wb_model.specs.Changes.{TurnContext, Change, Nothing, Draws}
 use Rattle.wb_model.specs.Effects.{Effect, Writes, effect_of}
 use Rattle.wb_model.specs.OnReports.{change_on}
 use Rattle.wb_model.specs.Host.{is_draw, registry_after}
@@ -21,17 +21,17 @@ pub record Agree (x y : Change) : Type 0 where
 pub same_change : (x : Change) → Agree x x
 same_change x = record { drawing = refl; setting = λ g. refl }
 
-pub on_agrees : (at : At) (g : Registry) (who : Who) (n : ℕ) (trail : List Entry) (e : Effect) → Agree Nothing (change_on at g who n trail e)
+pub on_agrees : (at : TurnContext) (g : Registry) (who : Who) (n : ℕ) (trail : List Entry) (e : Effect) → Agree Nothing (change_on at g who n trail e)
 on_agrees at g who n trail (Writes d) = record { drawing = refl; setting = λ g. refl }
 on_agrees at g who n trail _ = record { drawing = refl; setting = λ g. refl }
 
-pub did_agrees : (at : At) (g : Registry) (trail : List Entry) (a : Asked) (by : Option Principal) (place : Option ℕ) → Agree (alone_by at g a by place) (change_by at g trail a by place)
+pub did_agrees : (at : TurnContext) (g : Registry) (trail : List Entry) (a : Asked) (by : Option Principal) (place : Option ℕ) → Agree (alone_by at g a by place) (change_by at g trail a by place)
 did_agrees at g trail a by None = same_change (alone_by at g a by None)
 did_agrees at g trail a None (Some n) = same_change Nothing
 did_agrees at g trail a (Some by) (Some n) = on_agrees at g (who_of by) n trail (effect_of at g (Some (who_of by)) a.session trail (outline a.command))
 
 -- what an event does on no report is told without the trail
-pub alone_agrees : (w : What) (at : At) (g : Registry) (trail : List Entry) → Agree (alone_in w at g) (change_in w at g trail)
+pub alone_agrees : (w : What) (at : TurnContext) (g : Registry) (trail : List Entry) → Agree (alone_in w at g) (change_in w at g trail)
 alone_agrees (Did a by) at g trail = did_agrees at g trail a by (report_of a.command by)
 alone_agrees (Gap t) at g trail = same_change Draws
 alone_agrees Idle at g trail = same_change Nothing

@@ -13,7 +13,7 @@ use Rattle.wb_model.specs.Refusals.{keeper_failed, no_memory, not_found, numbers
 use Rattle.wb_model.specs.Tables.{Registry, Plain}
 use Rattle.wb_model.specs.Targets.{Target, Alone}
 use Rattle.wb_model.specs.Requests.{Frame, Outcome, Unchecked, Checked, outcome}
-use Rattle.wb_model.specs.Changes.{At, Change, Answer, judged}
+use Rattle.wb_model.specs.Changes.{TurnContext, Change, Answer, judged}
 use Rattle.wb_model.specs.Effects.{Effect, Submits}
 use Rattle.wb_model.specs.Effects.{in_open}
 use Rattle.wb_model.specs.Rules.{refusal_alone, change_alone, answer_alone}
@@ -39,10 +39,10 @@ use Rattle.wb_model.proofs.TurnLaw.{event}
 use Rattle.wb_model.proofs.PartLaw.{seen_here}
 
 -- a request that begins a report where nothing refuses it
-abbrev Begun : At → Plain → Outcome → Effect → Type 0
+abbrev Begun : TurnContext → Plain → Outcome → Effect → Type 0
 Begun at p o e = is_refused (judged (refusal_alone p.registry (drawing at p) o e) (change_alone at p.registry None o e) (answer_alone at p None e)) ≡ false → is_beginning (change_alone at p.registry None o e) ≡ true
 
-accepted_change : (at : At) (p : Plain) (o : Outcome) (c : ℕ) → Begun at p o (in_open Submits c p.registry)
+accepted_change : (at : TurnContext) (p : Plain) (o : Outcome) (c : ℕ) → Begun at p o (in_open Submits c p.registry)
 accepted_change at p o c = in_open_is (Begun at p o) Submits c p.registry (λ k. absurd (grind (arith, k))) (λ x y is form k. refl)
 
 -- the frame of a submission
@@ -60,7 +60,7 @@ pub accepted_opens : (u : ℕ) (past : Past Opened) (moment : ℕ) (words : Word
 unfolding paths
 accepted_opens u past moment words session close t c answers accepted =
     let f : Frame = submitting moment words session close t c answers in
-    let at : At = at_frame past f in
+    let at : TurnContext = at_frame past f in
     let p : Plain = plain past at.time in
     let o : Outcome = outcome p.registry [] f.asked.command in
     let e : Effect = in_open Submits c p.registry in
@@ -137,7 +137,7 @@ answered_accepted : (past : Past Opened) (moment : ℕ) (words : Words) (session
     (reply_at past (submitting moment words session close t c answers)).status ≡ 201 → is_refused (verdict_at past (submitting moment words session close t c answers)) ≡ false
 answered_accepted past moment words session close t c answers e =
     let f : Frame = submitting moment words session close t c answers in
-    let at : At = at_frame past f in
+    let at : TurnContext = at_frame past f in
     let p : Plain = plain past at.time in
     let o : Outcome = outcome p.registry [] f.asked.command in
     let does : Effect = in_open Submits c p.registry in

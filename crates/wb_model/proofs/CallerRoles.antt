@@ -14,7 +14,7 @@ use Rattle.wb_model.specs.declared.command.Command.TheVariants as commands
 use Rattle.wb_model.specs.declared.registry.UserItem.{UserItem}
 use Rattle.wb_model.specs.Commands.{Right, Free, has_right, Need, Anyone, Any_session, Own, Staff, Names, need}
 use Rattle.wb_model.specs.Tables.{Plain, Case, Session, Who, TheUser, TheReporter, user, user_named, report, session, with_receipt}
-use Rattle.wb_model.specs.Targets.{Target, Nobody, Alone, On, same_role, finds, named_case, staff, user_target, own_case, reporter_target, some_user_target, who_target, session_target, entering, returning, unasked, needed_target, target}
+use Rattle.wb_model.specs.Targets.{Target, Nobody, Alone, On, same_role, finds, named_case, staff, user_target, own_case, reporter_target, some_user_target, who_target, session_target, by_password, by_receipt, anonymous, needed_target, target}
 use Rattle.wb_model.specs.Refusals.{not_found, wrong_role, wrong_right, bad_login}
 use Rattle.wb_model.specs.Readable.{is_of_role, has_role, is_right_session}
 use Rattle.wb_model.proofs.Found.{Held, find_held, find_true}
@@ -100,22 +100,22 @@ found_session salt presented.None ss s e = absurd (grind (arith, e))
 found_session salt presented.Bad ss s e = absurd (grind (arith, e))
 found_session salt (presented.Token turn secret) ss s e = find_held (λ (z : Session). (z.turn == turn) && same_digest z.digest (digest salt secret)) ss s e
 
-entering_called : (users : List UserItem) (salt : Salt) (password : List ℕ) (o : Option UserItem) → Roles users Anyone (entering salt password o)
-entering_called users salt password None = tt
-entering_called users salt password (Some x) = by (x.enabled && same_digest x.secret (digest salt password))
+by_password_called : (users : List UserItem) (salt : Salt) (password : List ℕ) (o : Option UserItem) → Roles users Anyone (by_password salt password o)
+by_password_called users salt password None = tt
+by_password_called users salt password (Some x) = by (x.enabled && same_digest x.secret (digest salt password))
   where
     by : (b : Bool) → Roles users Anyone (cond b (Alone (Some (TheUser x.id))) (Nobody bad_login))
     by true = tt
     by false = tt
 
-returning_called : (users : List UserItem) (o : Option Case) → Roles users Anyone (returning o)
-returning_called users None = tt
-returning_called users (Some c) = tt
+by_receipt_called : (users : List UserItem) (o : Option Case) → Roles users Anyone (by_receipt o)
+by_receipt_called users None = tt
+by_receipt_called users (Some c) = tt
 
-unasked_called : (p : Plain) (d : Command) → Roles p.registry.users Anyone (unasked p d)
-unasked_called p (commands.Login t name password) = entering_called p.registry.users p.registry.settings.salt password (user_named name p.registry.users)
-unasked_called p (commands.ReceiptLogin t receipt) = returning_called p.registry.users (with_receipt (digest p.registry.settings.salt receipt) p.cases)
-unasked_called p _ = tt
+anonymous_called : (p : Plain) (d : Command) → Roles p.registry.users Anyone (anonymous p d)
+anonymous_called p (commands.Login t name password) = by_password_called p.registry.users p.registry.settings.salt password (user_named name p.registry.users)
+anonymous_called p (commands.ReceiptLogin t receipt) = by_receipt_called p.registry.users (with_receipt (digest p.registry.settings.salt receipt) p.cases)
+anonymous_called p _ = tt
 
 needed_called : (p : Plain) (s : Presented) (d : Command) (k : Need) → list_all (is_right_session p.registry.users) p.sessions ≡ true → Roles p.registry.users k (needed_target p s d k)
 needed_called p s d k right = by k
@@ -124,7 +124,7 @@ needed_called p s d k right = by k
     known z e = held_all (is_right_session p.registry.users) p.sessions z right (found_session p.registry.settings.salt s p.sessions z e)
 
     by : (k : Need) → Roles p.registry.users k (needed_target p s d k)
-    by Anyone = unasked_called p d
+    by Anyone = anonymous_called p d
     by Any_session = session_called p Any_session (session p.registry.settings.salt s p.sessions) known
     by Own = session_called p Own (session p.registry.settings.salt s p.sessions) known
     by (Staff role) = session_called p (Staff role) (session p.registry.settings.salt s p.sessions) known

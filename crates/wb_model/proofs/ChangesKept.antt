@@ -33,7 +33,7 @@ use Rattle.wb_model.specs.SetUps.{is_form_item}
 use Rattle.wb_model.specs.Fits.{is_between, is_path_number, fits_command}
 use Rattle.wb_base.specs.FormFaults.{is_good}
 use Rattle.wb_model.specs.KeptRules.{has_public_answers, are_valid_after}
-use Rattle.wb_model.specs.Changes.{At, Change, Nothing, Draws, Begins, Notes, Deletes, LogsIn, LogsOut, Configures, Answer, judged}
+use Rattle.wb_model.specs.Changes.{TurnContext, Change, Nothing, Draws, Begins, Notes, Deletes, LogsIn, LogsOut, Configures, Answer, judged}
 use Rattle.wb_model.specs.Submissions.{outcome_refusal, drawing, submission_entry}
 use Rattle.wb_model.specs.Effects.{Effect, Writes, Submits, Comes, comes, effect_of}
 use Rattle.wb_model.specs.OnReports.{refusal_on, change_on}
@@ -278,7 +278,7 @@ good_form t g y own h =
     let a = and_parts (y.tenant == t) (is_form_item y) is in
     (and_parts (is_between 1 16 y.id && is_between 1 99 y.version) (is_good y.form) a.1).1
 
-entry_right : (t : ℕ) (at : At) (g : Registry) (c : ℕ) (x : ContextItem) (y : FormItem) (answers : Answered) → IsOwn t g → AreOrdered g → context c g.contexts ≡ Some x → Held y g.forms → submission_fault y.form answers ≡ None → are_answers answers ≡ true →
+entry_right : (t : ℕ) (at : TurnContext) (g : Registry) (c : ℕ) (x : ContextItem) (y : FormItem) (answers : Answered) → IsOwn t g → AreOrdered g → context c g.contexts ≡ Some x → Held y g.forms → submission_fault y.form answers ≡ None → are_answers answers ≡ true →
     is_readable_trail g (submission_entry at g (submission_outcome (Some y) answers) x y ∷ []) (submission_secret (Some y) answers) ≡ true
 unfolding submission_entry submission_fault public secret mark late_fault
 entry_right t at g c x y answers own order found h none ranged =
@@ -305,7 +305,7 @@ entry_right t at g c x y answers own order found h none ranged =
 
 -- ---- what is asked on no report
 
-abbrev pub AloneRight : ℕ → Plain → At → Option Who → Outcome → Option Answered → Effect → Type 0
+abbrev pub AloneRight : ℕ → Plain → TurnContext → Option Who → Outcome → Option Answered → Effect → Type 0
 AloneRight t p at who o given e = refusal_alone p.registry (drawing at p) o e ≡ None → Puts t p (change_alone at p.registry who o e) given
 
 first_none : {F : Type 0} (a b : Option F) → option_or a b ≡ None → (a ≡ None) × (b ≡ None)
@@ -330,7 +330,7 @@ not_spent n rest e = by (nat_le 4_294_967_295 n) refl e
 one : (a b : Bool) → (a && b) ≡ true → b ≡ true
 one a b e = (and_parts a b e).1
 
-module _ (p : Plain) (at : At) (who : Option Who) (s : Presented) where
+module _ (p : Plain) (at : TurnContext) (who : Option Who) (s : Presented) where
   logged : (t : ℕ) (o : Outcome) (w : Option Who) → Roles p.registry.users Anyone (Alone w) → AloneRight t p at w o None (comes w p.registry.users)
   logged t o None h = λ free. tt
   logged t o (Some (TheReporter n)) h = absurd h
@@ -367,7 +367,7 @@ module _ (p : Plain) (at : At) (who : Option Who) (s : Presented) where
 
 -- ---- what is asked on a report
 
-on_puts : (t : ℕ) (p : Plain) (at : At) (who : Who) (c : Case) (o : Outcome) (given : Option Answered) (e : Effect) → Written at p.registry who c.trail o given e → ((d : Case) → Held d p.cases → d.number ≡ c.number → c ≡ d) → refusal_on at p.registry who c o e ≡ None →
+on_puts : (t : ℕ) (p : Plain) (at : TurnContext) (who : Who) (c : Case) (o : Outcome) (given : Option Answered) (e : Effect) → Written at p.registry who c.trail o given e → ((d : Case) → Held d p.cases → d.number ≡ c.number → c ≡ d) → refusal_on at p.registry who c o e ≡ None →
     Puts t p (change_on at p.registry who c.number c.trail e) given
 on_puts t p at who c o given (Writes d) written same free =
     let two = first_none (outcome_refusal o) _ free in
@@ -393,7 +393,7 @@ entries_of_case g trail given is =
     let b = and_parts (list_all (is_entry_of g) trail && has_public_answers g.forms trail) (are_valid_after g.forms trail given) a.0 in
     (and_parts (list_all (is_entry_of g) trail) (has_public_answers g.forms trail) b.0).0
 
-verdict_puts : (x : Tables) (at : At) (a : Asked) (tg : Target) → fits_command a.command ≡ true → AreOrdered x.plain.registry → Ascend 0 x.plain.cases → AreReadable (tenant_of a.command) x →
+verdict_puts : (x : Tables) (at : TurnContext) (a : Asked) (tg : Target) → fits_command a.command ≡ true → AreOrdered x.plain.registry → Ascend 0 x.plain.cases → AreReadable (tenant_of a.command) x →
     Roles x.plain.registry.users (need a.command) tg → Called (need a.command) tg → ((who : Who) (c : Case) → tg ≡ On who c → Held c x.plain.cases) →
     Puts (tenant_of a.command) x.plain (change_of (verdict_on x.plain at (request x.plain.registry (trail_at tg) a) tg)) (secret_of x.plain.registry a.command)
 verdict_puts x at a (Nobody told) fits order up is roles called known = tt
@@ -403,7 +403,7 @@ verdict_puts x at a (On who c) fits order up is roles called known = judged_puts
     (effect_written (tenant_of a.command) at x.plain.registry who a.session c is.registry (entries_of_case x.plain.registry c.trail (x.sealed c.number) (held_all (is_readable x.plain.registry x.sealed) x.plain.cases c is.cases (known who c refl))) a.command fits called roles)
     (λ d h same. one_case 0 x.plain.cases c d up (known who c refl) h (sym same)))
 
-pub turn_readable : (t : ℕ) (x : Tables) (at : At) (a : Asked) → tenant_of a.command ≡ t → fits_command a.command ≡ true → AreOrdered x.plain.registry → Ascend 0 x.plain.cases → AtMost x.plain.numbering.last x.plain.cases → ((n : ℕ) → is_there n x.plain.cases ≡ false → x.sealed n ≡ None) →
+pub turn_readable : (t : ℕ) (x : Tables) (at : TurnContext) (a : Asked) → tenant_of a.command ≡ t → fits_command a.command ≡ true → AreOrdered x.plain.registry → Ascend 0 x.plain.cases → AtMost x.plain.numbering.last x.plain.cases → ((n : ℕ) → is_there n x.plain.cases ≡ false → x.sealed n ≡ None) →
     AreReadable t x → AreReadable t (tables_after x at a)
 turn_readable t x at a of_tenant fits order up most unsealed is =
     let tg : Target = target x.plain a.session (outline a.command) in

@@ -38,7 +38,7 @@ use Rattle.wb_model.specs.Settings.{is_recipient}
 use Rattle.wb_model.specs.SetUps.{is_user_item, is_context_item}
 use Rattle.wb_model.specs.Fits.{is_between, has_bytes, is_path_number, is_staff_role, fits_withhold, fits_command}
 use Rattle.wb_model.specs.KeptRules.{role_of, is_of_channel, is_doer, users_in, is_named, are_valid_after}
-use Rattle.wb_model.specs.Changes.{At}
+use Rattle.wb_model.specs.Changes.{TurnContext}
 use Rattle.wb_model.specs.Submissions.{outcome_refusal}
 use Rattle.wb_model.specs.Effects.{Effect, Misses, Writes, Submits, caller, effect_of}
 use Rattle.wb_model.specs.Doings.{Acts, Moves, may_read, retention_of, doing_fault, doing_entry, actor_of, decision_move}
@@ -156,7 +156,7 @@ context_recipients t g c x own e = recipients_there t g c x own e
 -- ---- what is written on a report
 
 -- an entry is right, and so are the identity answers that come with it
-abbrev pub Written : At → Registry → Who → List Entry → Outcome → Option Answered → Effect → Type 0
+abbrev pub Written : TurnContext → Registry → Who → List Entry → Outcome → Option Answered → Effect → Type 0
 Written at g who es o secret (Writes d) = outcome_refusal o ≡ None → doing_fault es (user_by (actor_of who)) d ≡ None → (is_entry_of g (doing_entry g.settings.calendar at.time who es d) ≡ true) × (are_sealed secret ≡ true) × (are_valid_after g.forms es secret ≡ true)
 Written at g who es o secret _ = Unit {0}
 
@@ -166,7 +166,7 @@ two a b c e = (and_parts (a && b) c e).1
 one : (a b : Bool) → (a && b) ≡ true → b ≡ true
 one a b e = (and_parts a b e).1
 
-module _ (own_tenant : ℕ) (at : At) (g : Registry) (who : Who) (s : Presented) (c : Case) (own : IsOwn own_tenant g) (named : list_all (is_entry_of g) c.trail ≡ true) where
+module _ (own_tenant : ℕ) (at : TurnContext) (g : Registry) (who : Who) (s : Presented) (c : Case) (own : IsOwn own_tenant g) (named : list_all (is_entry_of g) c.trail ≡ true) where
   reads_on : (d : Deed) → role_of d ≡ Recipient → is_caller g.users Recipient who ≡ true → is_doer g.users d (actor_of who) ≡ true
   reads_on d e is = caller_doer g.users Recipient who d e is
 

@@ -7,7 +7,7 @@ use Rattle.wb_base.specs.declared.callers.Presented.{Presented}
 use Rattle.wb_model.specs.declared.body.Told.{Told}
 use Rattle.wb_model.specs.declared.command.Command.{Command}
 use Rattle.wb_model.specs.declared.command.Command.TheVariants as commands
-use Rattle.wb_model.specs.Changes.{At, Change, Answer, Verdict, judged}
+use Rattle.wb_model.specs.Changes.{TurnContext, Change, Answer, Verdict, judged}
 use Rattle.wb_model.specs.Commands.{is_submission}
 use Rattle.wb_model.specs.Drawn.{numbers_of, is_accepted}
 use Rattle.wb_model.specs.Effects.{Effect, Misses, Looks, Reads, Writes, Erases, Submits, Comes, Goes, Sets, in_open}
@@ -36,7 +36,7 @@ judged_draws : (o : Option Told) (ch : Change) (a : Answer) → is_draw ch ≡ f
 judged_draws None ch a e = e
 judged_draws (Some x) ch a e = refl
 
-alone_draws : (at : At) (g : Registry) (who : Option Who) (o : Outcome) (d : Command) (does : Effect) → is_submission d ≡ false → IsSubmitted g d does → is_draw (change_alone at g who o does) ≡ false
+alone_draws : (at : TurnContext) (g : Registry) (who : Option Who) (o : Outcome) (d : Command) (does : Effect) → is_submission d ≡ false → IsSubmitted g d does → is_draw (change_alone at g who o does) ≡ false
 alone_draws at g who o d (Submits c form) other is = absurd (grind (arith, other, is.0))
 alone_draws at g who o d (Sets t proposal) other is = set_is (λ ch. is_draw ch ≡ false) (setting_of t g proposal) refl (λ x found. refl)
 alone_draws at g who o d (Comes role) other is = refl
@@ -47,7 +47,7 @@ alone_draws at g who o d (Reads part) other is = refl
 alone_draws at g who o d (Writes doing) other is = refl
 alone_draws at g who o d Erases other is = refl
 
-on_draws : (at : At) (g : Registry) (who : Who) (n : ℕ) (trail : List _) (does : Effect) → is_draw (change_on at g who n trail does) ≡ false
+on_draws : (at : TurnContext) (g : Registry) (who : Who) (n : ℕ) (trail : List _) (does : Effect) → is_draw (change_on at g who n trail does) ≡ false
 on_draws at g who n trail (Submits c form) = refl
 on_draws at g who n trail (Sets t proposal) = refl
 on_draws at g who n trail (Comes role) = refl
@@ -58,7 +58,7 @@ on_draws at g who n trail (Reads part) = refl
 on_draws at g who n trail (Writes doing) = refl
 on_draws at g who n trail Erases = refl
 
-others_draw : (p : Plain) (at : At) (q : Request) (t : Target) → is_submission q.command ≡ false → is_draw (change_of (verdict_on p at q t)) ≡ false
+others_draw : (p : Plain) (at : TurnContext) (q : Request) (t : Target) → is_submission q.command ≡ false → is_draw (change_of (verdict_on p at q t)) ≡ false
 others_draw p at q (Nobody refusal) other = refl
 others_draw p at q (Alone who) other =
     let does = effect_at p at q who [] in
@@ -83,7 +83,7 @@ judged_submission : (o : Option Told) (ch : Change) (a : Answer) (sealed : Seale
 judged_submission None ch a sealed refused made = made refl
 judged_submission (Some x) ch a sealed refused made = not_made x.status refused
 
-submission_draws : (p : Plain) (at : At) (o : Outcome) (c : ℕ) (sealed : Sealed) →
+submission_draws : (p : Plain) (at : TurnContext) (o : Outcome) (c : ℕ) (sealed : Sealed) →
     Draws (judged (refusal_alone p.registry (drawing at p) o (in_open Submits c p.registry)) (change_alone at p.registry None o (in_open Submits c p.registry)) (answer_alone at p None (in_open Submits c p.registry))) sealed
 submission_draws p at o c sealed =
     judged_submission (refusal_alone p.registry (drawing at p) o (in_open Submits c p.registry)) _ _ sealed (refusal_answers p.registry (drawing at p) o c)
@@ -92,7 +92,7 @@ submission_draws p at o c sealed =
 
 -- ---- each request
 
-ruling_draws : (t : Tables) (at : At) (session : Presented) (d : Command) (close : Bool) (sealed : Sealed) →
+ruling_draws : (t : Tables) (at : TurnContext) (session : Presented) (d : Command) (close : Bool) (sealed : Sealed) →
     is_draw (change_of (ruling t at (record { session = session; command = d; close = close }))) ≡ is_accepted d (reply_by (ruling t at (record { session = session; command = d; close = close })) sealed)
 ruling_draws t at session (commands.Submit tenant c answers) close sealed =
     submission_draws t.plain at (plain_part t.plain (record { session = session; command = commands.Submit tenant c answers; close = close })).outcome c sealed

@@ -15,7 +15,7 @@ use Rattle.wb_model.specs.Tables.{Registry, Who, TheUser, TheReporter, user, con
 use Rattle.wb_model.specs.Requests.{open_form, form_of_trail}
 use Rattle.wb_model.specs.Commands.{is_submission}
 use Rattle.wb_model.specs.Settings.{Setting}
-use Rattle.wb_model.specs.Changes.{At, Change, Nothing, Configures}
+use Rattle.wb_model.specs.Changes.{TurnContext, Change, Nothing, Configures}
 use Rattle.wb_model.specs.Effects.{Effect, Misses, Writes, Submits, Comes, Goes, comes, goes, with_form, in_open, effect_of}
 use Rattle.wb_model.specs.Doings.{Acts, Moves, may_read, decision_move}
 use Rattle.wb_model.specs.declared.act.Act.TheVariants as acts
@@ -71,7 +71,7 @@ abbrev pub IsSubmitted : Registry → Command → Effect → Type 0
 IsSubmitted g d (Submits x form) = (is_submission d ≡ true) × ((c : ℕ) × (context c g.contexts ≡ Some x) × (open_form (context c g.contexts) g.forms ≡ Some form))
 IsSubmitted g d e = Unit {0}
 
-pub submitted : (at : At) (g : Registry) (who : Option Who) (s : Presented) (trail : List Entry) (d : Command) → IsSubmitted g d (effect_of at g who s trail d)
+pub submitted : (at : TurnContext) (g : Registry) (who : Option Who) (s : Presented) (trail : List Entry) (d : Command) → IsSubmitted g d (effect_of at g who s trail d)
 submitted at g who s trail (commands.Submit t c answers) = in_open_is (IsSubmitted g (commands.Submit t c answers)) Submits c g tt (λ x y is form. (refl, (c, is, form)))
 submitted at g who s trail (commands.ContextOf t c) = in_open_is (IsSubmitted g (commands.ContextOf t c)) _ c g tt (λ x y is form. tt)
 submitted at g who s trail (commands.Login t name password) = comes_is (IsSubmitted g (commands.Login t name password)) who g.users tt (λ role. tt)

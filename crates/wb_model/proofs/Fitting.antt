@@ -12,7 +12,7 @@ use Rattle.wb_base.specs.Secrets.{digest, same_digest}
 use Rattle.wb_model.specs.declared.registry.UserItem.{UserItem}
 use Rattle.wb_model.specs.Refusals.{not_found, wrong_role, wrong_right, bad_login}
 use Rattle.wb_model.specs.Tables.{Registry, context, Plain, Case, Session, Who, TheUser, TheReporter, user, user_named, report, has_number, has_receipt, with_receipt, is_there, is_live, lasts, session}
-use Rattle.wb_model.specs.Targets.{Target, Nobody, Alone, On, same_role, finds, named_case, user_target, own_case, reporter_target, some_user_target, who_target, session_target, entering, returning, unasked, needed_target, target}
+use Rattle.wb_model.specs.Targets.{Target, Nobody, Alone, On, same_role, finds, named_case, user_target, own_case, reporter_target, some_user_target, who_target, session_target, by_password, by_receipt, anonymous, needed_target, target}
 use Rattle.wb_model.specs.Commands.{Need, Anyone, Any_session, Own, Staff, Names, need, has_right}
 use Rattle.wb_model.specs.Requests.{Request, Outcome}
 use Rattle.wb_base.specs.Days.{day_of}
@@ -22,7 +22,7 @@ use Rattle.std.specs.Prelude.{int_lt, ℤ, ◌<ℤ◌}
 use Rattle.std.proofs.lemmas.Int.{ints}
 use Rattle.wb_model.specs.declared.registry.ContextItem.{ContextItem}
 use Rattle.wb_model.specs.declared.registry.FormItem.{FormItem}
-use Rattle.wb_model.specs.Changes.{At, Change, Begins, Notes, LogsIn, Answer, judged}
+use Rattle.wb_model.specs.Changes.{TurnContext, Change, Begins, Notes, LogsIn, Answer, judged}
 use Rattle.wb_model.specs.Effects.{Effect, Writes, Submits, Comes, Sets}
 use Rattle.wb_model.specs.OnReports.{change_on}
 use Rattle.wb_model.specs.Submissions.{submission_entry}
@@ -38,7 +38,7 @@ AreKeeping [] = Unit {0}
 AreKeeping (c ∷ cs) = (1 ≤ c.retention) × AreKeeping cs
 
 -- what is opened is live, what is noted is on a report that is there and leaves it live, and a session that begins lasts
-abbrev pub Fits : At → Plain → Change → Type 0
+abbrev pub Fits : TurnContext → Plain → Change → Type 0
 Fits at p (Begins entry) = (n : ℕ) → is_live p.registry.settings at.time (record { number = n; trail = entry ∷ [] }) ≡ true
 Fits at p (Notes n entry) = LeavesLive p.registry.settings at.time entry × (is_there n p.cases ≡ true)
 Fits at p (LogsIn s) = lasts at.time p.cases s ≡ true
@@ -91,28 +91,28 @@ session_held : (p : Plain) (k : Need) (o : Option Session) (who : Who) (c : Case
 session_held p k None who c e = absurd (grind (arith, e))
 session_held p k (Some s) who c e = who_held p s.role k s.who who c e
 
-entering_alone : (p : Plain) (b : Bool) (u : ℕ) (who : Who) (c : Case) → cond b (Alone (Some (TheUser u))) (Nobody bad_login) ≡ On who c → Held c p.cases
-entering_alone p true u who c e = absurd (grind (arith, e))
-entering_alone p false u who c e = absurd (grind (arith, e))
+by_password_alone : (p : Plain) (b : Bool) (u : ℕ) (who : Who) (c : Case) → cond b (Alone (Some (TheUser u))) (Nobody bad_login) ≡ On who c → Held c p.cases
+by_password_alone p true u who c e = absurd (grind (arith, e))
+by_password_alone p false u who c e = absurd (grind (arith, e))
 
-entering_held : (p : Plain) (password : List ℕ) (o : Option UserItem) (who : Who) (c : Case) → entering p.registry.settings.salt password o ≡ On who c → Held c p.cases
-entering_held p password None who c e = absurd (grind (arith, e))
-entering_held p password (Some x) who c e = entering_alone p (x.enabled && same_digest x.secret (digest p.registry.settings.salt password)) x.id who c e
+by_password_held : (p : Plain) (password : List ℕ) (o : Option UserItem) (who : Who) (c : Case) → by_password p.registry.settings.salt password o ≡ On who c → Held c p.cases
+by_password_held p password None who c e = absurd (grind (arith, e))
+by_password_held p password (Some x) who c e = by_password_alone p (x.enabled && same_digest x.secret (digest p.registry.settings.salt password)) x.id who c e
 
-returning_held : (kept : Digest) (cs : List Case) (who : Who) (c : Case) → returning (with_receipt kept cs) ≡ On who c → Held c cs
-returning_held kept cs who c e = by (with_receipt kept cs) refl e
+by_receipt_held : (kept : Digest) (cs : List Case) (who : Who) (c : Case) → by_receipt (with_receipt kept cs) ≡ On who c → Held c cs
+by_receipt_held kept cs who c e = by (with_receipt kept cs) refl e
   where
-    by : (o : Option Case) → with_receipt kept cs ≡ o → returning o ≡ On who c → Held c cs
+    by : (o : Option Case) → with_receipt kept cs ≡ o → by_receipt o ≡ On who c → Held c cs
     by None is f = absurd (grind (arith, f))
     by (Some d) is f = subst (λ x. Held x cs) (let same : d ≡ c = cc in same) (find_held (has_receipt kept) cs d is)
 
-unasked_held : (p : Plain) (d : Command) (who : Who) (c : Case) → unasked p d ≡ On who c → Held c p.cases
-unasked_held p (commands.Login t name password) who c e = entering_held p password (user_named name p.registry.users) who c e
-unasked_held p (commands.ReceiptLogin t receipt) who c e = returning_held (digest p.registry.settings.salt receipt) p.cases who c e
-unasked_held p _ who c e = absurd (grind (arith, e))
+anonymous_held : (p : Plain) (d : Command) (who : Who) (c : Case) → anonymous p d ≡ On who c → Held c p.cases
+anonymous_held p (commands.Login t name password) who c e = by_password_held p password (user_named name p.registry.users) who c e
+anonymous_held p (commands.ReceiptLogin t receipt) who c e = by_receipt_held (digest p.registry.settings.salt receipt) p.cases who c e
+anonymous_held p _ who c e = absurd (grind (arith, e))
 
 needed_held : (p : Plain) (presented : Presented) (d : Command) (k : Need) (who : Who) (c : Case) → needed_target p presented d k ≡ On who c → Held c p.cases
-needed_held p presented d Anyone who c e = unasked_held p d who c e
+needed_held p presented d Anyone who c e = anonymous_held p d who c e
 needed_held p presented d Any_session who c e = session_held p Any_session (session p.registry.settings.salt presented p.sessions) who c e
 needed_held p presented d Own who c e = session_held p Own (session p.registry.settings.salt presented p.sessions) who c e
 needed_held p presented d (Staff role) who c e = session_held p (Staff role) (session p.registry.settings.salt presented p.sessions) who c e
@@ -135,7 +135,7 @@ before_expiry : (day : ℤ) (retention : ℕ) → 1 ≤ retention → int_lt day
 before_expiry day retention le = int_holds day (expiry day retention) (omega (arith, signed_arith, le))
 
 -- a context keeps its reports for a day at least, so they are live as they are opened
-opened_live : (at : At) (g : Registry) (o : Outcome) (c : ContextItem) (form : FormItem) → 1 ≤ c.retention → (n : ℕ) → is_live g.settings at.time (record { number = n; trail = submission_entry at g o c form ∷ [] }) ≡ true
+opened_live : (at : TurnContext) (g : Registry) (o : Outcome) (c : ContextItem) (form : FormItem) → 1 ≤ c.retention → (n : ℕ) → is_live g.settings at.time (record { number = n; trail = submission_entry at g o c form ∷ [] }) ≡ true
 unfolding submission_entry
 opened_live at g o c form le n = before_expiry (day_of at.time g.settings.offset) c.retention le
 
@@ -148,24 +148,24 @@ keeping (x ∷ cs) id c k e = by (eqb x.id id) e (keeping cs id c k.1)
     by false f ih = ih f
 
 -- what is done on a live report fits
-on_fits : (at : At) (p : Plain) (who : Who) (c : Case) (e : Effect) → is_there c.number p.cases ≡ true → is_live p.registry.settings at.time c ≡ true → Fits at p (change_on at p.registry who c.number c.trail e)
+on_fits : (at : TurnContext) (p : Plain) (who : Who) (c : Case) (e : Effect) → is_there c.number p.cases ≡ true → is_live p.registry.settings at.time c ≡ true → Fits at p (change_on at p.registry who c.number c.trail e)
 on_fits at p who c (Writes d) there lives = (doing_leaves p.registry.settings at.time c.number who c.trail d lives, there)
 on_fits at p who c (Comes role) there lives = grind (arith, nat_tests, there)
 on_fits at p who c _ there lives = tt
 
 -- and what is done on none, where reports begin in the tenant's contexts
-alone_fits : (at : At) (p : Plain) (who : Option Who) (o : Outcome) (d : Command) (e : Effect) → AreKeeping p.registry.contexts → IsSubmitted p.registry d e → Fits at p (change_alone at p.registry who o e)
+alone_fits : (at : TurnContext) (p : Plain) (who : Option Who) (o : Outcome) (d : Command) (e : Effect) → AreKeeping p.registry.contexts → IsSubmitted p.registry d e → Fits at p (change_alone at p.registry who o e)
 alone_fits at p who o d (Submits c form) keeps k = opened_live at p.registry o c form (keeping p.registry.contexts k.1.0 c keeps k.1.1)
 alone_fits at p who o d (Comes role) keeps k = grind (arith, nat_tests)
 alone_fits at p who o d (Sets t proposal) keeps k = set_is (Fits at p) _ tt (λ x is. tt)
 alone_fits at p who o d _ keeps k = tt
 
-judged_fits : (at : At) (p : Plain) (o : Option Told) (ch : Change) (a : Answer) → (o ≡ None → Fits at p ch) → Fits at p (change_of (judged o ch a))
+judged_fits : (at : TurnContext) (p : Plain) (o : Option Told) (ch : Change) (a : Answer) → (o ≡ None → Fits at p ch) → Fits at p (change_of (judged o ch a))
 judged_fits at p None ch a h = h refl
 judged_fits at p (Some x) ch a h = tt
 
 -- where the target's report is there and live, what a request changes fits
-pub verdict_fits : (p : Plain) (at : At) (q : Request) (t : Target) → AreKeeping p.registry.contexts → ((who : Who) (c : Case) → t ≡ On who c → (is_there c.number p.cases ≡ true) × (is_live p.registry.settings at.time c ≡ true)) → Fits at p (change_of (verdict_on p at q t))
+pub verdict_fits : (p : Plain) (at : TurnContext) (q : Request) (t : Target) → AreKeeping p.registry.contexts → ((who : Who) (c : Case) → t ≡ On who c → (is_there c.number p.cases ≡ true) × (is_live p.registry.settings at.time c ≡ true)) → Fits at p (change_of (verdict_on p at q t))
 verdict_fits p at q (Nobody x) keeps known = tt
 verdict_fits p at q (Alone who) keeps known = judged_fits at p _ _ _ (λ free. alone_fits at p who q.outcome q.command (effect_at p at q who []) keeps (submitted at p.registry who q.session [] q.command))
 verdict_fits p at q (On who c) keeps known = judged_fits at p _ _ _ (λ free. on_fits at p who c (effect_at p at q (Some who) c.trail) (known who c refl).0 (known who c refl).1)

@@ -12,7 +12,7 @@ use Rattle.wb_model.specs.declared.event.What.{What}
 use Rattle.wb_model.specs.declared.event.What.TheVariants.{Did, Gap, Idle, Lost}
 use Rattle.wb_model.specs.Tables.{Registry, Who, Case, lasts, Session, is_reporter_of, others, sessions_but}
 use Rattle.wb_model.specs.Requests.{Outcome, outline, outcome}
-use Rattle.wb_model.specs.Changes.{At, Change, Nothing, Draws, Begins, Notes, Deletes, LogsIn, LogsOut, Configures}
+use Rattle.wb_model.specs.Changes.{TurnContext, Change, Nothing, Draws, Begins, Notes, Deletes, LogsIn, LogsOut, Configures}
 use Rattle.wb_model.specs.Effects.{Effect, Writes, Erases, Submits, Comes, Goes, Sets, effect_of}
 use Rattle.wb_model.specs.OnReports.{change_on}
 use Rattle.wb_model.specs.Rules.{change_alone}
@@ -42,13 +42,13 @@ Here r (LogsIn s) = is_reporter_of r s.who ≡ true
 Here r (LogsOut turn who) = is_reporter_of r who ≡ true
 Here r _ = ⊥
 
-pub on_elsewhere : (r n last : ℕ) (at : At) (g : Registry) (who : Who) (tr : List Entry) (e : Effect) → n ≢ r → Elsewhere r last (change_on at g who n tr e)
+pub on_elsewhere : (r n last : ℕ) (at : TurnContext) (g : Registry) (who : Who) (tr : List Entry) (e : Effect) → n ≢ r → Elsewhere r last (change_on at g who n tr e)
 on_elsewhere r n last at g who tr (Writes d) ne = ne
 on_elsewhere r n last at g who tr Erases ne = ne
 on_elsewhere r n last at g who tr (Comes role) ne = other_number n r ne
 on_elsewhere r n last at g who tr _ ne = tt
 
-pub on_here : (r n : ℕ) (at : At) (g : Registry) (who : Who) (tr : List Entry) (e : Effect) → n ≡ r → Here r (change_on at g who n tr e)
+pub on_here : (r n : ℕ) (at : TurnContext) (g : Registry) (who : Who) (tr : List Entry) (e : Effect) → n ≡ r → Here r (change_on at g who n tr e)
 on_here r n at g who tr (Writes d) e = e
 on_here r n at g who tr Erases e = e
 on_here r n at g who tr (Comes role) e = same_number n r e
@@ -56,7 +56,7 @@ on_here r n at g who tr (Goes turn) e = same_number n r e
 on_here r n at g who tr _ e = tt
 
 -- what begins nothing for r is elsewhere
-pub alone_away : (r last : ℕ) (at : At) (g : Registry) (who : Option Who) (o : Outcome) (e : Effect) → (is_beginning (change_alone at g who o e) && eqb (last + 1) r) ≡ false → Elsewhere r last (change_alone at g who o e)
+pub alone_away : (r last : ℕ) (at : TurnContext) (g : Registry) (who : Option Who) (o : Outcome) (e : Effect) → (is_beginning (change_alone at g who o e) && eqb (last + 1) r) ≡ false → Elsewhere r last (change_alone at g who o e)
 alone_away r last at g who o (Submits c form) e = grind (arith, nat_tests, e)
 alone_away r last at g who o (Comes role) e = refl
 alone_away r last at g who o (Sets t proposal) e = set_is (Elsewhere r last) _ tt (λ x is. tt)
@@ -69,28 +69,28 @@ pub data GapStep (r last : ℕ) (ch new : Change) (secret given : Option Answere
   only_drawn : (e : Entry) → ch ≡ Begins e → last + 1 ≡ r → new ≡ Draws → GapStep r last ch new secret given
 
 -- what stands in the place of an event: the same, if it is not of r, or nothing, or a draw
-pub data WhatStep (r last : ℕ) (at : At) (g : Registry) (w v : What) : Type 0 where
+pub data WhatStep (r last : ℕ) (at : TurnContext) (g : Registry) (w v : What) : Type 0 where
   stays : v ≡ w → is_on r (about w) ≡ false → (is_beginning (alone_in w at g) && eqb (last + 1) r) ≡ false → WhatStep r last at g w v
   empties : about w ≡ Some r → v ≡ Idle → WhatStep r last at g w v
   draws : (u : ℕ) → (is_beginning (alone_in w at g) && eqb (last + 1) r) ≡ true → v ≡ Gap u → WhatStep r last at g w v
 
-pub change_here : (r : ℕ) (at : At) (g : Registry) (tr : List Entry) (a : Asked) (by : Option Principal) (place : Option ℕ) → place ≡ Some r → Here r (change_by at g tr a by place)
+pub change_here : (r : ℕ) (at : TurnContext) (g : Registry) (tr : List Entry) (a : Asked) (by : Option Principal) (place : Option ℕ) → place ≡ Some r → Here r (change_by at g tr a by place)
 change_here r at g tr a by None e = absurd (grind (arith, e))
 change_here r at g tr a None (Some n) e = tt
 change_here r at g tr a (Some by) (Some n) e = on_here r n at g (who_of by) tr (effect_of at g (Some (who_of by)) a.session tr (outline a.command)) (let same : n ≡ r = cc in same)
 
-pub what_here : (r : ℕ) (at : At) (g : Registry) (tr : List Entry) (w : What) → about w ≡ Some r → Here r (change_in w at g tr)
+pub what_here : (r : ℕ) (at : TurnContext) (g : Registry) (tr : List Entry) (w : What) → about w ≡ Some r → Here r (change_in w at g tr)
 what_here r at g tr (Did a by) e = change_here r at g tr a by (report_of a.command by) e
 what_here r at g tr (Gap t) e = absurd (grind (arith, e))
 what_here r at g tr Idle e = absurd (grind (arith, e))
 what_here r at g tr Lost e = absurd (grind (arith, e))
 
-pub change_away : (r last : ℕ) (at : At) (g : Registry) (tr : List Entry) (a : Asked) (by : Option Principal) (place : Option ℕ) → is_on r place ≡ false → (is_beginning (alone_by at g a by place) && eqb (last + 1) r) ≡ false → Elsewhere r last (change_by at g tr a by place)
+pub change_away : (r last : ℕ) (at : TurnContext) (g : Registry) (tr : List Entry) (a : Asked) (by : Option Principal) (place : Option ℕ) → is_on r place ≡ false → (is_beginning (alone_by at g a by place) && eqb (last + 1) r) ≡ false → Elsewhere r last (change_by at g tr a by place)
 change_away r last at g tr a by None off opens = alone_away r last at g (option_map who_of by) (outcome g [] a.command) (effect_of at g (option_map who_of by) a.session [] (outline a.command)) opens
 change_away r last at g tr a None (Some n) off opens = tt
 change_away r last at g tr a (Some by) (Some n) off opens = on_elsewhere r n last at g (who_of by) tr (effect_of at g (Some (who_of by)) a.session tr (outline a.command)) (grind (arith, nat_tests, off))
 
-pub what_away : (r last : ℕ) (at : At) (g : Registry) (tr : List Entry) (w : What) → is_on r (about w) ≡ false → (is_beginning (alone_in w at g) && eqb (last + 1) r) ≡ false → Elsewhere r last (change_in w at g tr)
+pub what_away : (r last : ℕ) (at : TurnContext) (g : Registry) (tr : List Entry) (w : What) → is_on r (about w) ≡ false → (is_beginning (alone_in w at g) && eqb (last + 1) r) ≡ false → Elsewhere r last (change_in w at g tr)
 what_away r last at g tr (Did a by) off opens = change_away r last at g tr a by (report_of a.command by) off opens
 what_away r last at g tr (Gap t) off opens = tt
 what_away r last at g tr Idle off opens = tt
@@ -106,11 +106,11 @@ opening_entry r last (LogsIn s) is = absurd (grind (arith, is))
 opening_entry r last (LogsOut turn who) is = absurd (grind (arith, is))
 opening_entry r last (Configures setting) is = absurd (grind (arith, is))
 
-pub opens_place : (at : At) (g : Registry) (tr : List Entry) (a : Asked) (by : Option Principal) (place : Option ℕ) (e : Entry) → alone_by at g a by place ≡ Begins e → change_by at g tr a by place ≡ Begins e
+pub opens_place : (at : TurnContext) (g : Registry) (tr : List Entry) (a : Asked) (by : Option Principal) (place : Option ℕ) (e : Entry) → alone_by at g a by place ≡ Begins e → change_by at g tr a by place ≡ Begins e
 opens_place at g tr a by None e is = is
 opens_place at g tr a by (Some n) e is = absurd (grind (arith, is))
 
-pub opens_in : (at : At) (g : Registry) (tr : List Entry) (w : What) (e : Entry) → alone_in w at g ≡ Begins e → change_in w at g tr ≡ Begins e
+pub opens_in : (at : TurnContext) (g : Registry) (tr : List Entry) (w : What) (e : Entry) → alone_in w at g ≡ Begins e → change_in w at g tr ≡ Begins e
 opens_in at g tr (Did a by) e is = opens_place at g tr a by (report_of a.command by) e is
 opens_in at g tr (Gap t) e is = is
 opens_in at g tr Idle e is = is
@@ -120,7 +120,7 @@ pub trails_same : (r : ℕ) (place : Option ℕ) (tr ts : ℕ → List Entry) �
 trails_same r None tr ts same off = refl
 trails_same r (Some n) tr ts same off = same n (grind (arith, nat_tests, off))
 
-pub what_steps : (r last : ℕ) (at : At) (g : Registry) (w v : What) (tr ts : ℕ → List Entry) → ((q : ℕ) → q ≢ r → ts q ≡ tr q) → WhatStep r last at g w v →
+pub what_steps : (r last : ℕ) (at : TurnContext) (g : Registry) (w v : What) (tr ts : ℕ → List Entry) → ((q : ℕ) → q ≢ r → ts q ≡ tr q) → WhatStep r last at g w v →
     GapStep r last (change_in w at g (trail_of (about w) tr)) (change_in v at g (trail_of (about v) ts)) (secret_in w g) (secret_in v g)
 what_steps r last at g w v tr ts same (stays e off opens) =
     kept (ap (λ x. change_in x at g (trail_of (about x) ts)) e ∙ ap (change_in w at g) (trails_same r (about w) tr ts same off)) (ap (λ x. secret_in x g) e) (what_away r last at g (trail_of (about w) tr) w off opens)

@@ -6,7 +6,7 @@ use Rattle.wb_model.specs.declared.command.Command.{Command}
 use Rattle.wb_model.specs.declared.command.Command.TheVariants as commands
 use Rattle.wb_model.specs.declared.entry.Entry.{Entry}
 use Rattle.wb_model.specs.declared.event.What.TheVariants.{Idle}
-use Rattle.wb_model.specs.Changes.{At, Change, Nothing, Begins, Answer, Verdict, Refused, Accepted, judged}
+use Rattle.wb_model.specs.Changes.{TurnContext, Change, Nothing, Begins, Answer, Verdict, Refused, Accepted, judged}
 use Rattle.wb_model.specs.Commands.{is_read, is_submission, is_of_sessions}
 use Rattle.wb_model.specs.Effects.{Effect, Misses, Looks, Reads, Writes, Erases, Submits, Comes, Goes, Sets}
 use Rattle.wb_model.specs.Host.{Tables, Host, change_of, ruling, ruling_at}
@@ -68,7 +68,7 @@ keeps_in past f x found changes other = by (has_tenant past (tenant_at f)) refl
 
 -- ---- a report begins by a submission alone
 
-begun_alone : (at : At) (g : Registry) (who : Option Who) (o : Outcome) (d : Command) (e : Effect) (entry : Entry) → IsSubmitted g d e → change_alone at g who o e ≡ Begins entry → is_submission d ≡ true
+begun_alone : (at : TurnContext) (g : Registry) (who : Option Who) (o : Outcome) (d : Command) (e : Effect) (entry : Entry) → IsSubmitted g d e → change_alone at g who o e ≡ Begins entry → is_submission d ≡ true
 begun_alone at g who o d (Submits c form) entry k e = k.0
 begun_alone at g who o d (Sets t proposal) entry k e = absurd (set_is (λ ch. ch ≡ Begins entry → ⊥) (setting_of t g proposal) (λ z. grind (arith, z)) (λ x is z. grind (arith, z)) e)
 begun_alone at g who o d Misses entry k e = absurd (grind (arith, e))
@@ -79,7 +79,7 @@ begun_alone at g who o d Erases entry k e = absurd (grind (arith, e))
 begun_alone at g who o d (Comes role) entry k e = absurd (grind (arith, e))
 begun_alone at g who o d (Goes turn) entry k e = absurd (grind (arith, e))
 
-begun_on : (at : At) (g : Registry) (who : Who) (n : ℕ) (trail : List Entry) (x : Effect) (entry : Entry) → change_on at g who n trail x ≡ Begins entry → ⊥
+begun_on : (at : TurnContext) (g : Registry) (who : Who) (n : ℕ) (trail : List Entry) (x : Effect) (entry : Entry) → change_on at g who n trail x ≡ Begins entry → ⊥
 begun_on at g who n trail (Writes doing) entry e = grind (arith, e)
 begun_on at g who n trail Erases entry e = grind (arith, e)
 begun_on at g who n trail (Comes role) entry e = grind (arith, e)
@@ -94,7 +94,7 @@ begun_judged : (o : Option Told) (ch : Change) (a : Answer) (entry : Entry) → 
 begun_judged None ch a entry e = e
 begun_judged (Some x) ch a entry e = absurd (grind (arith, e))
 
-pub submits_only : (p : Plain) (at : At) (q : Request) (t : Target) (entry : Entry) → change_of (verdict_on p at q t) ≡ Begins entry → is_submission q.command ≡ true
+pub submits_only : (p : Plain) (at : TurnContext) (q : Request) (t : Target) (entry : Entry) → change_of (verdict_on p at q t) ≡ Begins entry → is_submission q.command ≡ true
 submits_only p at q (Nobody x) entry e = absurd (grind (arith, e))
 submits_only p at q (Alone who) entry e = begun_alone at p.registry who q.outcome q.command (effect_at p at q who []) entry (submitted at p.registry who q.session [] q.command) (begun_judged _ _ _ entry e)
 submits_only p at q (On who c) entry e = absurd (begun_on at p.registry who c.number c.trail (effect_at p at q (Some who) c.trail) entry (begun_judged _ _ _ entry e))

@@ -6,7 +6,7 @@ use Rattle.wb_model.specs.declared.event.What.{What}
 use Rattle.wb_model.specs.declared.event.What.TheVariants.{Did, Gap, Idle, Lost}
 use Rattle.wb_model.specs.Tables.{Registry, Who}
 use Rattle.wb_model.specs.Requests.{Outcome, outline, outcome}
-use Rattle.wb_model.specs.Changes.{At, Change, Nothing, Configures}
+use Rattle.wb_model.specs.Changes.{TurnContext, Change, Nothing, Configures}
 use Rattle.wb_model.specs.Effects.{Effect, Submits, Sets, effect_of}
 use Rattle.wb_model.specs.Rules.{change_alone}
 use Rattle.std.specs.Option.{option_map_or}
@@ -53,12 +53,12 @@ setting_keeps t g (ToForm f (Err fault)) = tt
 setting_keeps t g (ToTenant next) = tt
 setting_keeps t g (ToUser u next) = tt
 
-pub change_alone_keeps : (at : At) (g : Registry) (who : Option Who) (o : Outcome) (e : Effect) → Keeps (change_alone at g who o e)
+pub change_alone_keeps : (at : TurnContext) (g : Registry) (who : Option Who) (o : Outcome) (e : Effect) → Keeps (change_alone at g who o e)
 change_alone_keeps at g who o (Sets t x) = setting_keeps t g x
 change_alone_keeps at g who o (Submits c form) = tt
 change_alone_keeps at g who o _ = tt
 
-pub alone_keeps : (w : What) (at : At) (g : Registry) → Keeps (alone_in w at g)
+pub alone_keeps : (w : What) (at : TurnContext) (g : Registry) → Keeps (alone_in w at g)
 alone_keeps (Did a by) at g = place (report_of a.command by)
   where
     place : (n : Option ℕ) → Keeps (alone_by at g a by n)

@@ -25,7 +25,7 @@ use Rattle.wb_model.specs.Faults.{admin_told}
 use Rattle.wb_model.specs.Refusing.{refuses_where}
 use Rattle.wb_model.specs.Requests.{Outcome, Request, open_form, form_of_trail}
 use Rattle.wb_model.specs.Settings.{OfTenant, OfUser, OfContext, OfForm, form_key, in_range, context_item, next_version, form_fault, Proposal, ToTenant, ToUser, ToContext, ToForm, proposal_refusal, setting_of}
-use Rattle.wb_model.specs.Changes.{At, Change, Nothing, Draws, Begins, Notes, Deletes, Configures, Answer, judged}
+use Rattle.wb_model.specs.Changes.{TurnContext, Change, Nothing, Draws, Begins, Notes, Deletes, Configures, Answer, judged}
 use Rattle.wb_model.specs.Effects.{Effect, Writes, Submits, Sets}
 use Rattle.wb_model.specs.Doings.{Doing, Acts, Moves, doing_entry}
 use Rattle.wb_model.specs.Acts.{act_deed}
@@ -273,7 +273,7 @@ proposal_made time t g (ToContext c next) e = by (nat_le 1 next.retention)
 proposal_made time t g (ToTenant next) e = tt
 proposal_made time t g (ToUser u next) e = tt
 
-alone_made : (at : At) (p : Plain) (who : Option Who) (o : Outcome) (d : Command) (e : Effect) → IsSubmitted p.registry d e → refusal_alone p.registry (drawing at p) o e ≡ None → IsMade at.time p.registry (change_alone at p.registry who o e)
+alone_made : (at : TurnContext) (p : Plain) (who : Option Who) (o : Outcome) (d : Command) (e : Effect) → IsSubmitted p.registry d e → refusal_alone p.registry (drawing at p) o e ≡ None → IsMade at.time p.registry (change_alone at p.registry who o e)
 unfolding submission_entry
 alone_made at p who o d (Submits c form) k free = (refl, asked_form (context k.1.0 p.registry.contexts) p.registry.forms form k.1.2)
 alone_made at p who o d (Sets t proposal) k free = proposal_made at.time t p.registry proposal free
@@ -292,7 +292,7 @@ doing_silent calendar time who trail (Moves move) = by move
     by (moves.Ask reason stamp) = refl
     by _ = refl
 
-on_made : (at : At) (g : Registry) (who : Who) (n : ℕ) (trail : List Entry) (e : Effect) → IsMade at.time g (change_on at g who n trail e)
+on_made : (at : TurnContext) (g : Registry) (who : Who) (n : ℕ) (trail : List Entry) (e : Effect) → IsMade at.time g (change_on at g who n trail e)
 on_made at g who n trail (Writes d) = doing_silent g.settings.calendar at.time who trail d
 on_made at g who n trail _ = tt
 
@@ -300,7 +300,7 @@ judged_made : (time : ℕ) (g : Registry) (o : Option Told) (ch : Change) (a : A
 judged_made time g None ch a h = h refl
 judged_made time g (Some x) ch a h = tt
 
-pub verdict_made : (p : Plain) (at : At) (q : Request) (t : Target) → IsMade at.time p.registry (change_of (verdict_on p at q t))
+pub verdict_made : (p : Plain) (at : TurnContext) (q : Request) (t : Target) → IsMade at.time p.registry (change_of (verdict_on p at q t))
 verdict_made p at q (Nobody x) = tt
 verdict_made p at q (Alone who) = judged_made at.time p.registry _ _ _ (λ free. alone_made at p who q.outcome q.command (effect_at p at q who []) (submitted at p.registry who q.session [] q.command) free)
 verdict_made p at q (On who c) = judged_made at.time p.registry _ _ _ (λ free. on_made at p.registry who c.number c.trail (effect_at p at q (Some who) c.trail))

@@ -9,7 +9,7 @@ use Rattle.wb_model.specs.declared.event.What.TheVariants.{Did, Gap, Idle, Lost}
 use Rattle.wb_model.specs.Trails.{has_identity}
 use Rattle.wb_model.specs.Requests.{Frame, plain_part}
 use Rattle.wb_model.specs.Tables.{Plain, Case, has_receipt, is_live, is_there, report}
-use Rattle.wb_model.specs.Changes.{At}
+use Rattle.wb_model.specs.Changes.{TurnContext}
 use Rattle.wb_model.specs.Host.{Tables, change_of, ruling}
 use Rattle.wb_model.specs.Legal.{Reckoning, reckoning, last_at, AreLegal}
 use Rattle.wb_model.specs.Opened.{AtMost, HaveForms, AreBegunBy, Apart, entries_of, AreOpened, Opened}
@@ -72,7 +72,7 @@ opening_kept o =
 
 request_kept : (t : ℕ) (past : Past Opened) (f : Frame) → AreByVerdicts t past → IsKept past → IsKept (Turn (event f (what_at t past f)) past)
 request_kept t past f verdicts is =
-    let at : At = at_frame past f in
+    let at : TurnContext = at_frame past f in
     let p : Plain = plain past at.time in
     record {
       made = subst AreMade (sym (ap (λ (x : Tables). x.plain) (turn_tables t past f)))

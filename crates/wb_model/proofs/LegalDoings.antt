@@ -30,7 +30,7 @@ use Rattle.wb_model.specs.Tables.{Registry}
 use Rattle.wb_model.specs.Faults.{case_told, custody_told}
 use Rattle.wb_model.specs.Acts.{closed, same_context, context_closed, not_external, extended, full, case_fault, act_deed}
 use Rattle.wb_model.specs.Moves.{unless_state, decided, not_granted, custody_fault, effective, move_deed}
-use Rattle.wb_model.specs.Changes.{At}
+use Rattle.wb_model.specs.Changes.{TurnContext}
 use Rattle.wb_model.specs.Requests.{Outcome}
 use Rattle.wb_model.specs.Submissions.{submission_entry}
 use Rattle.wb_model.specs.Doings.{Doing, Acts, Moves, doing_fault, doing_deed}
@@ -189,7 +189,7 @@ within day n least most = of (int_lt (day +ℤ pos n) (day +ℤ pos 1)) (int_lt 
 five : (a b c d e : Bool) → a ≡ true → b ≡ true → c ≡ true → d ≡ true → e ≡ true → (a && b && c && d && e) ≡ true
 five a b c d e f g h i j = grind (arith, f, g, h, i, j)
 
-pub submission_legal : (at : At) (g : Registry) (o : Outcome) (c : ContextItem) (form : FormItem) → 1 ≤ c.retention → c.retention ≤ 3_650 → are_readers c.recipients ≡ true → is_first (reckoning g.settings) (submission_entry at g o c form) ≡ true
+pub submission_legal : (at : TurnContext) (g : Registry) (o : Outcome) (c : ContextItem) (form : FormItem) → 1 ≤ c.retention → c.retention ≤ 3_650 → are_readers c.recipients ≡ true → is_first (reckoning g.settings) (submission_entry at g o c form) ≡ true
 unfolding submission_entry
 submission_legal at g o c form least most readers =
     let today : ℤ = day_of at.time g.settings.offset in

@@ -9,7 +9,7 @@ use Rattle.wb_model.specs.Fits.{fits_command}
 use Rattle.wb_model.specs.Tables.{Plain, Case, is_live}
 use Rattle.wb_model.specs.Targets.{Target, Nobody, Alone, On}
 use Rattle.wb_model.specs.Requests.{Frame, outline, plain_part}
-use Rattle.wb_model.specs.Changes.{At, Change, Begins, Deletes, Verdict, Refused, Accepted}
+use Rattle.wb_model.specs.Changes.{TurnContext, Change, Begins, Deletes, Verdict, Refused, Accepted}
 use Rattle.wb_model.specs.Host.{Tables, tables_after}
 use Rattle.wb_model.specs.Past.{Past, Opening, Turn, now, registry, alone_at, change_at, last, numbers_after, numbers, case_of, live_reports, held, tables}
 use Rattle.wb_model.specs.PastTurns.{at_frame, did, what_by, what_at, verdict_at, target_at}
@@ -115,7 +115,7 @@ opening_legal o =
 -- a request's turn
 request_legal : (t : ℕ) (past : Past Opened) (f : Frame) → fits_command f.asked.command ≡ true → IsLegal past → IsLegal (Turn (event f (what_at t past f)) past)
 request_legal t past f fits is =
-    let at : At = at_frame past f in
+    let at : TurnContext = at_frame past f in
     let p : Plain = plain_of past at.time in
     let e : Event = event f (what_at t past f) in
     let legal : AreLegal (reckoning (registry past).settings) at.time (live_reports past at.time) = live_legal past at.time (omega arith) is in

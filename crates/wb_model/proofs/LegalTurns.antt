@@ -17,7 +17,7 @@ use Rattle.wb_model.specs.Commands.{need}
 use Rattle.wb_model.specs.Tables.{Registry, Plain, Case, Who, TheUser, TheReporter, context, disablings}
 use Rattle.wb_model.specs.Targets.{Target, Nobody, Alone, On, target}
 use Rattle.wb_model.specs.Requests.{Outcome, Request}
-use Rattle.wb_model.specs.Changes.{At, Change, Begins, Deletes, Notes, Answer, judged}
+use Rattle.wb_model.specs.Changes.{TurnContext, Change, Begins, Deletes, Notes, Answer, judged}
 use Rattle.wb_model.specs.Effects.{Effect, Writes, Submits, Sets, effect_of}
 use Rattle.wb_model.specs.OnReports.{refusal_on, change_on}
 use Rattle.wb_model.specs.Rules.{change_alone, effect_at, verdict_on}
@@ -51,11 +51,11 @@ reporter_only (TheUser u) h = absurd h
 reporter_only (TheReporter n) h = refl
 
 -- what is written on a report asks rightly
-abbrev Asked : At → Registry → Who → Effect → Type 0
+abbrev Asked : TurnContext → Registry → Who → Effect → Type 0
 Asked at g who (Writes d) = AsksRightly (reckoning g.settings) at.time (actor_of who) d
 Asked at g who _ = Unit {0}
 
-effect_asked : (at : At) (g : Registry) (who : Who) (s : Presented) (es : List Entry) (d : Command) → IsSound g → IsCaller (need d) who → Asked at g who (effect_of at g (Some who) s es d)
+effect_asked : (at : TurnContext) (g : Registry) (who : Who) (s : Presented) (es : List Entry) (d : Command) → IsSound g → IsCaller (need d) who → Asked at g who (effect_of at g (Some who) s es d)
 effect_asked at g who s es (commands.OwnComment t text) sound h = tt
 effect_asked at g who s es (commands.GiveIdentity t answers) sound h = identity_is (Asked at g who) es g tt (reporter_only who h)
 effect_asked at g who s es (commands.Comment t n text internal) sound h = tt
@@ -95,7 +95,7 @@ unfaulted (Some x) rest e = absurd (grind (arith, e))
 
 -- ---- a submission
 
-opened_time : (at : At) (g : Registry) (o : Outcome) (c : ContextItem) (form : FormItem) → (submission_entry at g o c form).at ≡ at.time
+opened_time : (at : TurnContext) (g : Registry) (o : Outcome) (c : ContextItem) (form : FormItem) → (submission_entry at g o c form).at ≡ at.time
 unfolding submission_entry
 opened_time at g o c form = refl
 
@@ -162,13 +162,13 @@ legal_held days time (x ∷ cs) c legal (inl e) = subst (LegalCase days time) (s
 legal_held days time (x ∷ cs) c legal (inr h) = legal_held days time cs c legal.1 h
 
 -- what is written on a report is legal there
-on_right : (at : At) (g : Registry) (who : Who) (c : Case) (o : Outcome) (cs : List Case) (e : Effect) → last_at 0 c.trail ≤ at.time → Asked at g who e → refusal_on at g who c o e ≡ None → ((d : Case) → Held d cs → d.number ≡ c.number → c ≡ d) → Right_change (reckoning g.settings) at.time cs (change_on at g who c.number c.trail e)
+on_right : (at : TurnContext) (g : Registry) (who : Who) (c : Case) (o : Outcome) (cs : List Case) (e : Effect) → last_at 0 c.trail ≤ at.time → Asked at g who e → refusal_on at g who c o e ≡ None → ((d : Case) → Held d cs → d.number ≡ c.number → c ≡ d) → Right_change (reckoning g.settings) at.time cs (change_on at g who c.number c.trail e)
 on_right at g who c o cs (Writes d) le asked free one =
     (omega arith, (λ x h same. subst (λ (z : Case). is_next (reckoning g.settings) (last_at 0 z.trail) z.trail (doing_entry g.settings.calendar at.time who c.trail d) ≡ true) (one x h same) (doing_legal (reckoning g.settings) (last_at 0 c.trail) at.time c.trail (actor_of who) d le asked (unfaulted (outcome_refusal o) _ free))))
 on_right at g who c o cs _ le asked free one = tt
 
 -- and a report that begins is
-alone_right : (at : At) (g : Registry) (who : Option Who) (o : Outcome) (cs : List Case) (d : Command) (e : Effect) → IsSound g → IsSubmitted g d e → Right_change (reckoning g.settings) at.time cs (change_alone at g who o e)
+alone_right : (at : TurnContext) (g : Registry) (who : Option Who) (o : Outcome) (cs : List Case) (d : Command) (e : Effect) → IsSound g → IsSubmitted g d e → Right_change (reckoning g.settings) at.time cs (change_alone at g who o e)
 alone_right at g who o cs d (Submits c form) sound k =
     let known = found_sound k.1.0 g.contexts c sound.contexts k.1.1 in
     (ap (λ b. b && true) (submission_legal at g o c form known.0 known.1 known.2), (let same : (submission_entry at g o c form).at ≡ at.time = opened_time at g o c form in omega (arith, same)))
@@ -179,7 +179,7 @@ judged_right : (days : Reckoning) (time : ℕ) (cs : List Case) (o : Option Told
 judged_right days time cs None ch a h = h refl
 judged_right days time cs (Some x) ch a h = tt
 
-verdict_right : (p : Plain) (at : At) (q : Request) (t : Target) → IsSound p.registry → Called (need q.command) t → ((who : Who) (c : Case) → t ≡ On who c → Held c p.cases) → Ascend 0 p.cases → AreLegal (reckoning p.registry.settings) at.time p.cases →
+verdict_right : (p : Plain) (at : TurnContext) (q : Request) (t : Target) → IsSound p.registry → Called (need q.command) t → ((who : Who) (c : Case) → t ≡ On who c → Held c p.cases) → Ascend 0 p.cases → AreLegal (reckoning p.registry.settings) at.time p.cases →
     Right_change (reckoning p.registry.settings) at.time p.cases (change_of (verdict_on p at q t))
 verdict_right p at q (Nobody x) sound called known up legal = tt
 verdict_right p at q (Alone who) sound called known up legal = judged_right (reckoning p.registry.settings) at.time p.cases _ _ _ (λ free.
@@ -189,7 +189,7 @@ verdict_right p at q (On who c) sound called known up legal = judged_right (reck
     on_right at p.registry who c q.outcome p.cases (effect_at p at q (Some who) c.trail) here.1 (effect_asked at p.registry who q.session c.trail q.command sound called) free
     (λ d h same. one_case 0 p.cases c d up (known who c refl) h (sym same)))
 
-pub turn_legal : (p : Plain) (at : At) (q : Request) → IsSound p.registry → ((who : Who) (c : Case) → target p q.session q.command ≡ On who c → Held c p.cases) → Ascend 0 p.cases → AreLegal (reckoning p.registry.settings) at.time p.cases →
+pub turn_legal : (p : Plain) (at : TurnContext) (q : Request) → IsSound p.registry → ((who : Who) (c : Case) → target p q.session q.command ≡ On who c → Held c p.cases) → Ascend 0 p.cases → AreLegal (reckoning p.registry.settings) at.time p.cases →
     AreLegal (reckoning p.registry.settings) at.time (cases_after (change_of (verdict_on p at q (target p q.session q.command))) p.numbering.last p.cases)
 turn_legal p at q sound known up legal =
     change_legal (reckoning p.registry.settings) at.time p.numbering.last p.cases (change_of (verdict_on p at q (target p q.session q.command))) (verdict_right p at q (target p q.session q.command) sound (target_called p q.session q.command) known up legal) legal

@@ -19,7 +19,7 @@ use Rattle.wb_model.specs.declared.registry.FormItem.{FormItem}
 use Rattle.wb_model.specs.Trails.{is_marked, has_identity}
 use Rattle.wb_model.specs.Tables.{Registry, Who, context, disablings}
 use Rattle.wb_model.specs.Requests.{Outcome, mark, asking_form, submission_outcome, submission_secret, outcome, outline, secret_of}
-use Rattle.wb_model.specs.Changes.{At, Change, Begins, Notes}
+use Rattle.wb_model.specs.Changes.{TurnContext, Change, Begins, Notes}
 use Rattle.wb_model.specs.Effects.{Effect, Writes, Submits, Sets, effect_of}
 use Rattle.wb_model.specs.OnReports.{change_on}
 use Rattle.wb_model.specs.Rules.{change_alone}
@@ -39,15 +39,15 @@ Says _ secret = Unit {0}
 -- ---- what a request writes
 
 -- what is written on a report, by a command that gives identity answers or not
-abbrev Writing : Calendar → At → Who → List Entry → Option Answered → Effect → Type 0
+abbrev Writing : Calendar → TurnContext → Who → List Entry → Option Answered → Effect → Type 0
 Writing calendar at who trail secret (Writes d) = is_some secret ≡ is_marked (doing_entry calendar at.time who trail d).deed
 Writing calendar at who trail secret _ = Unit {0}
 
-on_says : (at : At) (g : Registry) (who : Who) (n : ℕ) (trail : List Entry) (e : Effect) (secret : Option Answered) → Writing g.settings.calendar at who trail secret e → Says (change_on at g who n trail e) secret
+on_says : (at : TurnContext) (g : Registry) (who : Who) (n : ℕ) (trail : List Entry) (e : Effect) (secret : Option Answered) → Writing g.settings.calendar at who trail secret e → Says (change_on at g who n trail e) secret
 on_says at g who n trail (Writes d) secret w = w
 on_says at g who n trail _ secret w = tt
 
-effect_says : (at : At) (g : Registry) (who : Who) (s : Presented) (trail : List Entry) (d : Command) → Writing g.settings.calendar at who trail (secret_of g d) (effect_of at g (Some who) s trail (outline d))
+effect_says : (at : TurnContext) (g : Registry) (who : Who) (s : Presented) (trail : List Entry) (d : Command) → Writing g.settings.calendar at who trail (secret_of g d) (effect_of at g (Some who) s trail (outline d))
 effect_says at g who s trail (commands.Share t n reader) = share_is (Writing g.settings.calendar at who trail None) reader g tt refl
 effect_says at g who s trail (commands.Transfer t n c) = transfer_is (Writing g.settings.calendar at who trail None) c g tt (λ x is. refl)
 effect_says at g who s trail (commands.Decide t n k decision reason withhold) = decide_is (Writing g.settings.calendar at who trail None) k g trail decision reason withhold tt (λ r y. by r y)
@@ -80,17 +80,17 @@ secret_says : (b : Bool) (x : Answered) → is_some (cond b (Some x) None) ≡ b
 secret_says true x = refl
 secret_says false x = refl
 
-submits_says : (at : At) (g : Registry) (c : ContextItem) (form : FormItem) (asking : Option FormItem) (answers : Answered) → Says (Begins (submission_entry at g (submission_outcome asking answers) c form)) (submission_secret asking answers)
+submits_says : (at : TurnContext) (g : Registry) (c : ContextItem) (form : FormItem) (asking : Option FormItem) (answers : Answered) → Says (Begins (submission_entry at g (submission_outcome asking answers) c form)) (submission_secret asking answers)
 unfolding submission_entry
 submits_says at g c form None answers = refl
 submits_says at g c form (Some x) answers = secret_says (mark x.form answers) _
 
-others_say : (at : At) (g : Registry) (who : Option Who) (o : Outcome) (secret : Option Answered) (d : Command) (e : Effect) → IsSubmitted g d e → (is_submission d ≡ true → ⊥) → Says (change_alone at g who o e) secret
+others_say : (at : TurnContext) (g : Registry) (who : Option Who) (o : Outcome) (secret : Option Answered) (d : Command) (e : Effect) → IsSubmitted g d e → (is_submission d ≡ true → ⊥) → Says (change_alone at g who o e) secret
 others_say at g who o secret d (Submits c form) k other = absurd (other k.0)
 others_say at g who o secret d (Sets t proposal) k other = set_is (λ x. Says x secret) _ tt (λ x is. tt)
 others_say at g who o secret d _ k other = tt
 
-alone_says : (at : At) (g : Registry) (who : Option Who) (s : Presented) (o : Outcome) (d : Command) → o ≡ outcome g [] d → Says (change_alone at g who o (effect_of at g who s [] (outline d))) (secret_of g d)
+alone_says : (at : TurnContext) (g : Registry) (who : Option Who) (s : Presented) (o : Outcome) (d : Command) → o ≡ outcome g [] d → Says (change_alone at g who o (effect_of at g who s [] (outline d))) (secret_of g d)
 alone_says at g who s o (commands.Submit t c answers) e =
     in_open_is (λ x. Says (change_alone at g who o x) (submission_secret (asking_form (context c g.contexts) g.forms) answers)) Submits c g tt
     (λ x y is form. subst (λ z. Says (Begins (submission_entry at g z x y)) (submission_secret (asking_form (context c g.contexts) g.forms) answers)) (sym e) (submits_says at g x y (asking_form (context c g.contexts) g.forms) answers))
@@ -98,12 +98,12 @@ alone_says at g who s o d e = others_say at g who o (secret_of g d) (outline d) 
 
 -- ---- an event
 
-change_says : (at : At) (g : Registry) (trail : List Entry) (a : Asked) (by : Option Principal) (place : Option ℕ) → Says (change_by at g trail a by place) (secret_of g a.command)
+change_says : (at : TurnContext) (g : Registry) (trail : List Entry) (a : Asked) (by : Option Principal) (place : Option ℕ) → Says (change_by at g trail a by place) (secret_of g a.command)
 change_says at g trail a by None = alone_says at g (option_map who_of by) a.session (outcome g [] a.command) a.command refl
 change_says at g trail a None (Some n) = tt
 change_says at g trail a (Some by) (Some n) = on_says at g (who_of by) n trail (effect_of at g (Some (who_of by)) a.session trail (outline a.command)) (secret_of g a.command) (effect_says at g (who_of by) a.session trail a.command)
 
-what_says : (w : What) (at : At) (g : Registry) (trail : List Entry) → Says (change_in w at g trail) (secret_in w g)
+what_says : (w : What) (at : TurnContext) (g : Registry) (trail : List Entry) → Says (change_in w at g trail) (secret_in w g)
 what_says (Did a by) at g trail = change_says at g trail a by (report_of a.command by)
 what_says (Gap t) at g trail = tt
 what_says Idle at g trail = tt

@@ -3,7 +3,7 @@ use Rattle.std.proofs.Common.{◌≡◌, ℕ, ◌+◌, ◌≤◌, Bool, true, fa
 use Rattle.std.specs.Prelude.{map, max, find, ◌||◌}
 use Rattle.wb_model.specs.declared.body.Told.{Told}
 use Rattle.wb_model.specs.Requests.{Frame}
-use Rattle.wb_model.specs.Changes.{At}
+use Rattle.wb_model.specs.Changes.{TurnContext}
 use Rattle.wb_model.specs.Host.{purged, reply_by, ruling, tables_after}
 use Rattle.wb_model.specs.Tenants.{tenant_at, Tenancy, Hosts, has_id, without_tenant, tenancy_reply, hosts_reply, hosts_after, hosts_lost}
 use Rattle.wb_model.specs.Past.{Past}
@@ -51,7 +51,7 @@ same_end past other (p ∷ ps) e = same_end (play past p).past (play other p).pa
 
 -- ---- two that differ in their time
 
-abbrev at_time : ℕ → ℕ → Frame → At
+abbrev at_time : ℕ → ℕ → Frame → TurnContext
 at_time turns time f = record { time = time; turn = turns + 1; words = f.words }
 
 abbrev told_at : ℕ → ℕ → Frame → Option Tenancy → Told

@@ -14,7 +14,7 @@ use Rattle.wb_base.specs.AnswerList.{Answered}
 use Rattle.wb_model.specs.declared.entry.Entry.{Entry}
 use Rattle.wb_model.specs.declared.registry.TenantItem.{TenantItem}
 use Rattle.wb_model.specs.Tables.{Plain, Case, Session, Who, TheUser, TheReporter, is_there, is_live, stays, lasts, others}
-use Rattle.wb_model.specs.Changes.{At, Change, Draws, Begins, Notes, Deletes}
+use Rattle.wb_model.specs.Changes.{TurnContext, Change, Draws, Begins, Notes, Deletes}
 use Rattle.wb_model.specs.Host.{Sealed, Tables, purged, is_draw, noted, cases_after, sealed_under, sealed_after}
 use Rattle.wb_model.specs.Past.{Past, Opening, Turn, registry, alone_at, at_of, about, trail_of, change_at, has_report, last, numbers_after, numbers, grown, lives_at, trail, live, newer, given, sealed, case_of, live_reports, logins, is_ended, stands, standing_sessions, plain, tables}
 use Rattle.wb_model.specs.Opened.{AtMost, Opened}
@@ -200,7 +200,7 @@ map_gone past n (m ∷ ns) = by (eqb m n) (map_gone past n ns)
     by false ih = ap (λ cs. case_of past m ∷ cs) ih
 
 -- the live reports after a change that fits
-pub cases_law : (past : Past Opened) (at : At) (ch : Change) → Fits at (plain past at.time) ch
+pub cases_law : (past : Past Opened) (at : TurnContext) (ch : Change) → Fits at (plain past at.time) ch
     → filter (is_live (registry past).settings at.time) (map (case_after past at.time ch) (numbers_after ch (last past) (numbers past))) ≡ cases_after ch (last past) (live_reports past at.time)
 cases_law past at (Begins e) fits =
     let g : ℕ → Case = case_after past at.time (Begins e) in
@@ -279,7 +279,7 @@ sealed_off true false o = refl
 sealed_off false true o = refl
 sealed_off false false o = refl
 
-pub sealed_law : (past : Past Opened) (at : At) (ch : Change) (secret : Option Answered) (q : ℕ) → Fits at (plain past at.time) ch
+pub sealed_law : (past : Past Opened) (at : TurnContext) (ch : Change) (secret : Option Answered) (q : ℕ) → Fits at (plain past at.time) ch
     → cond (is_there q (cases_after ch (last past) (live_reports past at.time))) (given ch (last past) q (lives_at (registry past) at.time q (trail past q)) secret (sealed past q)) None ≡ sealed_after ch (last past) secret (tables past at.time).sealed q
 sealed_law past at (Begins e) secret q fits =
     ap (λ b. cond b (given (Begins e) (last past) q (lives_at (registry past) at.time q (trail past q)) secret (sealed past q)) None) (pushed q (live_reports past at.time) (record { number = last past + 1; trail = e ∷ [] }))

@@ -14,7 +14,7 @@ use Rattle.wb_model.specs.declared.command.Command.TheVariants as commands
 use Rattle.wb_model.specs.declared.registry.UserItem.{UserItem}
 use Rattle.wb_model.specs.Refusals.{not_found, wrong_role, wrong_right, bad_login}
 use Rattle.wb_model.specs.Tables.{Plain, Case, Session, Who, TheUser, TheReporter, user, user_named, report, has_number, with_receipt, session}
-use Rattle.wb_model.specs.Targets.{Target, Nobody, Alone, On, finds, same_role, named_case, user_target, own_case, reporter_target, some_user_target, who_target, session_target, entering, returning, unasked, needed_target, target}
+use Rattle.wb_model.specs.Targets.{Target, Nobody, Alone, On, finds, same_role, named_case, user_target, own_case, reporter_target, some_user_target, who_target, session_target, by_password, by_receipt, anonymous, needed_target, target}
 use Rattle.wb_model.specs.Commands.{Need, Anyone, Any_session, Own, Staff, Names, need, has_right}
 use Rattle.wb_model.specs.Requests.{outline}
 use Rattle.wb_model.specs.Past.{named, report_of, who_of}
@@ -71,25 +71,25 @@ session_placed : (t : ℕ) (d : Command) (p : Plain) (k : Need) (o : Option Sess
 session_placed t d p k None e = tt
 session_placed t d p k (Some s) e = who_placed t d p s.role k s.who e
 
-entering_placed : (t : ℕ) (d : Command) (b : Bool) (u : ℕ) → named (need d) ≡ None → IsPlaced t d (cond b (Alone (Some (TheUser u))) (Nobody bad_login))
-entering_placed t d true u e = e
-entering_placed t d false u e = tt
+by_password_placed : (t : ℕ) (d : Command) (b : Bool) (u : ℕ) → named (need d) ≡ None → IsPlaced t d (cond b (Alone (Some (TheUser u))) (Nobody bad_login))
+by_password_placed t d true u e = e
+by_password_placed t d false u e = tt
 
-user_entering : (t : ℕ) (d : Command) (salt : Salt) (password : List ℕ) (o : Option UserItem) → named (need d) ≡ None → IsPlaced t d (entering salt password o)
+user_entering : (t : ℕ) (d : Command) (salt : Salt) (password : List ℕ) (o : Option UserItem) → named (need d) ≡ None → IsPlaced t d (by_password salt password o)
 user_entering t d salt password None e = tt
-user_entering t d salt password (Some x) e = entering_placed t d (x.enabled && same_digest x.secret (digest salt password)) x.id e
+user_entering t d salt password (Some x) e = by_password_placed t d (x.enabled && same_digest x.secret (digest salt password)) x.id e
 
-returning_placed : (t : ℕ) (d : Command) (o : Option Case) → IsPlaced t d (returning o)
-returning_placed t d None = tt
-returning_placed t d (Some c) = refl
+by_receipt_placed : (t : ℕ) (d : Command) (o : Option Case) → IsPlaced t d (by_receipt o)
+by_receipt_placed t d None = tt
+by_receipt_placed t d (Some c) = refl
 
-unasked_placed : (t : ℕ) (p : Plain) (d : Command) → IsPlaced t d (unasked p d)
-unasked_placed t p (commands.Login k name password) = user_entering t (commands.Login k name password) p.registry.settings.salt password (user_named name p.registry.users) refl
-unasked_placed t p (commands.ReceiptLogin k receipt) = returning_placed t (commands.ReceiptLogin k receipt) (with_receipt (digest p.registry.settings.salt receipt) p.cases)
-unasked_placed t p _ = refl
+anonymous_placed : (t : ℕ) (p : Plain) (d : Command) → IsPlaced t d (anonymous p d)
+anonymous_placed t p (commands.Login k name password) = user_entering t (commands.Login k name password) p.registry.settings.salt password (user_named name p.registry.users) refl
+anonymous_placed t p (commands.ReceiptLogin k receipt) = by_receipt_placed t (commands.ReceiptLogin k receipt) (with_receipt (digest p.registry.settings.salt receipt) p.cases)
+anonymous_placed t p _ = refl
 
 needed_placed : (t : ℕ) (p : Plain) (presented : Presented) (d : Command) (k : Need) → need d ≡ k → IsPlaced t d (needed_target p presented d k)
-needed_placed t p presented d Anyone e = unasked_placed t p d
+needed_placed t p presented d Anyone e = anonymous_placed t p d
 needed_placed t p presented d Any_session e = session_placed t d p Any_session (session p.registry.settings.salt presented p.sessions) e
 needed_placed t p presented d Own e = session_placed t d p Own (session p.registry.settings.salt presented p.sessions) e
 needed_placed t p presented d (Staff role) e = session_placed t d p (Staff role) (session p.registry.settings.salt presented p.sessions) e

@@ -152,8 +152,8 @@ unknown_none None rest e = (refl, e)
 unknown_none (Some id) rest e = absurd cc
 
 -- the fault of each field that is looked at, over two looks
-abbrev At : (Field → Bool) → Look → Bool → Bool → Field → Option ℕ
-At looked look marked shown f = cond (looked f) (field_fault shown marked f (look f.id)) None
+abbrev TurnContext : (Field → Bool) → Look → Bool → Bool → Field → Option ℕ
+TurnContext looked look marked shown f = cond (looked f) (field_fault shown marked f (look f.id)) None
 
 abbrev length_same : List Field → List Bool → Bool
 length_same [] [] = true
@@ -163,13 +163,13 @@ length_same (f ∷ fs) (t ∷ ts) = length_same fs ts
 
 -- no field has a fault where none had one before
 no_faults : (looked before_looked : Field → Bool) (look before : Look) (marked was : Bool) (fs : List Field) (ss ts : List Bool) →
-    ((k : ℕ) (f : Field) → slice_get fs k ≡ Some f → At before_looked before was (get_or ts k false) f ≡ None → At looked look marked (get_or ss k false) f ≡ None) →
+    ((k : ℕ) (f : Field) → slice_get fs k ≡ Some f → TurnContext before_looked before was (get_or ts k false) f ≡ None → TurnContext looked look marked (get_or ss k false) f ≡ None) →
     length_same fs ts ≡ true → first_fault before_looked before was ts fs ≡ None → first_fault looked look marked ss fs ≡ None
 no_faults looked before_looked look before marked was fs [] ts up same none = refl
 no_faults looked before_looked look before marked was [] (s ∷ ss) ts up same none = refl
 no_faults looked before_looked look before marked was (f ∷ fs) (s ∷ ss) [] up same none = absurd cc
 no_faults looked before_looked look before marked was (f ∷ fs) (s ∷ ss) (t ∷ ts) up same none =
-    let parts = next_none (At before_looked before was t f) f.id (first_fault before_looked before was ts fs) none in
+    let parts = next_none (TurnContext before_looked before was t f) f.id (first_fault before_looked before was ts fs) none in
     ap (λ o. or_next o f.id (first_fault looked look marked ss fs)) (up zero f refl parts.0)
     ∙ no_faults looked before_looked look before marked was fs ss ts (λ k g e. up (suc k) g e) same parts.1
 

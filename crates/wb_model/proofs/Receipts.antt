@@ -16,7 +16,7 @@ use Rattle.wb_model.specs.Tables.{Registry, Plain, Case, Who, has_receipt, with_
 use Rattle.wb_model.specs.Targets.{Target, Nobody, Alone, On}
 use Rattle.wb_model.specs.Refusals.{numbers_spent, quota_spent, receipt_taken}
 use Rattle.wb_model.specs.Requests.{Frame, Outcome, Request, plain_part}
-use Rattle.wb_model.specs.Changes.{At, Change, Begins, Deletes, Notes, Answer, judged}
+use Rattle.wb_model.specs.Changes.{TurnContext, Change, Begins, Deletes, Notes, Answer, judged}
 use Rattle.wb_model.specs.Effects.{Effect, Writes, Submits, Sets}
 use Rattle.wb_model.specs.OnReports.{change_on}
 use Rattle.wb_model.specs.Rules.{refusal_alone, change_alone, effect_at, verdict_on}
@@ -59,7 +59,7 @@ untaken : (o : Option Case) → is_some o ≡ false → o ≡ None
 untaken None e = refl
 untaken (Some c) e = absurd (grind (arith, e))
 
-opened_own : (at : At) (g : Registry) (o : Outcome) (x : ContextItem) (form : FormItem) (cs : List Case) → is_some (with_receipt (digest g.settings.salt (receipt_text at.words)) cs) ≡ false → HasOwnReceipt (submission_entry at g o x form) cs
+opened_own : (at : TurnContext) (g : Registry) (o : Outcome) (x : ContextItem) (form : FormItem) (cs : List Case) → is_some (with_receipt (digest g.settings.salt (receipt_text at.words)) cs) ≡ false → HasOwnReceipt (submission_entry at g o x form) cs
 unfolding submission_entry
 opened_own at g o x form cs free d n is =
     let same : (digest g.settings.salt (receipt_text at.words)).0 ≡ d.0 = same_text (digest g.settings.salt (receipt_text at.words)).0 d.0 is in
@@ -73,12 +73,12 @@ last_rule None true c true x y z e = absurd (grind (arith, e))
 last_rule None false true true x y z e = absurd (grind (arith, e))
 last_rule None false false true x y z e = absurd (grind (arith, e))
 
-alone_own : (at : At) (p : Plain) (who : Option Who) (o : Outcome) (e : Effect) → refusal_alone p.registry (drawing at p) o e ≡ None → HasOwn p (change_alone at p.registry who o e)
+alone_own : (at : TurnContext) (p : Plain) (who : Option Who) (o : Outcome) (e : Effect) → refusal_alone p.registry (drawing at p) o e ≡ None → HasOwn p (change_alone at p.registry who o e)
 alone_own at p who o (Submits c form) free = opened_own at p.registry o c form p.cases (last_rule (outcome_refusal o) (nat_le 4_294_967_295 p.numbering.last) (nat_le p.registry.settings.quota (drawing at p).today) (drawing at p).taken numbers_spent (quota_spent p.registry.settings.quota) receipt_taken free)
 alone_own at p who o (Sets t proposal) free = set_is (HasOwn p) _ tt (λ x is. tt)
 alone_own at p who o _ free = tt
 
-on_own : (at : At) (p : Plain) (who : Who) (c : Case) (e : Effect) → HasOwn p (change_on at p.registry who c.number c.trail e)
+on_own : (at : TurnContext) (p : Plain) (who : Who) (c : Case) (e : Effect) → HasOwn p (change_on at p.registry who c.number c.trail e)
 on_own at p who c (Writes d) = doing_receipt p.registry.settings.calendar at.time who c.trail d
 on_own at p who c _ = tt
 
@@ -86,7 +86,7 @@ judged_own : (p : Plain) (o : Option Told) (ch : Change) (a : Answer) → (o ≡
 judged_own p None ch a h = h refl
 judged_own p (Some x) ch a h = tt
 
-pub verdict_own : (p : Plain) (at : At) (q : Request) (t : Target) → HasOwn p (change_of (verdict_on p at q t))
+pub verdict_own : (p : Plain) (at : TurnContext) (q : Request) (t : Target) → HasOwn p (change_of (verdict_on p at q t))
 verdict_own p at q (Nobody x) = tt
 verdict_own p at q (Alone who) = judged_own p _ _ _ (λ free. alone_own at p who q.outcome (effect_at p at q who []) free)
 verdict_own p at q (On who c) = judged_own p _ _ _ (λ free. on_own at p who c (effect_at p at q (Some who) c.trail))

@@ -19,7 +19,7 @@ use Rattle.wb_model.specs.declared.entry.Entry.{Entry}
 use Rattle.wb_model.specs.declared.registry.UserItem.{UserItem}
 use Rattle.wb_model.specs.declared.setting.AdminFault.TheVariants as admin
 use Rattle.wb_model.specs.Acts.{closed, has_status, acknowledged, has_reader, not_reader, same_context, context_closed, postpone_spent, not_external, extended, full, case_fault}
-use Rattle.wb_model.specs.Changes.{At}
+use Rattle.wb_model.specs.Changes.{TurnContext}
 use Rattle.wb_model.specs.Doings.{Doing, Acts, Moves, doing_fault, actor_of}
 use Rattle.wb_model.specs.Access.{request_at, user_by, requests, state_now, is_waiting, is_granted}
 use Rattle.wb_model.specs.Trails.{has_identity}
@@ -177,7 +177,7 @@ alone_refused g n o (ReadsPart part) = served_not_found
 alone_refused g n o (Writes doing) = served_not_found
 alone_refused g n o Erases = served_not_found
 
-pub on_refused : (at : At) (g : Registry) (who : Who) (c : Case) (o : Outcome) (does : Effect) → RefusalServed (refusal_on at g who c o does)
+pub on_refused : (at : TurnContext) (g : Registry) (who : Who) (c : Case) (o : Outcome) (does : Effect) → RefusalServed (refusal_on at g who c o does)
 on_refused at g who c o (ReadsPart ToReader) = tt
 on_refused at g who c o (ReadsPart ToReporter) = tt
 on_refused at g who c o (ReadsPart TheIdentity) = where_served _ not_found served_not_found

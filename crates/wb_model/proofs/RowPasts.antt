@@ -17,7 +17,7 @@ use Rattle.wb_model.specs.declared.event.What.TheVariants.{Did}
 use Rattle.wb_model.specs.Trails.{has_identity}
 use Rattle.wb_model.specs.Tables.{Who, TheUser, Case, report}
 use Rattle.wb_model.specs.Requests.{Unchecked}
-use Rattle.wb_model.specs.Changes.{At, Answer}
+use Rattle.wb_model.specs.Changes.{TurnContext, Answer}
 use Rattle.wb_model.specs.OnReports.{refusal_on, answer_on}
 use Rattle.wb_model.specs.Effects.{Effect, effect_of}
 use Rattle.wb_model.proofs.Starter.{starter_registry, starter_tables}
@@ -72,7 +72,7 @@ abbrev pub did : ℕ → ℕ → Command → Past Opened → Past Opened
 did s u command past = Turn (record { moment = after s; words = record { 0 = 0 ∷ 0 ∷ 0 ∷ 0 ∷ [] }; what = Did (record { command = command; session = presented.None; close = false }) (Some (principals.User 1 u)) }) past
 
 -- what refuses a user's command on the report at a moment, and what is answered to it
-abbrev pub at : ℕ → At
+abbrev pub at : ℕ → TurnContext
 at s = record { time = after s; turn = 0; words = record { 0 = 0 ∷ 0 ∷ 0 ∷ 0 ∷ [] } }
 
 abbrev pub does : Past Opened → ℕ → Who → Command → Effect

@@ -13,8 +13,8 @@ use Rattle.wb_model.specs.declared.entry.Deed.TheVariants as deeds
 use Rattle.wb_model.specs.declared.registry.UserItem.{UserItem}
 use Rattle.wb_model.specs.Refusals.{no_session, bad_login, receipt_taken}
 use Rattle.wb_model.specs.Tables.{Plain, Case, Session, TheUser, TheReporter}
-use Rattle.wb_model.specs.Targets.{Nobody, Alone, On, entering, target}
-use Rattle.wb_model.specs.Changes.{At}
+use Rattle.wb_model.specs.Targets.{Nobody, Alone, On, by_password, target}
+use Rattle.wb_model.specs.Changes.{TurnContext}
 use Rattle.wb_model.specs.Requests.{Checked}
 use Rattle.wb_model.specs.Submissions.{drawing, submission_refusal}
 use Rattle.wb_model.proofs.Starter.{starter_registry, starter_tables, starter_salt, starter_user}
@@ -43,11 +43,11 @@ secret-row = refl
 abbrev ada : UserItem
 ada = starter_user 1 (codes "ada") roles.Recipient (codes "ada-pass") true
 
-login-row : entering starter_salt (codes "ada-pass") (Some ada) ≡ Alone (Some (TheUser 1))
+login-row : by_password starter_salt (codes "ada-pass") (Some ada) ≡ Alone (Some (TheUser 1))
 unfolding digest sha256 digest_bytes hash_after compress rounds schedule first_words
 login-row = refl
 
-wrong-password-row : entering starter_salt (codes "ada-pas") (Some ada) ≡ Nobody bad_login
+wrong-password-row : by_password starter_salt (codes "ada-pas") (Some ada) ≡ Nobody bad_login
 unfolding digest sha256 digest_bytes hash_after compress rounds schedule first_words
 wrong-password-row = refl
 
@@ -63,7 +63,7 @@ standing = record { turn = 2; digest = digest starter_salt (secret_text (words 7
 abbrev one : Plain
 one = record starter_tables.plain { cases = begun ∷ []; sessions = standing ∷ [] }
 
-abbrev drawn : ℕ → At
+abbrev drawn : ℕ → TurnContext
 drawn k = record { time = after 10; turn = 3; words = words k }
 
 taken-row : submission_refusal 50 (drawing (drawn 42) one) (Checked None [] false) ≡ Some receipt_taken

@@ -11,7 +11,7 @@ use Rattle.wb_model.specs.declared.event.What.{What}
 use Rattle.wb_model.specs.declared.event.What.TheVariants.{Did, Gap, Idle, Lost}
 use Rattle.wb_model.specs.Tables.{Registry, Case, Session, Who, TheUser, TheReporter, is_there, stays, lasts, others, is_reporter_of}
 use Rattle.wb_model.specs.Requests.{Outcome, outline, outcome}
-use Rattle.wb_model.specs.Changes.{At, Change, Begins, Notes, Deletes, LogsIn, LogsOut, Configures}
+use Rattle.wb_model.specs.Changes.{TurnContext, Change, Begins, Notes, Deletes, LogsIn, LogsOut, Configures}
 use Rattle.wb_model.specs.Effects.{Effect, Comes, Sets, effect_of}
 use Rattle.wb_model.specs.OnReports.{change_on}
 use Rattle.wb_model.specs.Rules.{change_alone}
@@ -67,29 +67,29 @@ are_within turn k (z ∷ ss) s are (inl e) = subst (Within turn k) (sym e) are.0
 are_within turn k (z ∷ ss) s are (inr h) = are_within turn k ss s are.1 h
 
 -- a session that begins is of its turn and of its moment
-abbrev pub IsBegun : At → Session → Type 0
+abbrev pub IsBegun : TurnContext → Session → Type 0
 IsBegun at s = (s.turn ≡ at.turn) × (s.at ≡ at.time)
 
-begun : (at : At) (s z : Session) → s ≡ z → IsBegun at z → IsBegun at s
+begun : (at : TurnContext) (s z : Session) → s ≡ z → IsBegun at z → IsBegun at s
 begun at s z e is = subst (IsBegun at) (sym e) is
 
-begun_on : (at : At) (g : Registry) (who : Who) (n : ℕ) (trail : List Entry) (e : Effect) (s : Session) → Held s (made (change_on at g who n trail e)) → IsBegun at s
+begun_on : (at : TurnContext) (g : Registry) (who : Who) (n : ℕ) (trail : List Entry) (e : Effect) (s : Session) → Held s (made (change_on at g who n trail e)) → IsBegun at s
 begun_on at g who n trail (Comes role) s (inl e) = begun at s _ e (refl, refl)
 begun_on at g who n trail (Comes role) s (inr h) = absurd h
 begun_on at g who n trail _ s h = absurd h
 
-begun_alone : (at : At) (g : Registry) (who : Option Who) (o : Outcome) (e : Effect) (s : Session) → Held s (made (change_alone at g who o e)) → IsBegun at s
+begun_alone : (at : TurnContext) (g : Registry) (who : Option Who) (o : Outcome) (e : Effect) (s : Session) → Held s (made (change_alone at g who o e)) → IsBegun at s
 begun_alone at g who o (Comes role) s (inl e) = begun at s _ e (refl, refl)
 begun_alone at g who o (Comes role) s (inr h) = absurd h
 begun_alone at g who o (Sets t proposal) s h = set_is (λ x. Held s (made x) → IsBegun at s) _ (λ k. absurd k) (λ x is k. absurd k) h
 begun_alone at g who o _ s h = absurd h
 
-begun_by : (at : At) (g : Registry) (trail : List Entry) (a : Asked) (by : Option Principal) (place : Option ℕ) (s : Session) → Held s (made (change_by at g trail a by place)) → IsBegun at s
+begun_by : (at : TurnContext) (g : Registry) (trail : List Entry) (a : Asked) (by : Option Principal) (place : Option ℕ) (s : Session) → Held s (made (change_by at g trail a by place)) → IsBegun at s
 begun_by at g trail a by None s h = begun_alone at g (option_map who_of by) (outcome g [] a.command) (effect_of at g (option_map who_of by) a.session [] (outline a.command)) s h
 begun_by at g trail a None (Some n) s h = absurd h
 begun_by at g trail a (Some by) (Some n) s h = begun_on at g (who_of by) n trail (effect_of at g (Some (who_of by)) a.session trail (outline a.command)) s h
 
-begun_in : (w : What) (at : At) (g : Registry) (trail : List Entry) (s : Session) → Held s (made (change_in w at g trail)) → IsBegun at s
+begun_in : (w : What) (at : TurnContext) (g : Registry) (trail : List Entry) (s : Session) → Held s (made (change_in w at g trail)) → IsBegun at s
 begun_in (Did a by) at g trail s h = begun_by at g trail a by (report_of a.command by) s h
 begun_in (Gap t) at g trail s h = absurd h
 begun_in Idle at g trail s h = absurd h
@@ -156,7 +156,7 @@ old_stands past time ch s within =
 pub new_test : (l ended later ends : Bool) → l ≡ true → ended ≡ false → later ≡ false → (l && not (ended || (later && ends))) ≡ true
 new_test l ended later ends a b c = grind (arith, a, b, c)
 
-pub new_stands : (past : Past Opened) (at : At) (ch : Change) → Fits at (plain past at.time) ch → ((s : Session) → Held s (made ch) → s.turn ≡ turns past + 1) →
+pub new_stands : (past : Past Opened) (at : TurnContext) (ch : Change) → Fits at (plain past at.time) ch → ((s : Session) → Held s (made ch) → s.turn ≡ turns past + 1) →
     filter (stands_after past at.time ch) (filter (lasts at.time (live_reports past at.time)) (made ch)) ≡ made ch
 new_stands past at (LogsIn s) fits turns_are =
     let turn : s.turn ≡ turns past + 1 = turns_are s (inl refl) in
@@ -178,7 +178,7 @@ sessions_are (Deletes n) ss = append-nil (remaining (Deletes n) ss)
 sessions_are _ ss = append-nil (filter (λ s. not false) ss) ∙ all_pass ss
 
 -- the sessions that stand after a change that fits
-pub sessions_law : (past : Past Opened) (at : At) (ch : Change) → Fits at (plain past at.time) ch → ((s : Session) → Held s (made ch) → s.turn ≡ turns past + 1) →
+pub sessions_law : (past : Past Opened) (at : TurnContext) (ch : Change) → Fits at (plain past at.time) ch → ((s : Session) → Held s (made ch) → s.turn ≡ turns past + 1) →
     filter (stands_after past at.time ch) (logins past ++ filter (lasts at.time (live_reports past at.time)) (made ch)) ≡ sessions_after ch (standing_sessions past at.time)
 sessions_law past at ch fits turns_are =
     filter-append (stands_after past at.time ch) (logins past) (filter (lasts at.time (live_reports past at.time)) (made ch))

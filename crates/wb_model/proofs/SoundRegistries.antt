@@ -19,7 +19,7 @@ use Rattle.wb_model.specs.Targets.{Target, Nobody, Alone, On, target}
 use Rattle.wb_model.specs.Requests.{Outcome, Request, outline}
 use Rattle.wb_model.specs.Fits.{is_path_number, is_between, fits_context, fits_command}
 use Rattle.wb_model.specs.Settings.{OfTenant, OfUser, OfContext, OfForm, context_item, ascending}
-use Rattle.wb_model.specs.Changes.{Nothing, At, Change, Configures, Answer, judged}
+use Rattle.wb_model.specs.Changes.{Nothing, TurnContext, Change, Configures, Answer, judged}
 use Rattle.wb_model.specs.Effects.{Effect, Writes, Submits, effect_of}
 use Rattle.wb_model.specs.OnReports.{change_on}
 use Rattle.wb_model.specs.Rules.{change_alone, effect_at, verdict_on}
@@ -135,10 +135,10 @@ notice_right true true n d e = (let k : nat_le n 30 ≡ true = (and_both (nat_le
 notice_right true false n d e = absurd (grind (arith, e))
 notice_right false b n d e = absurd (grind (arith, e))
 
-abbrev PutsBy : At → Registry → Option Who → Outcome → Effect → Type 0
+abbrev PutsBy : TurnContext → Registry → Option Who → Outcome → Effect → Type 0
 PutsBy at g who o e = Puts (change_alone at g who o e)
 
-alone_puts : (at : At) (g : Registry) (who : Option Who) (s : Presented) (o : Outcome) (d : Command) → fits_command d ≡ true → PutsBy at g who o (effect_of at g who s [] (outline d))
+alone_puts : (at : TurnContext) (g : Registry) (who : Option Who) (s : Presented) (o : Outcome) (d : Command) → fits_command d ≡ true → PutsBy at g who o (effect_of at g who s [] (outline d))
 alone_puts at g who s o (commands.SetContext t c next) fits = by (nat_le 1 next.retention)
   where
     two : (a b d : Bool) → (a && b && d) ≡ true → d ≡ true
@@ -166,7 +166,7 @@ alone_puts at g who s o (commands.Transfer t n c) fits = transfer_is (PutsBy at 
 alone_puts at g who s o (commands.Decide t n k decision reason withhold) fits = decide_is (PutsBy at g who o) k g [] decision reason withhold tt (λ r y. tt)
 alone_puts at g who s o _ fits = tt
 
-on_puts : (at : At) (g : Registry) (who : Who) (n : ℕ) (trail : List Entry) (e : Effect) → Puts (change_on at g who n trail e)
+on_puts : (at : TurnContext) (g : Registry) (who : Who) (n : ℕ) (trail : List Entry) (e : Effect) → Puts (change_on at g who n trail e)
 on_puts at g who n trail (Writes d) = tt
 on_puts at g who n trail _ = tt
 
@@ -174,11 +174,11 @@ judged_puts : (o : Option Told) (ch : Change) (a : Answer) → Puts ch → Puts 
 judged_puts None ch a h = h
 judged_puts (Some x) ch a h = tt
 
-verdict_puts : (p : Plain) (at : At) (q : Request) (d : Command) (t : Target) → q.command ≡ outline d → fits_command d ≡ true → Puts (change_of (verdict_on p at q t))
+verdict_puts : (p : Plain) (at : TurnContext) (q : Request) (d : Command) (t : Target) → q.command ≡ outline d → fits_command d ≡ true → Puts (change_of (verdict_on p at q t))
 verdict_puts p at q d (Nobody x) is fits = tt
 verdict_puts p at q d (Alone who) is fits = judged_puts _ _ _ (subst (λ c. Puts (change_alone at p.registry who q.outcome (effect_of at p.registry who q.session [] c))) (sym is) (alone_puts at p.registry who q.session q.outcome d fits))
 verdict_puts p at q d (On who c) is fits = judged_puts _ _ _ (on_puts at p.registry who c.number c.trail (effect_at p at q (Some who) c.trail))
 
 -- a request in its ranges keeps the registry in its ranges
-pub turn_sound : (p : Plain) (at : At) (q : Request) (d : Command) → q.command ≡ outline d → fits_command d ≡ true → IsSound p.registry → IsSound (registry_after (change_of (verdict_on p at q (target p q.session q.command))) p.registry)
+pub turn_sound : (p : Plain) (at : TurnContext) (q : Request) (d : Command) → q.command ≡ outline d → fits_command d ≡ true → IsSound p.registry → IsSound (registry_after (change_of (verdict_on p at q (target p q.session q.command))) p.registry)
 turn_sound p at q d is fits sound = change_sound (change_of (verdict_on p at q (target p q.session q.command))) p.registry (verdict_puts p at q d (target p q.session q.command) is fits) sound

@@ -7,7 +7,7 @@ use Rattle.wb_model.specs.declared.command.Command.TheVariants as commands
 use Rattle.wb_model.specs.Refusals.{not_found, no_session, wrong_role, wrong_right, bad_login}
 use Rattle.wb_model.specs.Tables.{Plain, TheUser, TheReporter}
 use Rattle.wb_model.specs.Commands.{Own, Staff, Names, Free, To_share}
-use Rattle.wb_model.specs.Targets.{Nobody, On, entering, returning, who_target, target}
+use Rattle.wb_model.specs.Targets.{Nobody, On, by_password, by_receipt, who_target, target}
 use Rattle.wb_model.proofs.Starter.{starter_registry, starter_tables, starter_salt, starter_user}
 use Rattle.wb_model.proofs.RowPasts.{opened_case}
 
@@ -74,11 +74,11 @@ unfolding starter_registry
 reporter-row = refl
 
 -- a login of nobody, of a disabled user whatever the password is, and by a receipt that no live report has
-nobody-row : entering starter_salt (codes "p") None ≡ Nobody bad_login
+nobody-row : by_password starter_salt (codes "p") None ≡ Nobody bad_login
 nobody-row = refl
 
-disabled-row : entering starter_salt (codes "ada-pass") (Some (record (starter_user 1 (codes "ada") roles.Recipient (codes "ada-pass") true) { enabled = false })) ≡ Nobody bad_login
+disabled-row : by_password starter_salt (codes "ada-pass") (Some (record (starter_user 1 (codes "ada") roles.Recipient (codes "ada-pass") true) { enabled = false })) ≡ Nobody bad_login
 disabled-row = refl
 
-no-receipt-row : returning None ≡ Nobody bad_login
+no-receipt-row : by_receipt None ≡ Nobody bad_login
 no-receipt-row = refl

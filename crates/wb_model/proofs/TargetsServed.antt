@@ -13,7 +13,7 @@ use Rattle.wb_base.specs.Secrets.{digest, same_digest}
 use Rattle.wb_model.specs.Playing.{is_loss}
 use Rattle.wb_model.specs.Refusals.{is_turns_spent, not_found, no_session, wrong_role, wrong_right, bad_login}
 use Rattle.wb_model.specs.Tables.{Plain, Case, Session, Who, TheUser, TheReporter, user, user_named, report, session, with_receipt}
-use Rattle.wb_model.specs.Targets.{Target, Nobody, Alone, On, same_role, finds, named_case, user_target, own_case, reporter_target, some_user_target, who_target, session_target, entering, returning, unasked, needed_target}
+use Rattle.wb_model.specs.Targets.{Target, Nobody, Alone, On, same_role, finds, named_case, user_target, own_case, reporter_target, some_user_target, who_target, session_target, by_password, by_receipt, anonymous, needed_target}
 use Rattle.wb_model.specs.Tenants.{healthy}
 
 -- the reply of a turn that is not made: it is lost, or after the host's last
@@ -99,25 +99,25 @@ pub session_served : (p : Plain) (k : Need) (o : Option Session) → TargetServe
 session_served p k None = served_no_session
 session_served p k (Some s) = who_served p s.role k s.who
 
-pub entering_served : (salt : Salt) (password : List ℕ) (o : Option UserItem) → TargetServed (entering salt password o)
-entering_served salt password None = served_bad_login
-entering_served salt password (Some x) = by (x.enabled && same_digest x.secret (digest salt password))
+pub by_password_served : (salt : Salt) (password : List ℕ) (o : Option UserItem) → TargetServed (by_password salt password o)
+by_password_served salt password None = served_bad_login
+by_password_served salt password (Some x) = by (x.enabled && same_digest x.secret (digest salt password))
   where
     by : (b : Bool) → TargetServed (cond b (Alone (Some (TheUser x.id))) (Nobody bad_login))
     by true = tt
     by false = served_bad_login
 
-pub returning_served : (o : Option Case) → TargetServed (returning o)
-returning_served None = served_bad_login
-returning_served (Some c) = tt
+pub by_receipt_served : (o : Option Case) → TargetServed (by_receipt o)
+by_receipt_served None = served_bad_login
+by_receipt_served (Some c) = tt
 
-pub unasked_served : (p : Plain) (d : Command) → TargetServed (unasked p d)
-unasked_served p (commands.Login t name password) = entering_served p.registry.settings.salt password (user_named name p.registry.users)
-unasked_served p (commands.ReceiptLogin t receipt) = returning_served (with_receipt (digest p.registry.settings.salt receipt) p.cases)
-unasked_served p _ = tt
+pub anonymous_served : (p : Plain) (d : Command) → TargetServed (anonymous p d)
+anonymous_served p (commands.Login t name password) = by_password_served p.registry.settings.salt password (user_named name p.registry.users)
+anonymous_served p (commands.ReceiptLogin t receipt) = by_receipt_served (with_receipt (digest p.registry.settings.salt receipt) p.cases)
+anonymous_served p _ = tt
 
 pub needed_served : (p : Plain) (presented : Presented) (d : Command) (k : Need) → TargetServed (needed_target p presented d k)
-needed_served p presented d Anyone = unasked_served p d
+needed_served p presented d Anyone = anonymous_served p d
 needed_served p presented d Any_session = session_served p Any_session (session p.registry.settings.salt presented p.sessions)
 needed_served p presented d Own = session_served p Own (session p.registry.settings.salt presented p.sessions)
 needed_served p presented d (Staff role) = session_served p (Staff role) (session p.registry.settings.salt presented p.sessions)

@@ -17,10 +17,10 @@ use Rattle.wb_model.specs.declared.registry.UserItem.{UserItem}
 use Rattle.wb_model.specs.Refusals.{bad_login, not_found, no_session, wrong_role, wrong_right}
 use Rattle.wb_base.specs.Secrets.{digest, same_digest}
 use Rattle.wb_model.specs.Tables.{Registry, has_number, Plain, Case, Session, Who, TheUser, TheReporter, Registry, user, user_named, report, has_receipt, with_receipt, session, others, is_reporter_of, sessions_but}
-use Rattle.wb_model.specs.Targets.{Target, Nobody, Alone, On, same_role, finds, named_case, staff, user_target, own_case, reporter_target, some_user_target, who_target, session_target, entering, returning, unasked, needed_target, target, trail_at}
+use Rattle.wb_model.specs.Targets.{Target, Nobody, Alone, On, same_role, finds, named_case, staff, user_target, own_case, reporter_target, some_user_target, who_target, session_target, by_password, by_receipt, anonymous, needed_target, target, trail_at}
 use Rattle.wb_model.specs.Commands.{Right, Free, Need, Anyone, Any_session, Own, Staff, Names, need, has_right}
 use Rattle.wb_model.specs.Requests.{Outcome, Request, request, outline}
-use Rattle.wb_model.specs.Changes.{At, Change, Answer, Verdict, Refused, Accepted, judged}
+use Rattle.wb_model.specs.Changes.{TurnContext, Change, Answer, Verdict, Refused, Accepted, judged}
 use Rattle.wb_model.specs.Effects.{Effect, Submits}
 use Rattle.wb_model.proofs.Effects.{IsSubmitted, submitted}
 use Rattle.wb_model.specs.Submissions.{Drawing, drawing, submission_refusal}
@@ -153,33 +153,33 @@ session_without r p k (presented.Token turn secret) a = by (find m p.sessions) r
     by None e = moved_to r _ _ (Nobody no_session) (ap (session_target (shrunk r p) k) (none_filter m _ p.sessions e)) (same_nobody r no_session)
     by (Some s) e = num s e (truth (is_reporter_of r s.who))
 
-receipt_without : (r : ℕ) (d : Digest) (cs : List Case) → Apart has_receipt cs → TargetWithout r (returning (with_receipt d cs)) (returning (with_receipt d (others r cs)))
+receipt_without : (r : ℕ) (d : Digest) (cs : List Case) → Apart has_receipt cs → TargetWithout r (by_receipt (with_receipt d cs)) (by_receipt (with_receipt d (others r cs)))
 receipt_without r d cs a = by (with_receipt d cs) refl
   where
-    num : (x : Case) → (x.number ≡ r) ⊎ (x.number ≢ r) → with_receipt d cs ≡ Some x → TargetWithout r (returning (Some x)) (returning (with_receipt d (others r cs)))
-    num x (inl here) e = gone (TheReporter x.number) x bad_login refl here (ap returning (apart_gone has_receipt (has_receipt d) (λ (c : Case). not (has_number r c)) d (λ y k. k) cs x a e (ap not (same_number x.number r here))))
-    num x (inr ne) e = same (ap returning (some_filter (has_receipt d) (λ (c : Case). not (has_number r c)) cs x e (ap not (other_number x.number r ne)))) (off_case r (TheReporter x.number) x ne)
+    num : (x : Case) → (x.number ≡ r) ⊎ (x.number ≢ r) → with_receipt d cs ≡ Some x → TargetWithout r (by_receipt (Some x)) (by_receipt (with_receipt d (others r cs)))
+    num x (inl here) e = gone (TheReporter x.number) x bad_login refl here (ap by_receipt (apart_gone has_receipt (has_receipt d) (λ (c : Case). not (has_number r c)) d (λ y k. k) cs x a e (ap not (same_number x.number r here))))
+    num x (inr ne) e = same (ap by_receipt (some_filter (has_receipt d) (λ (c : Case). not (has_number r c)) cs x e (ap not (other_number x.number r ne)))) (off_case r (TheReporter x.number) x ne)
 
-    by : (o : Option Case) → with_receipt d cs ≡ o → TargetWithout r (returning o) (returning (with_receipt d (others r cs)))
-    by None e = same (ap returning (none_filter (has_receipt d) _ cs e)) (λ who c f. absurd (no_target bad_login who c f))
+    by : (o : Option Case) → with_receipt d cs ≡ o → TargetWithout r (by_receipt o) (by_receipt (with_receipt d (others r cs)))
+    by None e = same (ap by_receipt (none_filter (has_receipt d) _ cs e)) (λ who c f. absurd (no_target bad_login who c f))
     by (Some x) e = num x (decide x.number r) e
 
-entering_without : (r : ℕ) (b : Bool) (u : ℕ) → TargetWithout r (cond b (Alone (Some (TheUser u))) (Nobody bad_login)) (cond b (Alone (Some (TheUser u))) (Nobody bad_login))
-entering_without r true u = same_alone r (Some (TheUser u))
-entering_without r false u = same_nobody r bad_login
+by_password_without : (r : ℕ) (b : Bool) (u : ℕ) → TargetWithout r (cond b (Alone (Some (TheUser u))) (Nobody bad_login)) (cond b (Alone (Some (TheUser u))) (Nobody bad_login))
+by_password_without r true u = same_alone r (Some (TheUser u))
+by_password_without r false u = same_nobody r bad_login
 
 -- a login by a password does not look at reports
-user_entering : (r : ℕ) (salt : Salt) (password : List ℕ) (o : Option UserItem) → TargetWithout r (entering salt password o) (entering salt password o)
+user_entering : (r : ℕ) (salt : Salt) (password : List ℕ) (o : Option UserItem) → TargetWithout r (by_password salt password o) (by_password salt password o)
 user_entering r salt password None = same_nobody r bad_login
-user_entering r salt password (Some x) = entering_without r (x.enabled && same_digest x.secret (digest salt password)) x.id
+user_entering r salt password (Some x) = by_password_without r (x.enabled && same_digest x.secret (digest salt password)) x.id
 
-unasked_without : (r : ℕ) (p : Plain) (d : Command) → Apart has_receipt p.cases → TargetWithout r (unasked p d) (unasked (shrunk r p) d)
-unasked_without r p (commands.Login t name password) a = user_entering r p.registry.settings.salt password (user_named name p.registry.users)
-unasked_without r p (commands.ReceiptLogin t receipt) a = receipt_without r (digest p.registry.settings.salt receipt) p.cases a
-unasked_without r p _ a = same_alone r None
+anonymous_without : (r : ℕ) (p : Plain) (d : Command) → Apart has_receipt p.cases → TargetWithout r (anonymous p d) (anonymous (shrunk r p) d)
+anonymous_without r p (commands.Login t name password) a = user_entering r p.registry.settings.salt password (user_named name p.registry.users)
+anonymous_without r p (commands.ReceiptLogin t receipt) a = receipt_without r (digest p.registry.settings.salt receipt) p.cases a
+anonymous_without r p _ a = same_alone r None
 
 needed_without : (r : ℕ) (p : Plain) (token : Presented) (d : Command) (k : Need) → Apart has_receipt p.cases → Apart has_turn p.sessions → TargetWithout r (needed_target p token d k) (needed_target (shrunk r p) token d k)
-needed_without r p token d Anyone b a = unasked_without r p d b
+needed_without r p token d Anyone b a = anonymous_without r p d b
 needed_without r p token d Any_session b a = session_without r p Any_session token a
 needed_without r p token d Own b a = session_without r p Own token a
 needed_without r p token d (Staff role) b a = session_without r p (Staff role) token a
@@ -191,7 +191,7 @@ target_without r p token d b a = needed_without r p token d (need d) b a
 -- ---- what the turn was
 
 -- the event of a request with this target
-abbrev pub what_for : Plain → At → ℕ → Asked → Target → What
+abbrev pub what_for : Plain → TurnContext → ℕ → Asked → Target → What
 what_for p at u a t = what_by (verdict_on p at (request p.registry (trail_at t) a) t) u t a
 
 judged_what : (o : Option Told) (x y : Change) (a b : Answer) (u : ℕ) (t : Target) (asked : Asked) → what_by (judged o x a) u t asked ≡ what_by (judged o y b) u t asked
@@ -209,7 +209,7 @@ outlined_submission (commands.GiveIdentity t answers) = refl
 outlined_submission _ = refl
 
 -- where the target is the same the event is
-same_what : (r : ℕ) (p : Plain) (at : At) (u : ℕ) (a : Asked) (t : Target) → (is_submission a.command ≡ true → drawing at (shrunk r p) ≡ drawing at p) → what_for (shrunk r p) at u a t ≡ what_for p at u a t
+same_what : (r : ℕ) (p : Plain) (at : TurnContext) (u : ℕ) (a : Asked) (t : Target) → (is_submission a.command ≡ true → drawing at (shrunk r p) ≡ drawing at p) → what_for (shrunk r p) at u a t ≡ what_for p at u a t
 same_what r p at u a (Nobody x) free = refl
 same_what r p at u a (On who c) free = refl
 same_what r p at u a (Alone who) free =
@@ -233,12 +233,12 @@ by_gone : (r u : ℕ) (a : Asked) (b : Target) (who : Who) (c : Case) (v : Verdi
 by_gone r u a b who c (Refused x) after on e here = idle refl e
 by_gone r u a b who c (Accepted ch ans) after on e here = dropped who c on here refl e
 
-what_without_by : (r : ℕ) (p : Plain) (at : At) (u : ℕ) (a : Asked) (b d : Target) → (is_submission a.command ≡ true → drawing at (shrunk r p) ≡ drawing at p) → TargetWithout r b d → WhatWithout r u a b (what_for p at u a b) (what_for (shrunk r p) at u a d)
+what_without_by : (r : ℕ) (p : Plain) (at : TurnContext) (u : ℕ) (a : Asked) (b d : Target) → (is_submission a.command ≡ true → drawing at (shrunk r p) ≡ drawing at p) → TargetWithout r b d → WhatWithout r u a b (what_for p at u a b) (what_for (shrunk r p) at u a d)
 what_without_by r p at u a b d free (same e off) = by_verdict r u a b (verdict_on p at (request p.registry (trail_at b) a) b) (what_for (shrunk r p) at u a d) (ap (what_for (shrunk r p) at u a) e ∙ same_what r p at u a b free) off
 what_without_by r p at u a b d free (refused x y e f) = idle (ap (what_for p at u a) e) (ap (what_for (shrunk r p) at u a) f)
 what_without_by r p at u a b d free (gone who c y e here f) = by_gone r u a b who c (verdict_on p at (request p.registry (trail_at b) a) b) (what_for (shrunk r p) at u a d) e (ap (what_for (shrunk r p) at u a) f) here
 
 -- the event of a request without r
-pub what_without : (r : ℕ) (p : Plain) (at : At) (u : ℕ) (a : Asked) → (is_submission a.command ≡ true → drawing at (shrunk r p) ≡ drawing at p) → Apart has_receipt p.cases → Apart has_turn p.sessions →
+pub what_without : (r : ℕ) (p : Plain) (at : TurnContext) (u : ℕ) (a : Asked) → (is_submission a.command ≡ true → drawing at (shrunk r p) ≡ drawing at p) → Apart has_receipt p.cases → Apart has_turn p.sessions →
     WhatWithout r u a (target p a.session (outline a.command)) (what_for p at u a (target p a.session (outline a.command))) (what_for (shrunk r p) at u a (target (shrunk r p) a.session (outline a.command)))
 what_without r p at u a free b apart = what_without_by r p at u a _ _ free (target_without r p a.session (outline a.command) b apart)

@@ -16,7 +16,7 @@ use Rattle.wb_model.specs.Tables.{Registry, Plain, Case, Who, is_there, is_live}
 use Rattle.wb_model.specs.Targets.{Target, Nobody, Alone, On, trail_at}
 use Rattle.wb_model.specs.Requests.{Frame, Outcome, Request, outline, outcome, request, secret_of, plain_part}
 use Rattle.wb_model.specs.Settings.{Setting, OfTenant, configured}
-use Rattle.wb_model.specs.Changes.{At, Change, Nothing, Configures, Answer, Verdict, Refused, Accepted, judged}
+use Rattle.wb_model.specs.Changes.{TurnContext, Change, Nothing, Configures, Answer, Verdict, Refused, Accepted, judged}
 use Rattle.wb_model.specs.Effects.{Effect, Misses, Looks, Reads, effect_of}
 use Rattle.wb_model.specs.OnReports.{change_on}
 use Rattle.wb_model.specs.Routes.{paths}
@@ -64,7 +64,7 @@ live_kept _ g time c = refl
 pub event_law : (past : Past Opened) (e : Event) → Fits (at_of past e) (plain past (at_of past e).time) (change_at past e) →
     tables (Turn e past) (at_of past e).time ≡ changed (at_of past e).time (change_at past e) (secret_in e.what (registry past)) (tables past (at_of past e).time)
 event_law past e fits =
-    let at : At = at_of past e in
+    let at : TurnContext = at_of past e in
     let ch : Change = change_at past e in
     let same : Agree (alone_at past e) ch = alone_agrees e.what at (registry past) (trail_of (about e.what) (trail past)) in
     let cases : live_reports (Turn e past) at.time ≡ cases_after ch (last past) (live_reports past at.time) =
@@ -102,7 +102,7 @@ pub did_change : (past : Past Opened) (f : Frame) (u : ℕ) (t : Target) (ch : C
     verdict_on (plain past (at_frame past f).time) (at_frame past f) (request (registry past) (trail_at t) f.asked) t ≡ Accepted ch ans → change_at past (event f (did u t f.asked)) ≡ ch
 did_change past f u (Nobody x) ch ans known e = absurd (grind (arith, e))
 did_change past f u (Alone who) ch ans known e =
-    let at : At = at_frame past f in
+    let at : TurnContext = at_frame past f in
     let g : Registry = registry past in
     let by : Option Principal = option_map (principal u) who in
     let q : Request = request g [] f.asked in
@@ -111,7 +111,7 @@ did_change past f u (Alone who) ch ans known e =
     ∙ (ap (λ w. change_alone at g w (outcome g [] f.asked.command) (effect_of at g w f.asked.session [] (outline f.asked.command))) (whose u who)
     ∙ judged_is _ _ ch _ ans e)
 did_change past f u (On who c) ch ans known e =
-    let at : At = at_frame past f in
+    let at : TurnContext = at_frame past f in
     let g : Registry = registry past in
     let q : Request = request g c.trail f.asked in
     ap (λ place. change_by at g (trail_of place (trail past)) f.asked (Some (principal u who)) place) (known.on who c refl).0
@@ -131,7 +131,7 @@ IsRead (Looks view) = Unit {0}
 IsRead (Reads part) = Unit {0}
 IsRead _ = ⊥
 
-pub read_effect : (at : At) (g : Registry) (who : Option Who) (s : Presented) (es : List Entry) (d : Command) → is_read d ≡ true → IsRead (effect_of at g who s es (outline d))
+pub read_effect : (at : TurnContext) (g : Registry) (who : Option Who) (s : Presented) (es : List Entry) (d : Command) → is_read d ≡ true → IsRead (effect_of at g who s es (outline d))
 unfolding paths
 read_effect at g who s es (commands.ContextOf t c) e = in_open_is IsRead _ c g tt (λ x y is form. tt)
 read_effect at g who s es commands.Health e = tt
@@ -148,13 +148,13 @@ read_effect at g who s es _ e = absurd (no_less e)
     no_less : false ≡ true → ⊥
     no_less e = grind (arith, e)
 
-pub read_alone : (at : At) (g : Registry) (who : Option Who) (o : Outcome) (e : Effect) → IsRead e → change_alone at g who o e ≡ Nothing
+pub read_alone : (at : TurnContext) (g : Registry) (who : Option Who) (o : Outcome) (e : Effect) → IsRead e → change_alone at g who o e ≡ Nothing
 read_alone at g who o Misses is = refl
 read_alone at g who o (Looks view) is = refl
 read_alone at g who o (Reads part) is = refl
 read_alone at g who o _ is = absurd is
 
-pub read_on : (at : At) (g : Registry) (who : Who) (n : ℕ) (es : List Entry) (e : Effect) → IsRead e → change_on at g who n es e ≡ Nothing
+pub read_on : (at : TurnContext) (g : Registry) (who : Who) (n : ℕ) (es : List Entry) (e : Effect) → IsRead e → change_on at g who n es e ≡ Nothing
 read_on at g who n es Misses is = refl
 read_on at g who n es (Looks view) is = refl
 read_on at g who n es (Reads part) is = refl
@@ -164,14 +164,14 @@ pub read_change : (past : Past Opened) (f : Frame) (t : Target) (ch : Change) (a
     verdict_on (plain past (at_frame past f).time) (at_frame past f) (request (registry past) (trail_at t) f.asked) t ≡ Accepted ch ans → ch ≡ Nothing
 read_change past f (Nobody x) ch ans reads e = absurd (grind (arith, e))
 read_change past f (Alone who) ch ans reads e =
-    let at : At = at_frame past f in
+    let at : TurnContext = at_frame past f in
     let g : Registry = registry past in
     let q : Request = request g [] f.asked in
     let p : Plain = plain past at.time in
     sym (judged_is _ _ ch _ ans e)
     ∙ read_alone at g who q.outcome (effect_of at g who q.session [] q.command) (read_effect at g who q.session [] f.asked.command reads)
 read_change past f (On who c) ch ans reads e =
-    let at : At = at_frame past f in
+    let at : TurnContext = at_frame past f in
     let g : Registry = registry past in
     let q : Request = request g c.trail f.asked in
     sym (judged_is _ _ ch _ ans e)
@@ -193,7 +193,7 @@ turn_of past f ch w is secret fits =
     ∙ (ap (λ x. changed (at_frame past f).time x (secret_in w (registry past)) (tables past (at_frame past f).time)) is
     ∙ ap (λ s. changed (at_frame past f).time ch s (tables past (at_frame past f).time)) secret)
 
-pub no_target : (p : Plain) (at : At) (q : Request) (t : Target) (x : Told) (ch : Change) (ans : Answer) → verdict_on p at q t ≡ Accepted ch ans → t ≡ Nobody x → ⊥
+pub no_target : (p : Plain) (at : TurnContext) (q : Request) (t : Target) (x : Told) (ch : Change) (ans : Answer) → verdict_on p at q t ≡ Accepted ch ans → t ≡ Nobody x → ⊥
 no_target p at q t x ch ans e is = let bad : Refused x ≡ Accepted ch ans = ap (verdict_on p at q) (sym is) ∙ e in grind (arith, bad)
 
 pub accepted_turn : (past : Past Opened) (f : Frame) (u : ℕ) (t : Target) (ch : Change) (ans : Answer) (reads : Bool) → is_read f.asked.command ≡ reads → IsKnown past u f.asked t →

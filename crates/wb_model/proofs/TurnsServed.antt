@@ -9,7 +9,7 @@ use Rattle.wb_model.specs.declared.act.Move.TheVariants as moves
 use Rattle.wb_model.specs.declared.body.Told.{Told}
 use Rattle.wb_model.specs.declared.entry.Entry.{Entry}
 use Rattle.wb_model.specs.Acts.{act_status}
-use Rattle.wb_model.specs.Changes.{At, Change, Answer, Says, Shows_own, Shows_identity, judged}
+use Rattle.wb_model.specs.Changes.{TurnContext, Change, Answer, Says, Shows_own, Shows_identity, judged}
 use Rattle.wb_model.specs.Commands.{need}
 use Rattle.wb_model.specs.Doings.{Doing, Acts, Moves, doing_told}
 use Rattle.wb_model.specs.Effects.{Effect, Misses, Looks, Reads as ReadsPart, ToReader, ToReporter, TheIdentity, Writes, Erases, Submits, Comes, Goes, Sets, View, OfHealth, OfTenant, OfContext, OfReports, OfDues, OfRequests, OfConfiguration}
@@ -36,7 +36,7 @@ abbrev pub AnswerServed : Answer → Type 0
 AnswerServed (Says told) = Served told
 AnswerServed _ = Unit {0}
 
-pub shown_served : (at : At) (p : Plain) (who : Option Who) (view : View) → Served (shown at p who view)
+pub shown_served : (at : TurnContext) (p : Plain) (who : Option Who) (view : View) → Served (shown at p who view)
 shown_served at p who OfHealth = refl
 shown_served at p who OfTenant = refl
 shown_served at p who (OfContext c form) = refl
@@ -51,7 +51,7 @@ told_served g (ToUser u next) = refl
 told_served g (ToContext c next) = refl
 told_served g (ToForm f form) = refl
 
-pub alone_answered : (at : At) (p : Plain) (who : Option Who) (does : Effect) → AnswerServed (answer_alone at p who does)
+pub alone_answered : (at : TurnContext) (p : Plain) (who : Option Who) (does : Effect) → AnswerServed (answer_alone at p who does)
 alone_answered at p who (Looks view) = shown_served at p who view
 alone_answered at p who (Submits c form) = refl
 alone_answered at p who (Comes role) = refl
@@ -62,7 +62,7 @@ alone_answered at p who (ReadsPart part) = served_not_found
 alone_answered at p who (Writes doing) = served_not_found
 alone_answered at p who Erases = served_not_found
 
-pub read_served : (at : At) (g : Registry) (c : Case) (who : Who) → Served (read_by at g c who)
+pub read_served : (at : TurnContext) (g : Registry) (c : Case) (who : Who) → Served (read_by at g c who)
 read_served at g c (TheUser u) = refl
 read_served at g c (TheReporter n) = served_not_found
 
@@ -86,7 +86,7 @@ doing_answered trail (Moves (moves.Grant request stamp notice_days reason withhe
 doing_answered trail (Moves (moves.Deny request stamp reason)) = refl
 doing_answered trail (Moves (moves.Revoke request stamp reason)) = refl
 
-pub on_answered : (at : At) (g : Registry) (who : Who) (c : Case) (does : Effect) → AnswerServed (answer_on at g who c does)
+pub on_answered : (at : TurnContext) (g : Registry) (who : Who) (c : Case) (does : Effect) → AnswerServed (answer_on at g who c does)
 on_answered at g who c (ReadsPart ToReader) = read_served at g c who
 on_answered at g who c (ReadsPart ToReporter) = tt
 on_answered at g who c (ReadsPart TheIdentity) = tt
@@ -108,7 +108,7 @@ pub judged_served : (o : Option Told) (change : Change) (a : Answer) (sealed : S
 judged_served None change a sealed x y = said_served a sealed y
 judged_served (Some refusal) change a sealed x y = x
 
-pub verdict_served : (p : Plain) (at : At) (q : Request) (t : Target) (sealed : Sealed) → TargetServed t → Served (reply_by (verdict_on p at q t) sealed)
+pub verdict_served : (p : Plain) (at : TurnContext) (q : Request) (t : Target) (sealed : Sealed) → TargetServed t → Served (reply_by (verdict_on p at q t) sealed)
 verdict_served p at q (Nobody refusal) sealed h = h
 verdict_served p at q (Alone who) sealed h =
     let does = effect_at p at q who [] in
@@ -119,7 +119,7 @@ verdict_served p at q (On who c) sealed h =
 
 pub reply_served : (past : Past Opened) (f : Frame) → Served (reply_at past f)
 reply_served past f =
-    let at : At = at_frame past f in
+    let at : TurnContext = at_frame past f in
     let p : Plain = plain past at.time in
     verdict_served p at (plain_part p f.asked) (target_at past f) (tables past at.time).sealed (needed_served p f.asked.session (outline f.asked.command) (need (outline f.asked.command)))
 

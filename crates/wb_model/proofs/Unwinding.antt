@@ -18,7 +18,7 @@ use Rattle.wb_model.specs.Trails as trails
 use Rattle.wb_model.specs.Tables.{Registry, Plain, Case, Who, TheReporter, is_there, lasts, context}
 use Rattle.wb_model.specs.Targets.{Target, Nobody, Alone, On, target, trail_at}
 use Rattle.wb_model.specs.Requests.{Frame, Outcome, Checked, Request, outline, outcome, asking_form, form_of_trail, submission_outcome, identity_outcome, submission_fault, late_fault, public, mark, plain_part, sealed_part}
-use Rattle.wb_model.specs.Changes.{At, Change, Begins, Deletes, Notes, Answer, Says, Shows_own, Shows_identity, Verdict, Refused, Accepted, judged}
+use Rattle.wb_model.specs.Changes.{TurnContext, Change, Begins, Deletes, Notes, Answer, Says, Shows_own, Shows_identity, Verdict, Refused, Accepted, judged}
 use Rattle.wb_model.specs.Rules.{change_alone, answer_alone, effect_at, verdict, verdict_on}
 use Rattle.wb_model.specs.OnReports.{refusal_on, change_on, answer_on}
 use Rattle.wb_model.specs.Effects.{Effect, Looks, Writes, Submits, Sets, effect_of}
@@ -59,10 +59,10 @@ granted_shows here true x e accepted = grind (arith, e)
 granted_shows here false x e accepted = absurd (grind (arith, accepted))
 
 -- the answer on report c to what is done by an effect shows none of r's
-abbrev Hides : ℕ → At → Registry → Who → Case → Effect → Type 0
+abbrev Hides : ℕ → TurnContext → Registry → Who → Case → Effect → Type 0
 Hides r at g who c e = answer_shows r (answer_on at g who c e) ≡ false
 
-on_shows : (r : ℕ) (at : At) (g : Registry) (who : Who) (c : Case) (o : Outcome) (s : Presented) (d : Command) → may_see r at.time g (On who c) d ≡ false → refusal_on at g who c o (effect_of at g (Some who) s c.trail (outline d)) ≡ None → Hides r at g who c (effect_of at g (Some who) s c.trail (outline d))
+on_shows : (r : ℕ) (at : TurnContext) (g : Registry) (who : Who) (c : Case) (o : Outcome) (s : Presented) (d : Command) → may_see r at.time g (On who c) d ≡ false → refusal_on at g who c o (effect_of at g (Some who) s c.trail (outline d)) ≡ None → Hides r at g who c (effect_of at g (Some who) s c.trail (outline d))
 on_shows r at g who c o s (commands.OwnReport t) e accepted = e
 on_shows r at g who c o s (commands.ReadIdentity t n) e accepted = granted_shows (eqb c.number r) (has_grant at.time g who c) not_found e accepted
 on_shows r at g who c o s (commands.ContextOf t k) e accepted = in_open_is (Hides r at g who c) _ k g refl (λ x y is form. refl)
@@ -76,12 +76,12 @@ on_shows r at g who c o s (commands.Transfer t n k) e accepted = transfer_is (Hi
 on_shows r at g who c o s (commands.Decide t n k decision reason withhold) e accepted = decide_is (Hides r at g who c) k g c.trail decision reason withhold refl (λ r y. refl)
 on_shows r at g who c o s _ e accepted = refl
 
-alone_shows : (r : ℕ) (at : At) (p : Plain) (who : Option Who) (e : Effect) → answer_shows r (answer_alone at p who e) ≡ false
+alone_shows : (r : ℕ) (at : TurnContext) (p : Plain) (who : Option Who) (e : Effect) → answer_shows r (answer_alone at p who e) ≡ false
 alone_shows r at p who (Looks view) = refl
 alone_shows r at p who _ = refl
 
 -- a verdict shows r's identity answers to its readers alone
-pub shows_to_readers : (r : ℕ) (p : Plain) (at : At) (q : Request) (d : Command) (t : Target) → q.command ≡ outline d → may_see r at.time p.registry t d ≡ false → shows r (verdict_on p at q t) ≡ false
+pub shows_to_readers : (r : ℕ) (p : Plain) (at : TurnContext) (q : Request) (d : Command) (t : Target) → q.command ≡ outline d → may_see r at.time p.registry t d ≡ false → shows r (verdict_on p at q t) ≡ false
 shows_to_readers r p at q d (Nobody x) is e = refl
 shows_to_readers r p at q d (Alone who) is e = judged_shows r _ _ _ (λ accepted. alone_shows r at p who (effect_at p at q who []))
 shows_to_readers r p at q d (On who c) is e =
@@ -142,11 +142,11 @@ change_same r now c x y t u h (inl e) = record { plain = ap (plain_after now c) 
 change_same r now c x y t u h (inr e) = record { plain = ap (plain_after now c) h.plain; others = λ q ne. sealed_here r c x y t u h e q ne }
 
 -- what is done on n puts them under n, and a request on no report under the number that it draws
-pub on_places : (at : At) (g : Registry) (who : Who) (n : ℕ) (trail : List Entry) (last q : ℕ) (e : Effect) → place (change_on at g who n trail e) last ≡ Some q → q ≡ n
+pub on_places : (at : TurnContext) (g : Registry) (who : Who) (n : ℕ) (trail : List Entry) (last q : ℕ) (e : Effect) → place (change_on at g who n trail e) last ≡ Some q → q ≡ n
 on_places at g who n trail last q (Writes d) is = cc
 on_places at g who n trail last q _ is = absurd (cc)
 
-pub alone_places : (at : At) (g : Registry) (who : Option Who) (o : Outcome) (last q : ℕ) (e : Effect) → place (change_alone at g who o e) last ≡ Some q → q ≡ last + 1
+pub alone_places : (at : TurnContext) (g : Registry) (who : Option Who) (o : Outcome) (last q : ℕ) (e : Effect) → place (change_alone at g who o e) last ≡ Some q → q ≡ last + 1
 alone_places at g who o last q (Submits c form) is = cc
 alone_places at g who o last q (Sets t proposal) is = absurd (set_is (λ x. place x last ≡ Some q → ⊥) _ (λ e. cc) (λ x e f. cc) is)
 alone_places at g who o last q _ is = absurd (cc)
@@ -155,15 +155,15 @@ pub judged_place : (last q : ℕ) (o : Option Told) (change : Change) (a : Answe
 judged_place last q None change a e = e
 judged_place last q (Some x) change a e = absurd (cc)
 
-on_place : (p : Plain) (at : At) (q : Request) (who : Who) (c : Case) (last k : ℕ) → place (change_of (verdict_on p at q (On who c))) last ≡ Some k → k ≡ c.number
+on_place : (p : Plain) (at : TurnContext) (q : Request) (who : Who) (c : Case) (last k : ℕ) → place (change_of (verdict_on p at q (On who c))) last ≡ Some k → k ≡ c.number
 on_place p at q who c last k e = on_places at p.registry who c.number c.trail last k (effect_at p at q (Some who) c.trail) (judged_place last k _ _ _ e)
 
-alone_place : (p : Plain) (at : At) (q : Request) (who : Option Who) (last k : ℕ) → place (change_of (verdict_on p at q (Alone who))) last ≡ Some k → k ≡ last + 1
+alone_place : (p : Plain) (at : TurnContext) (q : Request) (who : Option Who) (last k : ℕ) → place (change_of (verdict_on p at q (Alone who))) last ≡ Some k → k ≡ last + 1
 alone_place p at q who last k e = alone_places at p.registry who q.outcome last k (effect_at p at q who []) (judged_place last k _ _ _ e)
 
 -- ---- one turn
 
-same_at : (a b : At) → a.time ≡ b.time → a.turn ≡ b.turn → a.words ≡ b.words → a ≡ b
+same_at : (a b : TurnContext) → a.time ≡ b.time → a.turn ≡ b.turn → a.words ≡ b.words → a ≡ b
 same_at a b t n w = λ i. record { time = t i; turn = n i; words = w i }
 
 same_time : (r : ℕ) (h k : Host) (a b : Frame) → HostsAlike r h k → a.moment ≡ b.moment → time_at h a ≡ time_at k b

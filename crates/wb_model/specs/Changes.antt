@@ -7,7 +7,7 @@ use Rattle.wb_model.specs.Tables.{Case, Session, Who}
 use Rattle.wb_model.specs.Settings.{Setting}
 
 -- a turn: its time, its number, and its random words
-pub record At : Type 0 where
+pub record TurnContext : Type 0 where
   pub time : ℕ
   pub turn : ℕ
   pub words : Words

@@ -20,7 +20,7 @@ use Rattle.wb_model.specs.Trails as trails
 use Rattle.wb_model.specs.Tables.{Registry, Who, TheUser, TheReporter, user, context, disablings}
 use Rattle.wb_model.specs.Requests.{open_form, form_of_trail}
 use Rattle.wb_model.specs.Settings.{Proposal, ToTenant, ToUser, ToContext, ToForm}
-use Rattle.wb_model.specs.Changes.{At}
+use Rattle.wb_model.specs.Changes.{TurnContext}
 use Rattle.wb_model.specs.Doings.{Doing, Acts, Moves, may_read, retention_of, decision_move}
 
 -- ---- what it may be
@@ -97,7 +97,7 @@ with_form does (Some c) (Some form) = does c form
 abbrev pub in_open : (ContextItem → FormItem → Effect) → ℕ → Registry → Effect
 in_open does c g = with_form does (context c g.contexts) (open_form (context c g.contexts) g.forms)
 
-abbrev pub effect_of : At → Registry → Option Who → Presented → List Entry → Command → Effect
+abbrev pub effect_of : TurnContext → Registry → Option Who → Presented → List Entry → Command → Effect
 effect_of at g who s trail commands.Health = Looks OfHealth
 effect_of at g who s trail (commands.Public t) = Looks OfTenant
 effect_of at g who s trail (commands.ContextOf t c) = in_open (λ x form. Looks (OfContext x form)) c g

@@ -12,7 +12,7 @@ use Rattle.wb_model.specs.Json.{told}
 use Rattle.wb_model.specs.Views.{reporter_view, identity_view}
 use Rattle.wb_model.specs.Requests.{Frame, plain_part, sealed_part}
 use Rattle.wb_model.specs.Settings.{Setting, OfUser, configured}
-use Rattle.wb_model.specs.Changes.{At, Change, Nothing, Draws, Begins, Notes, Deletes, LogsIn, LogsOut, Configures, Answer, Says, Shows_own, Shows_identity, Verdict, Refused, Accepted}
+use Rattle.wb_model.specs.Changes.{TurnContext, Change, Nothing, Draws, Begins, Notes, Deletes, LogsIn, LogsOut, Configures, Answer, Says, Shows_own, Shows_identity, Verdict, Refused, Accepted}
 use Rattle.wb_model.specs.Rules.{verdict}
 
 -- the identity answers by the number of their report
@@ -121,7 +121,7 @@ changed now change secret t = record { plain = plain_after now change t.plain; s
 -- ---- a turn over purged tables
 
 -- the verdict on a request
-abbrev pub ruling : Tables → At → Asked → Verdict
+abbrev pub ruling : Tables → TurnContext → Asked → Verdict
 ruling t at a = verdict t.plain at (plain_part t.plain a)
 
 abbrev pub change_of : Verdict → Change
@@ -139,7 +139,7 @@ reply_by (Refused refusal) sealed = refusal
 reply_by (Accepted change answer) sealed = said answer sealed
 
 -- the tables after a request
-abbrev pub tables_after : Tables → At → Asked → Tables
+abbrev pub tables_after : Tables → TurnContext → Asked → Tables
 tables_after t at a = changed at.time (change_of (ruling t at a)) (sealed_part t.plain a) t
 
 -- ---- a host
@@ -154,7 +154,7 @@ pub record Host : Type 0 where
 abbrev pub time_at : Host → Frame → ℕ
 time_at h f = max h.now f.moment
 
-abbrev pub at_frame : Host → Frame → At
+abbrev pub at_frame : Host → Frame → TurnContext
 at_frame h f = record { time = time_at h f; turn = h.turns + 1; words = f.words }
 
 -- the tables that a turn's request is judged over

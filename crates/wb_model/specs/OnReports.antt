@@ -11,7 +11,7 @@ use Rattle.wb_model.specs.Refusing.{refuses_where}
 use Rattle.wb_model.specs.Requests.{Outcome}
 use Rattle.wb_model.specs.ShortViews.{done_view}
 use Rattle.wb_model.specs.Views.{recipient_view}
-use Rattle.wb_model.specs.Changes.{At, Change, Nothing, Notes, Deletes, LogsIn, LogsOut, Answer, Says, Shows_own, Shows_identity}
+use Rattle.wb_model.specs.Changes.{TurnContext, Change, Nothing, Notes, Deletes, LogsIn, LogsOut, Answer, Says, Shows_own, Shows_identity}
 use Rattle.wb_model.specs.Submissions.{outcome_refusal}
 use Rattle.wb_model.specs.Logins.{new_session, welcome}
 use Rattle.wb_model.specs.Doings.{doing_fault, doing_entry, doing_told, actor_of}
@@ -24,7 +24,7 @@ has_grant now g (TheReporter n) case = false
 
 -- ---- what refuses it
 
-abbrev pub refusal_on : At → Registry → Who → Case → Outcome → Effect → Option Told
+abbrev pub refusal_on : TurnContext → Registry → Who → Case → Outcome → Effect → Option Told
 refusal_on at g who case o (Reads ToReader) = None
 refusal_on at g who case o (Reads ToReporter) = None
 refusal_on at g who case o (Reads TheIdentity) = refuses_where (not (has_grant at.time g who case)) not_found
@@ -39,7 +39,7 @@ refusal_on at g who case o (Sets t proposal) = Some not_found
 
 -- ---- what it changes: one more entry on that report, a session of its reporter, or the report goes
 
-abbrev pub change_on : At → Registry → Who → ℕ → List Entry → Effect → Change
+abbrev pub change_on : TurnContext → Registry → Who → ℕ → List Entry → Effect → Change
 change_on at g who n trail (Writes doing) = Notes n (doing_entry g.settings.calendar at.time who trail doing)
 change_on at g who n trail Erases = Deletes n
 change_on at g who n trail (Comes role) = LogsIn (new_session at g role (TheReporter n))
@@ -53,11 +53,11 @@ change_on at g who n trail (Sets t proposal) = Nothing
 -- ---- what is answered
 
 -- a user's read; a reporter's session does not come this far
-abbrev pub read_by : At → Registry → Case → Who → Told
+abbrev pub read_by : TurnContext → Registry → Case → Who → Told
 read_by at g case (TheUser u) = told 200 (recipient_view g.users u at.time case)
 read_by at g case (TheReporter n) = not_found
 
-abbrev pub answer_on : At → Registry → Who → Case → Effect → Answer
+abbrev pub answer_on : TurnContext → Registry → Who → Case → Effect → Answer
 answer_on at g who case (Reads ToReader) = Says (read_by at g case who)
 answer_on at g who case (Reads ToReporter) = Shows_own case
 answer_on at g who case (Reads TheIdentity) = Shows_identity case.number

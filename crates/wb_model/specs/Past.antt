@@ -16,7 +16,7 @@ use Rattle.wb_model.specs.declared.numbering.Numbering.{Numbering}
 use Rattle.wb_model.specs.Tables.{Registry, Plain, Case, Session, Who, TheUser, TheReporter, report, is_live, is_there, lasts, drawn_on}
 use Rattle.wb_model.specs.Commands.{Need, Names, need}
 use Rattle.wb_model.specs.Requests.{outline, outcome, secret_of}
-use Rattle.wb_model.specs.Changes.{At, Change, Nothing, Draws, Begins, Notes, Deletes}
+use Rattle.wb_model.specs.Changes.{TurnContext, Change, Nothing, Draws, Begins, Notes, Deletes}
 use Rattle.wb_model.specs.Effects.{effect_of}
 use Rattle.wb_model.specs.OnReports.{change_on}
 use Rattle.wb_model.specs.Rules.{change_alone}
@@ -42,7 +42,7 @@ now (Opening o) = o.at
 now (Turn e past) = max (now past) e.moment
 
 -- the turn that an event was
-abbrev pub at_of : Past Opened → Event → At
+abbrev pub at_of : Past Opened → Event → TurnContext
 at_of past e = record { time = max (now past) e.moment; turn = turns past + 1; words = e.words }
 
 -- ---- what a turn changed
@@ -67,23 +67,23 @@ about (Did asked by) = report_of asked.command by
 about _ = None
 
 -- what an accepted command changed that was on no report
-abbrev pub alone_by : At → Registry → Asked → Option Principal → Option ℕ → Change
+abbrev pub alone_by : TurnContext → Registry → Asked → Option Principal → Option ℕ → Change
 alone_by at g a by None = let who = option_map who_of by in change_alone at g who (outcome g [] a.command) (effect_of at g who a.session [] (outline a.command))
 alone_by at g a by (Some n) = Nothing
 
 -- what it changed, with the trail of the report that it was on
-abbrev pub change_by : At → Registry → List Entry → Asked → Option Principal → Option ℕ → Change
+abbrev pub change_by : TurnContext → Registry → List Entry → Asked → Option Principal → Option ℕ → Change
 change_by at g trail a by None = alone_by at g a by None
 change_by at g trail a None (Some n) = Nothing
 change_by at g trail a (Some by) (Some n) = change_on at g (who_of by) n trail (effect_of at g (Some (who_of by)) a.session trail (outline a.command))
 
-abbrev pub alone_in : What → At → Registry → Change
+abbrev pub alone_in : What → TurnContext → Registry → Change
 alone_in (Did asked by) at g = alone_by at g asked by (report_of asked.command by)
 alone_in (Gap t) at g = Draws
 alone_in Idle at g = Nothing
 alone_in Lost at g = Nothing
 
-abbrev pub change_in : What → At → Registry → List Entry → Change
+abbrev pub change_in : What → TurnContext → Registry → List Entry → Change
 change_in (Did asked by) at g trail = change_by at g trail asked by (report_of asked.command by)
 change_in (Gap t) at g trail = Draws
 change_in Idle at g trail = Nothing

@@ -15,7 +15,7 @@ use Rattle.wb_model.specs.ViewRows.{readable, all_listed, all_due, all_custodied
 use Rattle.wb_model.specs.ListViews.{list_view, due_view, custody_view}
 use Rattle.wb_model.specs.Requests.{Outcome, Request}
 use Rattle.wb_model.specs.Settings.{proposal_refusal, proposal_told, setting_of}
-use Rattle.wb_model.specs.Changes.{At, Change, Nothing, Begins, LogsIn, LogsOut, Configures, Answer, Says, Verdict, Refused, judged}
+use Rattle.wb_model.specs.Changes.{TurnContext, Change, Nothing, Begins, LogsIn, LogsOut, Configures, Answer, Says, Verdict, Refused, judged}
 use Rattle.wb_model.specs.Submissions.{Drawing, drawing, submission_refusal, submission_entry}
 use Rattle.wb_model.specs.Logins.{new_session, welcome}
 use Rattle.wb_model.specs.Effects.{View, OfHealth, OfTenant, OfContext, OfReports, OfDues, OfRequests, OfConfiguration, Effect, Misses, Looks, Reads, Writes, Erases, Submits, Comes, Goes, Sets, caller, effect_of}
@@ -36,7 +36,7 @@ refusal_alone g n o Erases = Some not_found
 
 -- ---- what it changes: a report begins, a session of the user who asks begins or ends, or a setting is put in
 
-abbrev pub change_alone : At → Registry → Option Who → Outcome → Effect → Change
+abbrev pub change_alone : TurnContext → Registry → Option Who → Outcome → Effect → Change
 change_alone at g who o (Submits c form) = Begins (submission_entry at g o c form)
 change_alone at g who o (Comes role) = LogsIn (new_session at g role (TheUser (caller who)))
 change_alone at g who o (Goes turn) = LogsOut turn (TheUser (caller who))
@@ -49,7 +49,7 @@ change_alone at g who o Erases = Nothing
 
 -- ---- what is answered
 
-abbrev pub shown : At → Plain → Option Who → View → Told
+abbrev pub shown : TurnContext → Plain → Option Who → View → Told
 shown at p who OfHealth = told 200 health_view
 shown at p who OfTenant = told 200 (public_view p.registry)
 shown at p who (OfContext c form) = told 200 (context_view c form)
@@ -58,7 +58,7 @@ shown at p who OfDues = told 200 (due_view (all_due (readable (caller who) p.cas
 shown at p who OfRequests = told 200 (custody_view (all_custodied p.registry.users p.cases))
 shown at p who OfConfiguration = told 200 (admin_view p.registry p.numbering.last)
 
-abbrev pub answer_alone : At → Plain → Option Who → Effect → Answer
+abbrev pub answer_alone : TurnContext → Plain → Option Who → Effect → Answer
 answer_alone at p who (Looks view) = Says (shown at p who view)
 answer_alone at p who (Submits c form) = Says (told 201 (submission_view (p.numbering.last + 1) (receipt_text at.words)))
 answer_alone at p who (Comes role) = Says (welcome at role)
@@ -72,22 +72,22 @@ answer_alone at p who Erases = Says not_found
 -- ---- the verdict
 
 -- what a request does, with the trail of the report that it is on
-abbrev pub effect_at : Plain → At → Request → Option Who → List Entry → Effect
+abbrev pub effect_at : Plain → TurnContext → Request → Option Who → List Entry → Effect
 effect_at p at q who trail = effect_of at p.registry who q.session trail q.command
 
-abbrev pub verdict_alone : Plain → At → Request → Option Who → Verdict
+abbrev pub verdict_alone : Plain → TurnContext → Request → Option Who → Verdict
 verdict_alone p at q who = let does = effect_at p at q who [] in
     judged (refusal_alone p.registry (drawing at p) q.outcome does) (change_alone at p.registry who q.outcome does) (answer_alone at p who does)
 
-abbrev pub verdict_on_case : Plain → At → Request → Who → Case → Verdict
+abbrev pub verdict_on_case : Plain → TurnContext → Request → Who → Case → Verdict
 verdict_on_case p at q who case = let does = effect_at p at q (Some who) case.trail in
     judged (refusal_on at p.registry who case q.outcome does) (change_on at p.registry who case.number case.trail does) (answer_on at p.registry who case does)
 
-abbrev pub verdict_on : Plain → At → Request → Target → Verdict
+abbrev pub verdict_on : Plain → TurnContext → Request → Target → Verdict
 verdict_on p at q (Nobody refusal) = Refused refusal
 verdict_on p at q (Alone who) = verdict_alone p at q who
 verdict_on p at q (On who case) = verdict_on_case p at q who case
 
 -- the verdict on a request
-abbrev pub verdict : Plain → At → Request → Verdict
+abbrev pub verdict : Plain → TurnContext → Request → Verdict
 verdict p at q = verdict_on p at q (target p q.session q.command)

@@ -15,7 +15,7 @@ use Rattle.wb_model.specs.Tables.{Registry, Plain, drawn_on, with_receipt}
 use Rattle.wb_model.specs.Refusals.{numbers_spent, quota_spent, receipt_taken, faulty}
 use Rattle.wb_model.specs.Refusing.{refuses_where}
 use Rattle.wb_model.specs.Requests.{Outcome, Unchecked, Checked}
-use Rattle.wb_model.specs.Changes.{At}
+use Rattle.wb_model.specs.Changes.{TurnContext}
 
 -- what is wrong with its answers
 abbrev pub outcome_refusal : Outcome → Option Told
@@ -28,7 +28,7 @@ pub record Drawing : Type 0 where
   pub today : ℕ
   pub taken : Bool
 
-abbrev pub drawing : At → Plain → Drawing
+abbrev pub drawing : TurnContext → Plain → Drawing
 drawing at p = record {
   last = p.numbering.last;
   today = drawn_on (day_of at.time p.registry.settings.offset) p.registry.settings p.numbering;
@@ -52,7 +52,7 @@ mark_in Unchecked = false
 mark_in (Checked fault answers marked) = marked
 
 -- the entry with which a report begins
-unfoldable pub submission_entry : At → Registry → Outcome → ContextItem → FormItem → Entry
+unfoldable pub submission_entry : TurnContext → Registry → Outcome → ContextItem → FormItem → Entry
 submission_entry at g o c form = let received = day_of at.time g.settings.offset in record {
   at = at.time;
   by = actors.Reporter;

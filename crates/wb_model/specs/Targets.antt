@@ -75,23 +75,23 @@ session_target p k None = Nobody no_session
 session_target p k (Some s) = who_target p s.role k s.who
 
 -- who logs in by a name and a password: an enabled user
-abbrev pub entering : Salt → List ℕ → Option UserItem → Target
-entering salt password None = Nobody bad_login
-entering salt password (Some x) = if x.enabled && same_digest x.secret (digest salt password) then Alone (Some (TheUser x.id)) else Nobody bad_login
+abbrev pub by_password : Salt → List ℕ → Option UserItem → Target
+by_password salt password None = Nobody bad_login
+by_password salt password (Some x) = if x.enabled && same_digest x.secret (digest salt password) then Alone (Some (TheUser x.id)) else Nobody bad_login
 
 -- and by a receipt: a live report's reporter
-abbrev pub returning : Option Case → Target
-returning None = Nobody bad_login
-returning (Some c) = On (TheReporter c.number) c
+abbrev pub by_receipt : Option Case → Target
+by_receipt None = Nobody bad_login
+by_receipt (Some c) = On (TheReporter c.number) c
 
 -- a request that needs no session
-abbrev pub unasked : Plain → Command → Target
-unasked p (commands.Login t name password) = entering p.registry.settings.salt password (user_named name p.registry.users)
-unasked p (commands.ReceiptLogin t receipt) = returning (with_receipt (digest p.registry.settings.salt receipt) p.cases)
-unasked p _ = Alone None
+abbrev pub anonymous : Plain → Command → Target
+anonymous p (commands.Login t name password) = by_password p.registry.settings.salt password (user_named name p.registry.users)
+anonymous p (commands.ReceiptLogin t receipt) = by_receipt (with_receipt (digest p.registry.settings.salt receipt) p.cases)
+anonymous p _ = Alone None
 
 abbrev pub needed_target : Plain → Presented → Command → Need → Target
-needed_target p presented command Anyone = unasked p command
+needed_target p presented command Anyone = anonymous p command
 needed_target p presented command k = session_target p k (session p.registry.settings.salt presented p.sessions)
 
 -- the target of a request

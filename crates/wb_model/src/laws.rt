@@ -10,7 +10,7 @@ ghost use Rattle.wb_model.specs.declared.registry.ContextItem.{ContextItem};
 ghost use Rattle.wb_model.specs.declared.registry.FormItem.{FormItem};
 ghost use Rattle.wb_model.specs.Access.{user_by};
 ghost use Rattle.wb_model.specs.Alike.{is_refused};
-ghost use Rattle.wb_model.specs.Changes.{At, Refused};
+ghost use Rattle.wb_model.specs.Changes.{TurnContext, Refused};
 ghost use Rattle.wb_model.specs.Refused.{host_unchanged, hosts_unchanged};
 ghost use Rattle.wb_model.specs.declared.body.Told.{Told};
 ghost use Rattle.wb_model.specs.Host.{ruling_at};
@@ -161,15 +161,15 @@ pub fn sessions_stand_turn_by_turn()
 /// entry with which a submission begins its trail. A legal trail stays legal with such an entry.
 pub fn what_is_not_refused_is_legal()
     ensures doing { (days : Reckoning) (last time : ℕ) (es : List Entry) (by : Actor) (d : Doing) → last ≤ time → AsksRightly days time by d → doing_fault es (user_by by) d ≡ None → is_next days last es (record { at = time; by = by; deed = doing_deed days.calendar time es d }) ≡ true }
-    ensures submission { (at : At) (g : Registry) (o : Outcome) (c : ContextItem) (form : FormItem) → 1 ≤ c.retention → c.retention ≤ 3_650 → are_readers c.recipients ≡ true → is_first (reckoning g.settings) (submission_entry at g o c form) ≡ true }
+    ensures submission { (at : TurnContext) (g : Registry) (o : Outcome) (c : ContextItem) (form : FormItem) → 1 ≤ c.retention → c.retention ≤ 3_650 → are_readers c.recipients ≡ true → is_first (reckoning g.settings) (submission_entry at g o c form) ≡ true }
     ensures more { (days : Reckoning) (es : List Entry) (e : Entry) → is_legal days es ≡ true → is_next days (last_at 0 es) es e ≡ true → is_legal days (es ++ e ∷ []) ≡ true }
 {}
 
 /// A turn over purged tables, whose registry is in its ranges, keeps the trails of all reports legal, and the registry in
 /// its ranges.
 pub fn a_turn_keeps_trails_legal()
-    ensures trails { (t : Tables) (at : At) (a : Asked) → fits_command a.command ≡ true → IsSound t.plain.registry → Ascend 0 t.plain.cases → AreLegal (reckoning t.plain.registry.settings) at.time t.plain.cases → AreLegal (reckoning t.plain.registry.settings) at.time (tables_after t at a).plain.cases }
-    ensures registry { (t : Tables) (at : At) (a : Asked) → fits_command a.command ≡ true → IsSound t.plain.registry → IsSound (tables_after t at a).plain.registry }
+    ensures trails { (t : Tables) (at : TurnContext) (a : Asked) → fits_command a.command ≡ true → IsSound t.plain.registry → Ascend 0 t.plain.cases → AreLegal (reckoning t.plain.registry.settings) at.time t.plain.cases → AreLegal (reckoning t.plain.registry.settings) at.time (tables_after t at a).plain.cases }
+    ensures registry { (t : Tables) (at : TurnContext) (a : Asked) → fits_command a.command ≡ true → IsSound t.plain.registry → IsSound (tables_after t at a).plain.registry }
 {}
 
 /// What the rules of a setup let through is what a host may be opened with, for each tenant; and so is what the rules of

@@ -10,9 +10,9 @@ use Rattle.wb_base.specs.declared.rows.Row.{Row}
 use Rattle.wb_custody.specs.declared.sealed.SealedItem.{SealedItem}
 use Rattle.wb_custody.specs.SealedAnswers.{is_of, answers_of}
 use Rattle.wb_desk.specs.Openings.{IsOpeningOver}
-use Rattle.wb_kinds.specs.declared.item.Item.{Item}
-use Rattle.wb_kinds.specs.declared.item.Item.TheVariants as items
-use Rattle.wb_kinds.specs.Items.{item_of, item_row, is_key}
+use Rattle.wb_row_codec.specs.declared.item.Item.{Item}
+use Rattle.wb_row_codec.specs.declared.item.Item.TheVariants as items
+use Rattle.wb_row_codec.specs.Items.{item_of, item_row, is_key}
 use Rattle.wb_model.specs.declared.registry.Lists.{Lists}
 use Rattle.wb_model.specs.Alike.{TablesAlike}
 use Rattle.wb_model.specs.OtherOpenings.{OpeningsAlike}

@@ -9,9 +9,9 @@ use Rattle.wb_base.specs.declared.form.Format.{Format}
 use Rattle.wb_base.specs.declared.form.Format.TheVariants.{Plain, Weighed}
 use Rattle.wb_base.specs.declared.rows.Key.{Key}
 use Rattle.wb_base.specs.declared.rows.Row.{Row}
-use Rattle.wb_kinds.specs.declared.item.Item.{Item}
-use Rattle.wb_kinds.specs.declared.item.Item.TheVariants as items
-use Rattle.wb_kinds.specs.Items.{item_of, item_row, is_row, is_key}
+use Rattle.wb_row_codec.specs.declared.item.Item.{Item}
+use Rattle.wb_row_codec.specs.declared.item.Item.TheVariants as items
+use Rattle.wb_row_codec.specs.Items.{item_of, item_row, is_row, is_key}
 use Rattle.wb_model.specs.Rows.{format_row}
 use Rattle.wb_row_rules.specs.declared.faults.RowFault.{RowFault}
 use Rattle.wb_row_rules.specs.declared.faults.RowFault.TheVariants.{BadRow}

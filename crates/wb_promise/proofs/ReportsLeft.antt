@@ -6,7 +6,7 @@ use Rattle.std.proofs.lemmas.List.{length-append}
 use Rattle.wb_base.specs.declared.rows.Key.{Key}
 use Rattle.wb_model.specs.declared.registry.Lists.{Lists}
 use Rattle.wb_model.specs.Legal.{is_first, is_next, last_at}
-use Rattle.wb_kinds.specs.declared.item.EntryItem.{EntryItem}
+use Rattle.wb_row_codec.specs.declared.item.EntryItem.{EntryItem}
 use Rattle.wb_row_rules.specs.Places.{entry_key}
 use Rattle.wb_row_rules.specs.Reports.{Report}
 use Rattle.wb_row_rules.specs.TrailRule.{days, begun, continued, is_of, begins, goes_on, with_report, reports_after, reports_of}

@@ -12,7 +12,7 @@ use Rattle.wb_model.specs.declared.command.Command.{Command}
 use Rattle.wb_model.specs.declared.command.Command.TheVariants.{Submit}
 use Rattle.wb_model.specs.declared.registry.ContextItem.{ContextItem}
 use Rattle.wb_model.specs.declared.registry.FormItem.{FormItem}
-use Rattle.wb_model.specs.Changes.{At, Change, Answer, Says, judged}
+use Rattle.wb_model.specs.Changes.{TurnContext, Change, Answer, Says, judged}
 use Rattle.wb_model.specs.Effects.{Submits, with_form}
 use Rattle.wb_model.specs.Host.{Sealed, reply_by}
 use Rattle.wb_model.specs.Json.{told as answered}
@@ -45,7 +45,7 @@ refusal_is : (g : Registry) (n : Drawing) (o : Option ContextItem) (given : Answ
     → nat_le 4_294_967_295 n.last ≡ false → nat_le g.settings.quota n.today ≡ false → n.taken ≡ false → refusal_alone g n (submission_outcome (asking_form o g.forms) given) (with_form Submits o (open_form o g.forms)) ≡ None
 refusal_is g n o given item form found opens asks valid unspent quota free = rw (found, opens, asks, valid, unspent, quota, free) refl
 
-answer_is : (at : At) (p : Plain) (o : Option ContextItem) (item : ContextItem) (form : FormItem) → o ≡ Some item → item.is_open ≡ true → newest_form item.form p.registry.forms ≡ Some form
+answer_is : (at : TurnContext) (p : Plain) (o : Option ContextItem) (item : ContextItem) (form : FormItem) → o ≡ Some item → item.is_open ≡ true → newest_form item.form p.registry.forms ≡ Some form
     → answer_alone at p None (with_form Submits o (open_form o p.registry.forms)) ≡ Says (answered 201 (submission_view (p.numbering.last + 1) (receipt_text at.words)))
 answer_is at p o item form found opens asks = rw (found, opens, asks) refl
 
@@ -56,7 +56,7 @@ submission moment words session close t c given = record { moment = moment; word
 one_told : (past : Past Opened) (moment : ℕ) (words : Words) (session : Presented) (close : Bool) (t c : ℕ) (given : Answered) →
     IsWelcome (at_frame past (submission moment words session close t c given)) (plain past (at_frame past (submission moment words session close t c given)).time) c given → IsWellAnswered (reply_at past (submission moment words session close t c given))
 one_told past moment words session close t c given h =
-    let at : At = at_frame past (submission moment words session close t c given) in
+    let at : TurnContext = at_frame past (submission moment words session close t c given) in
     let p : Plain = plain past at.time in
     let o : Option ContextItem = context_by c p.registry.contexts in
     well _ _ _ (tables past at.time).sealed _ (refusal_is p.registry (drawing at p) o given h.item h.form h.found h.opens h.asks h.valid (below p.numbering.last 4_294_967_295 h.unspent) (below (drawing at p).today p.registry.settings.quota h.in_quota) (none_some _ h.free))

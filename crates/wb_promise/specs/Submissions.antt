@@ -8,7 +8,7 @@ use Rattle.wb_model.specs.declared.command.Asked.{Asked}
 use Rattle.wb_model.specs.declared.command.Command.TheVariants.{Submit}
 use Rattle.wb_model.specs.declared.registry.ContextItem.{ContextItem}
 use Rattle.wb_model.specs.declared.registry.FormItem.{FormItem}
-use Rattle.wb_model.specs.Changes.{At}
+use Rattle.wb_model.specs.Changes.{TurnContext}
 use Rattle.wb_model.specs.Past.{Past, plain}
 use Rattle.wb_model.specs.PastTurns.{at_frame}
 use Rattle.wb_model.specs.Pasts.{AllOpened, part, has_tenant}
@@ -20,7 +20,7 @@ use Rattle.wb_model.specs.Tables.{Plain, context as context_by, newest_form, wit
 
 -- a submission that finds all it needs in a tenant's tables at its turn: its context is there and open, and the context's form finds no fault
 -- in its answers; the tenant's last number is not drawn yet, nor are so many on this day as the quota has, and no live report has the receipt
-pub record IsWelcome (at : At) (p : Plain) (context : ℕ) (given : Answered) : Type 0 where
+pub record IsWelcome (at : TurnContext) (p : Plain) (context : ℕ) (given : Answered) : Type 0 where
   pub item : ContextItem
   pub found : context_by context p.registry.contexts ≡ Some item
   pub opens : item.is_open ≡ true

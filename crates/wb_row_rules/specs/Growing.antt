@@ -1,7 +1,7 @@
 -- The reports that are read so far, and those of the entries that are left.
 use Rattle.std.specs.Prelude.{◌≡◌, Bool, false, List, ◌++◌, Option, Some, None, Result, Ok, Err}
 use Rattle.wb_base.specs.declared.rows.Key.{Key}
-use Rattle.wb_kinds.specs.declared.item.EntryItem.{EntryItem}
+use Rattle.wb_row_codec.specs.declared.item.EntryItem.{EntryItem}
 use Rattle.wb_model.specs.declared.registry.Lists.{Lists}
 use Rattle.wb_row_rules.specs.declared.faults.RowFault.{RowFault}
 use Rattle.wb_row_rules.specs.declared.faults.RowFault.TheVariants.{BadRow, BadSet, Memory}

@@ -2,8 +2,8 @@
 use Rattle.std.specs.Prelude.{ℕ}
 use Rattle.wb_base.specs.declared.rows.Key.{Key}
 use Rattle.wb_custody.specs.declared.sealed.SealedItem.{SealedItem}
-use Rattle.wb_kinds.specs.declared.item.EntryItem.{EntryItem}
-use Rattle.wb_kinds.specs.declared.item.NumberingItem.{NumberingItem}
+use Rattle.wb_row_codec.specs.declared.item.EntryItem.{EntryItem}
+use Rattle.wb_row_codec.specs.declared.item.NumberingItem.{NumberingItem}
 use Rattle.wb_model.specs.declared.registry.ContextItem.{ContextItem}
 use Rattle.wb_model.specs.declared.registry.FormItem.{FormItem}
 use Rattle.wb_model.specs.declared.registry.UserItem.{UserItem}

@@ -1,7 +1,7 @@
 -- The rule of trails, rule 5: each runs from 1 without a gap, and each entry is legal after those before it.
 use Rattle.std.specs.Prelude.{ℕ, ◌+◌, ◌==◌, ◌&&◌, if◌then◌else◌, Bool, List, [], ◌∷◌, ◌++◌, length, Result, Ok, Err}
 use Rattle.wb_base.specs.declared.rows.Key.{Key}
-use Rattle.wb_kinds.specs.declared.item.EntryItem.{EntryItem}
+use Rattle.wb_row_codec.specs.declared.item.EntryItem.{EntryItem}
 use Rattle.wb_model.specs.declared.registry.Lists.{Lists}
 use Rattle.wb_model.specs.Legal.{Reckoning, reckoning, is_first, is_legal, is_next, last_at}
 use Rattle.wb_model.specs.Openings.{registry_of}

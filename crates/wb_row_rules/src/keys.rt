@@ -4,7 +4,7 @@ ghost use Rattle.wb_row_rules.specs.Places.{entry_key as entry_key_of, sealed_ke
 
 use wb_base::Key;
 use wb_custody::SealedItem;
-use wb_kinds::{EntryItem, NumberingItem};
+use wb_row_codec::{EntryItem, NumberingItem};
 
 /// The key of a numbering's row.
 pub fn numbering_key(item: &NumberingItem) -> Key

@@ -13,8 +13,8 @@ ghost use Rattle.wb_row_rules.specs.ReportRules.{has_right_answers as has_right_
 
 use std::alloc::Global;
 use wb_base::{AnswerFault, Answers, Form, Memory, Role, Tenant, UserId};
-use wb_kinds::EntryItem;
 use wb_model::{Actor, Deed, Entry};
+use wb_row_codec::EntryItem;
 use wb_tenants::Registry;
 use wb_trigger::check;
 

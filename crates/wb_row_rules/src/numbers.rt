@@ -7,8 +7,8 @@ ghost use Rattle.wb_model.specs.Trails.{submission_in};
 ghost use Rattle.wb_row_rules.specs.ReportRules.{is_numbering_of, is_drawn as is_drawn_in, is_by_draw as is_by_draw_in, is_right_numbering as is_right_numbering_in};
 
 use wb_base::{Number, Tenant};
-use wb_kinds::{EntryItem, NumberingItem};
 use wb_model::{Deed, Numbering};
+use wb_row_codec::{EntryItem, NumberingItem};
 
 // The numbering of a tenant. There are at most 64.
 fn find_numbering(numberings: &[NumberingItem], tenant: Tenant) -> Option<&NumberingItem>

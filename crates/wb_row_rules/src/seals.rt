@@ -15,9 +15,9 @@ use crate::cases::CaseItem;
 use std::alloc::Global;
 use wb_base::{AnswerFault, Answers, Form, Memory, Tenant};
 use wb_custody::SealedItem;
-use wb_kinds::EntryItem;
 use wb_list::Sorted;
 use wb_model::{Deed, Entry};
+use wb_row_codec::EntryItem;
 use wb_tenants::Registry;
 use wb_trigger::check_identity;
 

@@ -3,7 +3,7 @@ ghost use Rattle.std.specs.Prelude.{◌≡◌, ◌+◌, ◌==◌, ◌∷◌, Lis
 ghost use Rattle.std.specs.List.{list_all};
 ghost use Rattle.wb_base.specs.Calendars.{plain as plain_one};
 ghost use Rattle.wb_base.specs.Days.{IsOffset};
-ghost use Rattle.wb_kinds.specs.declared.item.EntryItem.{EntryItem as EntryData};
+ghost use Rattle.wb_row_codec.specs.declared.item.EntryItem.{EntryItem as EntryData};
 ghost use Rattle.wb_custody.specs.Desks.{HasRoom};
 ghost use Rattle.wb_model.specs.declared.registry.Lists.{Lists};
 ghost use Rattle.wb_model.specs.Legal.{is_next, is_first as is_first_of};
@@ -24,7 +24,7 @@ use crate::open::Open;
 use std::alloc::Global;
 use wb_base::{Calendar, Memory, Tenant};
 use wb_case::Case;
-use wb_kinds::EntryItem;
+use wb_row_codec::EntryItem;
 use wb_tenants::Registry;
 
 // How a tenant reckons days: at UTC and on a plain calendar where the tenant is not there.

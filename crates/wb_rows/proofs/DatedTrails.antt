@@ -17,8 +17,8 @@ use Rattle.wb_model.specs.declared.entry.Entry.{Entry}
 use Rattle.wb_model.specs.Trails.{Submission, submission_in, expires, expires_in, received, acknowledged, acknowledged_in, is_extended}
 use Rattle.wb_model.specs.Legal.{Reckoning, is_within, is_effective, are_readers, right_actor, right_values, is_first, is_next, legal_from, is_legal, last_at, is_free, done}
 use Rattle.wb_model.specs.Access.{user_by}
-use Rattle.wb_kinds.specs.Good.{is_dated}
-use Rattle.wb_kinds.specs.Shapes.{is_within as is_between_days}
+use Rattle.wb_row_codec.specs.Good.{is_dated}
+use Rattle.wb_row_codec.specs.Shapes.{is_within as is_between_days}
 
 -- the day of a moment of a host, from which terms are counted
 abbrev pub is_of_moment : ℤ → Bool

@@ -10,10 +10,10 @@ use Rattle.wb_base.specs.KeptRows.{key_cmp}
 use Rattle.wb_base.specs.declared.rows.Key.{Key}
 use Rattle.wb_base.specs.declared.rows.Row.{Row}
 use Rattle.wb_custody.specs.declared.sealed.SealedItem.{SealedItem}
-use Rattle.wb_kinds.specs.declared.item.EntryItem.{EntryItem}
-use Rattle.wb_kinds.specs.declared.item.Item.{Item}
-use Rattle.wb_kinds.specs.declared.item.Item.TheVariants as items
-use Rattle.wb_kinds.specs.Items.{item_row}
+use Rattle.wb_row_codec.specs.declared.item.EntryItem.{EntryItem}
+use Rattle.wb_row_codec.specs.declared.item.Item.{Item}
+use Rattle.wb_row_codec.specs.declared.item.Item.TheVariants as items
+use Rattle.wb_row_codec.specs.Items.{item_row}
 use Rattle.wb_model.specs.Json.{answers_data}
 use Rattle.wb_model.specs.Rows.{row, entry_data}
 use Rattle.wb_rows.specs.declared.items.Kept.{Kept}

@@ -21,11 +21,11 @@ use Rattle.wb_row_rules.specs.Places.{entry_key}
 use Rattle.wb_rows.specs.ReadItems.{items_in, with_first}
 use Rattle.wb_base.specs.declared.rows.Key.{Key}
 use Rattle.wb_custody.specs.declared.sealed.SealedItem.{SealedItem}
-use Rattle.wb_kinds.specs.declared.item.EntryItem.{EntryItem}
-use Rattle.wb_kinds.specs.declared.item.Item.{Item}
-use Rattle.wb_kinds.specs.declared.item.Item.TheVariants as items
-use Rattle.wb_kinds.specs.declared.item.NumberingItem.{NumberingItem}
-use Rattle.wb_kinds.specs.Items.{item_row, item_of, is_key, is_row, is_in_range}
+use Rattle.wb_row_codec.specs.declared.item.EntryItem.{EntryItem}
+use Rattle.wb_row_codec.specs.declared.item.Item.{Item}
+use Rattle.wb_row_codec.specs.declared.item.Item.TheVariants as items
+use Rattle.wb_row_codec.specs.declared.item.NumberingItem.{NumberingItem}
+use Rattle.wb_row_codec.specs.Items.{item_row, item_of, is_key, is_row, is_in_range}
 use Rattle.wb_list.specs.Keyed.{IsAscending}
 use Rattle.wb_model.specs.declared.registry.ContextItem.{ContextItem}
 use Rattle.wb_model.specs.declared.registry.FormItem.{FormItem}

@@ -6,13 +6,13 @@ use Rattle.std.specs.List.{list_all}
 use Rattle.wb_base.specs.AnswerList.{Answered}
 use Rattle.wb_base.specs.declared.rows.Row.{Row}
 use Rattle.wb_custody.specs.declared.sealed.SealedItem.{SealedItem}
-use Rattle.wb_kinds.specs.declared.item.EntryItem.{EntryItem}
-use Rattle.wb_kinds.specs.declared.item.Item.{Item}
-use Rattle.wb_kinds.specs.declared.item.Item.TheVariants as items
-use Rattle.wb_kinds.specs.declared.item.NumberingItem.{NumberingItem}
-use Rattle.wb_kinds.specs.Good.{is_good}
-use Rattle.wb_kinds.specs.Items.{item_row, is_kept_in}
-use Rattle.wb_kinds.proofs.GoodRows.{item-back}
+use Rattle.wb_row_codec.specs.declared.item.EntryItem.{EntryItem}
+use Rattle.wb_row_codec.specs.declared.item.Item.{Item}
+use Rattle.wb_row_codec.specs.declared.item.Item.TheVariants as items
+use Rattle.wb_row_codec.specs.declared.item.NumberingItem.{NumberingItem}
+use Rattle.wb_row_codec.specs.Good.{is_good}
+use Rattle.wb_row_codec.specs.Items.{item_row, is_kept_in}
+use Rattle.wb_row_codec.proofs.GoodRows.{item-back}
 use Rattle.wb_model.specs.declared.registry.ContextItem.{ContextItem}
 use Rattle.wb_model.specs.declared.registry.FormItem.{FormItem}
 use Rattle.wb_model.specs.declared.registry.TenantItem.{TenantItem}

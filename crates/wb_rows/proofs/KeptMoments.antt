@@ -5,7 +5,7 @@ use Rattle.std.proofs.lemmas.Bool.Decides.{nat_tests}
 use Rattle.std.proofs.lemmas.List.Folds.{list_all-append, list_all-map}
 use Rattle.std.specs.List.{list_all}
 use Rattle.std.specs.Prelude.{max, nat_le}
-use Rattle.wb_kinds.specs.declared.item.NumberingItem.{NumberingItem}
+use Rattle.wb_row_codec.specs.declared.item.NumberingItem.{NumberingItem}
 use Rattle.wb_model.specs.declared.entry.Entry.{Entry}
 use Rattle.wb_model.specs.Legal.{last_at}
 use Rattle.wb_model.specs.Reopened.{latest}

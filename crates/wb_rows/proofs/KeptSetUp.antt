@@ -9,8 +9,8 @@ use Rattle.std.specs.Prelude.{◌==◌, ◌&&◌, ◌||◌, nat_le}
 use Rattle.wb_base.specs.KeptRows.{key_cmp, key_of}
 use Rattle.wb_base.specs.declared.callers.Role.TheVariants.{Recipient}
 use Rattle.wb_base.specs.declared.rows.Row.{Row}
-use Rattle.wb_kinds.specs.declared.item.Item.{Item}
-use Rattle.wb_kinds.specs.Items.{is_in_range, item_row}
+use Rattle.wb_row_codec.specs.declared.item.Item.{Item}
+use Rattle.wb_row_codec.specs.Items.{is_in_range, item_row}
 use Rattle.wb_model.specs.declared.registry.ContextItem.{ContextItem}
 use Rattle.wb_model.specs.declared.registry.FormItem.{FormItem}
 use Rattle.wb_model.specs.declared.registry.Lists.{Lists}

@@ -13,11 +13,11 @@ use Rattle.wb_base.specs.Days.{IsOffset}
 use Rattle.wb_base.specs.declared.callers.Role.TheVariants.{Recipient}
 use Rattle.wb_base.specs.FormFaults.{is_good as is_good_form}
 use Rattle.wb_custody.specs.declared.sealed.SealedItem.{SealedItem}
-use Rattle.wb_kinds.specs.declared.item.EntryItem.{EntryItem}
-use Rattle.wb_kinds.specs.declared.item.Item.{Item}
-use Rattle.wb_kinds.specs.declared.item.Item.TheVariants as items
-use Rattle.wb_kinds.specs.declared.item.NumberingItem.{NumberingItem}
-use Rattle.wb_kinds.specs.Good.{is_tenant, is_moment, is_actor, is_deed, is_entry, is_numbering, is_dated, are_users, is_good}
+use Rattle.wb_row_codec.specs.declared.item.EntryItem.{EntryItem}
+use Rattle.wb_row_codec.specs.declared.item.Item.{Item}
+use Rattle.wb_row_codec.specs.declared.item.Item.TheVariants as items
+use Rattle.wb_row_codec.specs.declared.item.NumberingItem.{NumberingItem}
+use Rattle.wb_row_codec.specs.Good.{is_tenant, is_moment, is_actor, is_deed, is_entry, is_numbering, is_dated, are_users, is_good}
 use Rattle.wb_model.specs.declared.entry.Actor.{Actor}
 use Rattle.wb_model.specs.declared.entry.Actor.TheVariants as actors
 use Rattle.wb_model.specs.declared.entry.Deed.{Deed}

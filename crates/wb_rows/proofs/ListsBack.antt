@@ -8,7 +8,7 @@ use Rattle.wb_base.specs.KeptRows.{key_of}
 use Rattle.wb_base.specs.declared.callers.Role.TheVariants.{Recipient}
 use Rattle.wb_base.specs.declared.rows.Key.{Key}
 use Rattle.wb_base.specs.declared.rows.Row.{Row}
-use Rattle.wb_kinds.specs.declared.item.NumberingItem.{NumberingItem}
+use Rattle.wb_row_codec.specs.declared.item.NumberingItem.{NumberingItem}
 use Rattle.wb_model.specs.declared.registry.ContextItem.{ContextItem}
 use Rattle.wb_model.specs.declared.registry.FormItem.{FormItem}
 use Rattle.wb_model.specs.declared.registry.Lists.{Lists}

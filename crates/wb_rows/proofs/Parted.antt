@@ -11,7 +11,7 @@ use Rattle.wb_base.specs.KeptRows.{key_cmp, key_of}
 use Rattle.wb_base.specs.declared.form.Format.{Format}
 use Rattle.wb_base.specs.declared.form.Format.TheVariants.{Plain, Weighed}
 use Rattle.wb_base.specs.declared.rows.Row.{Row}
-use Rattle.wb_kinds.specs.Items.{is_key}
+use Rattle.wb_row_codec.specs.Items.{is_key}
 use Rattle.wb_model.specs.Rows.{format_row, format_data}
 use Rattle.wb_model.specs.Rows as model_rows
 use Rattle.wb_model.specs.Tenants.{Tenancy}

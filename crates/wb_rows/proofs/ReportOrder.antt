@@ -11,7 +11,7 @@ use Rattle.std.specs.Prelude.{◌==◌, ◌&&◌, if◌then◌else◌}
 use Rattle.wb_base.specs.KeptRows.{key_cmp}
 use Rattle.wb_base.specs.declared.rows.Key.{Key}
 use Rattle.wb_custody.specs.SealedAnswers.{pair_cmp}
-use Rattle.wb_kinds.specs.declared.item.EntryItem.{EntryItem}
+use Rattle.wb_row_codec.specs.declared.item.EntryItem.{EntryItem}
 use Rattle.wb_list.specs.Keyed.{IsAscending}
 use Rattle.wb_model.specs.declared.registry.Lists.{Lists}
 use Rattle.wb_row_rules.specs.declared.cases.CaseItem.{CaseItem}

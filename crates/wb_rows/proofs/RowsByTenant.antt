@@ -10,7 +10,7 @@ use Rattle.wb_base.specs.AnswerList.{Answered}
 use Rattle.wb_base.specs.FormJson.{form_in}
 use Rattle.wb_base.specs.declared.rows.Row.{Row}
 use Rattle.wb_custody.specs.SealedAnswers.{pair_cmp}
-use Rattle.wb_kinds.specs.declared.item.NumberingItem.{NumberingItem}
+use Rattle.wb_row_codec.specs.declared.item.NumberingItem.{NumberingItem}
 use Rattle.wb_list.specs.Keyed.{IsAscending}
 use Rattle.wb_model.specs.declared.registry.ContextItem.{ContextItem}
 use Rattle.wb_model.specs.declared.registry.FormItem.{FormItem}

@@ -20,11 +20,11 @@ use Rattle.wb_base.specs.FormShape.{keep, optional, all_of, list_of, flag_at}
 use Rattle.wb_base.specs.declared.form.Format.{Format}
 use Rattle.wb_base.specs.declared.rows.Key.{Key}
 use Rattle.wb_base.specs.declared.rows.Row.{Row}
-use Rattle.wb_kinds.specs.declared.item.Item.{Item}
-use Rattle.wb_kinds.specs.declared.item.Item.TheVariants as items
-use Rattle.wb_kinds.specs.Items.{item_row, where_in, of_kind, shaped, is_row, item_of}
-use Rattle.wb_kinds.specs.SaidDeeds as said
-use Rattle.wb_kinds.specs.Shapes as shapes
+use Rattle.wb_row_codec.specs.declared.item.Item.{Item}
+use Rattle.wb_row_codec.specs.declared.item.Item.TheVariants as items
+use Rattle.wb_row_codec.specs.Items.{item_row, where_in, of_kind, shaped, is_row, item_of}
+use Rattle.wb_row_codec.specs.SaidDeeds as said
+use Rattle.wb_row_codec.specs.Shapes as shapes
 use Rattle.wb_model.specs.declared.entry.Deed.TheVariants as deeds
 use Rattle.wb_model.specs.declared.entry.Entry.{Entry}
 use Rattle.wb_model.specs.declared.entry.Status.{Status}

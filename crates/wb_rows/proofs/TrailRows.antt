@@ -3,7 +3,7 @@ use Rattle.std.proofs.Common.{◌≡◌, ◌⊎◌, inl, inr, ℕ, ◌+◌, true
 use Rattle.std.proofs.lemmas.Bool.{and_parts, eqb-true}
 use Rattle.std.proofs.lemmas.List.{map-append}
 use Rattle.std.specs.Prelude.{◌==◌}
-use Rattle.wb_kinds.specs.declared.item.EntryItem.{EntryItem}
+use Rattle.wb_row_codec.specs.declared.item.EntryItem.{EntryItem}
 use Rattle.wb_model.specs.declared.entry.Entry.{Entry}
 use Rattle.wb_model.specs.declared.registry.Lists.{Lists}
 use Rattle.wb_model.specs.Legal.{is_first, is_next, last_at}

@@ -2,8 +2,8 @@
 use Rattle.std.specs.Prelude.{◌≡◌, ℕ, true, map}
 use Rattle.std.specs.List.{list_all}
 use Rattle.wb_custody.specs.SealedAnswers.{pair_cmp}
-use Rattle.wb_kinds.specs.declared.item.NumberingItem.{NumberingItem}
-use Rattle.wb_kinds.specs.Good.{is_good}
+use Rattle.wb_row_codec.specs.declared.item.NumberingItem.{NumberingItem}
+use Rattle.wb_row_codec.specs.Good.{is_good}
 use Rattle.wb_list.specs.Keyed.{IsAscending}
 use Rattle.wb_model.specs.KeptRules.{AreKept}
 use Rattle.wb_model.specs.SetUps.{has_tenant, tenant_ids}

@@ -7,8 +7,8 @@ use Rattle.wb_base.specs.AnswerList.{is_text}
 use Rattle.wb_base.specs.declared.rows.Key.{Key}
 use Rattle.wb_base.specs.declared.rows.Row.{Row}
 use Rattle.wb_custody.specs.SealedAnswers.{answers_of}
-use Rattle.wb_kinds.specs.declared.item.Item.{Item}
-use Rattle.wb_kinds.specs.Items.{is_key}
+use Rattle.wb_row_codec.specs.declared.item.Item.{Item}
+use Rattle.wb_row_codec.specs.Items.{is_key}
 use Rattle.wb_model.specs.Rows.{format_row}
 use Rattle.wb_row_rules.specs.declared.faults.RowFault.{RowFault}
 use Rattle.wb_row_rules.specs.declared.faults.RowFault.TheVariants.{BadRow, BadSet}

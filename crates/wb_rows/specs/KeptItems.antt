@@ -2,10 +2,10 @@
 use Rattle.std.specs.Prelude.{List, [], ◌∷◌, ◌++◌, Option, Some, None}
 use Rattle.std.specs.List.{filter_map}
 use Rattle.wb_custody.specs.declared.sealed.SealedItem.{SealedItem}
-use Rattle.wb_kinds.specs.declared.item.EntryItem.{EntryItem}
-use Rattle.wb_kinds.specs.declared.item.Item.{Item}
-use Rattle.wb_kinds.specs.declared.item.Item.TheVariants as items
-use Rattle.wb_kinds.specs.declared.item.NumberingItem.{NumberingItem}
+use Rattle.wb_row_codec.specs.declared.item.EntryItem.{EntryItem}
+use Rattle.wb_row_codec.specs.declared.item.Item.{Item}
+use Rattle.wb_row_codec.specs.declared.item.Item.TheVariants as items
+use Rattle.wb_row_codec.specs.declared.item.NumberingItem.{NumberingItem}
 use Rattle.wb_model.specs.declared.registry.ContextItem.{ContextItem}
 use Rattle.wb_model.specs.declared.registry.FormItem.{FormItem}
 use Rattle.wb_model.specs.declared.registry.TenantItem.{TenantItem}

@@ -1,7 +1,7 @@
 -- What tenants hold, as what is held of all tenants.
 use Rattle.std.specs.Prelude.{◌≡◌, ◌≤◌, ℕ, true, List, map, find, None}
 use Rattle.std.specs.Option.{option_map_or}
-use Rattle.wb_kinds.specs.declared.item.NumberingItem.{NumberingItem}
+use Rattle.wb_row_codec.specs.declared.item.NumberingItem.{NumberingItem}
 use Rattle.wb_model.specs.LeftLists.{of_each, lists_of}
 use Rattle.wb_model.specs.ByVerdicts.{AreByVerdicts}
 use Rattle.wb_model.specs.Past.{Past}

@@ -1,7 +1,7 @@
 -- What is held, tenant by tenant: the tables with which a host is opened over it, and the moment of the opening.
 use Rattle.std.specs.Prelude.{ℕ, ◌==◌, List, [], ◌∷◌, ◌++◌, map, filter, find}
 use Rattle.std.specs.Option.{option_map_or}
-use Rattle.wb_kinds.specs.declared.item.NumberingItem.{NumberingItem}
+use Rattle.wb_row_codec.specs.declared.item.NumberingItem.{NumberingItem}
 use Rattle.wb_model.specs.declared.entry.Entry.{Entry}
 use Rattle.wb_model.specs.declared.numbering.Numbering.{Numbering}
 use Rattle.wb_model.specs.declared.registry.Lists.{Lists}

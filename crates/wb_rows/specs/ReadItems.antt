@@ -3,8 +3,8 @@ use Rattle.std.specs.Prelude.{List, [], ◌∷◌, Option, Some, None, Result, O
 use Rattle.wb_base.specs.declared.form.Format.{Format}
 use Rattle.wb_base.specs.declared.rows.Key.{Key}
 use Rattle.wb_base.specs.declared.rows.Row.{Row}
-use Rattle.wb_kinds.specs.declared.item.Item.{Item}
-use Rattle.wb_kinds.specs.Items.{item_of}
+use Rattle.wb_row_codec.specs.declared.item.Item.{Item}
+use Rattle.wb_row_codec.specs.Items.{item_of}
 use Rattle.wb_row_rules.specs.declared.faults.RowFault.{RowFault}
 use Rattle.wb_row_rules.specs.declared.faults.RowFault.TheVariants.{BadRow}
 

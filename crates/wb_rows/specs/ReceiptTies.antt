@@ -7,7 +7,7 @@ use Rattle.std.specs.Option.{option_map}
 use Rattle.std.proofs.lemmas.Cmp.{eq_by_cmp_equiv}
 use Rattle.std.specs.declared.cmp.Ordering.{Ordering}
 use Rattle.wb_base.specs.declared.words.Digest.{Digest}
-use Rattle.wb_kinds.specs.declared.item.EntryItem.{EntryItem}
+use Rattle.wb_row_codec.specs.declared.item.EntryItem.{EntryItem}
 use Rattle.wb_model.specs.Trails.{Submission, submission_in}
 use Rattle.wb_rows.specs.Marks.{same_mark}
 use Rattle.wb_rows.specs.NameTies.{place_cmp, place_total}

@@ -1,7 +1,7 @@
 //! What rows stand for, row by row, and the same kind by kind.
 ghost use Rattle.std.specs.Prelude.{◌≡◌, ◌≢◌, [], IfOk, IfErr, OnOk, Ok, Err, true};
 ghost use Rattle.std.specs.List.{list_all};
-ghost use Rattle.wb_kinds.specs.Items.{is_in_range};
+ghost use Rattle.wb_row_codec.specs.Items.{is_in_range};
 ghost use Rattle.wb_row_rules.specs.declared.faults.RowFault.TheVariants as faults;
 ghost use Rattle.wb_rows.specs.ReadItems.{items_in};
 ghost use Rattle.wb_rows.specs.KeptItems.{with_item, kept_of};
@@ -9,9 +9,9 @@ ghost use Rattle.wb_rows.specs.KeptItems.{with_item, kept_of};
 use std::alloc::Global;
 use wb_base::{Format, Memory, Row};
 use wb_custody::SealedItem;
-use wb_kinds::{EntryItem, Item, NumberingItem, read_item};
 use wb_list::Items;
 use wb_model::{ContextItem, FormItem, Lists, TenantItem, UserItem};
+use wb_row_codec::{EntryItem, Item, NumberingItem, read_item};
 use wb_row_rules::RowFault;
 
 /// What rows of a format stand for, or the first key whose row is not good.

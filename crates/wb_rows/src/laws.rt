@@ -30,7 +30,7 @@ ghost use Rattle.wb_rows.specs.Openings.{tables_of, with_setup};
 ghost use Rattle.wb_setup.specs.Joined.{joined};
 ghost use Rattle.std.specs.List.{list_all};
 ghost use Rattle.wb_base.specs.declared.form.Format.TheVariants.{Plain};
-ghost use Rattle.wb_kinds.specs.Items.{is_kept_in};
+ghost use Rattle.wb_row_codec.specs.Items.{is_kept_in};
 ghost use Rattle.wb_rows.specs.Puts.{sealed_put, setting_row, tenant_puts, IsVersion};
 
 /// The rows of tables that keep the rules, with each value in its range, are refused by no rule, and are read as these tables.

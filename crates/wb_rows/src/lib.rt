@@ -17,6 +17,6 @@ pub use laws::{
 };
 pub use reading::{format_of, read};
 pub use tables::Tables;
-pub use wb_kinds::{NumberingItem, entry_row, format_row, numbering_row, sealed_row};
+pub use wb_row_codec::{NumberingItem, entry_row, format_row, numbering_row, sealed_row};
 pub use wb_row_rules::{CaseItem, RowFault};
 pub use writing::{convert, write, write_own};

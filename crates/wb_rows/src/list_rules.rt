@@ -12,9 +12,9 @@ ghost use Rattle.wb_row_rules.specs.Places.{user_key, form_key, context_key};
 use crate::repeated::{Marked, first_repeated};
 use std::alloc::Global;
 use wb_base::{Key, Memory, Role, Row, Tenant, Text, UserId};
-use wb_kinds::NumberingItem;
 use wb_list::TryClone;
 use wb_model::{ContextItem, FormItem, Lists, TenantItem, UserItem};
+use wb_row_codec::NumberingItem;
 use wb_row_rules::RowFault;
 use wb_tenants::Registry;
 

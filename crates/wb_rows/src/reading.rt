@@ -24,7 +24,7 @@ ghost use Rattle.wb_rows.specs.Left.{left as left_by, IsReadBack};
 ghost use Rattle.wb_rows.specs.Judged.{AreBlames, judged, judged_in, judged_kept, judged_reports, is_format_key as format_key, format_of as format_in, IsParted};
 ghost use Rattle.wb_base.specs.AnswerList.{is_text};
 ghost use Rattle.wb_base.specs.declared.form.Format.TheVariants.{Plain};
-ghost use Rattle.wb_kinds.specs.Items.{is_kept_in};
+ghost use Rattle.wb_row_codec.specs.Items.{is_kept_in};
 ghost use Rattle.wb_rows.specs.Openings.{tables_of, tenancies_of, time_of};
 ghost use Rattle.wb_row_rules.specs.Places.{entry_key};
 ghost use Rattle.wb_row_rules.specs.TrailRule.{is_legal_report, reports_of};
@@ -37,8 +37,8 @@ use crate::tables::Tables;
 use std::alloc::Global;
 use wb_base::{Format, Key, Memory, Row, Text};
 use wb_custody::{SealedItem, SealedTable};
-use wb_kinds::{EntryItem, NumberingItem};
 use wb_list::{Items, Sorted};
+use wb_row_codec::{EntryItem, NumberingItem};
 use wb_row_rules::{CaseItem, RowFault, reports};
 use wb_tenants::Registry;
 

@@ -12,9 +12,9 @@ use crate::repeated::{Marked, first_repeated};
 use std::alloc::Global;
 use wb_base::{Digest, Key, Memory, Tenant};
 use wb_custody::SealedItem;
-use wb_kinds::{EntryItem, NumberingItem};
 use wb_list::Sorted;
 use wb_model::Deed;
+use wb_row_codec::{EntryItem, NumberingItem};
 use wb_row_rules::{
     CaseItem, RowFault, entry_key, has_its_seal, is_drawn, is_right_entry, is_right_numbering,
     is_right_seal, numbering_key, sealed_key,

@@ -1,8 +1,8 @@
 //! The tables that are kept.
 
 use wb_custody::SealedTable;
-use wb_kinds::NumberingItem;
 use wb_list::Items;
+use wb_row_codec::NumberingItem;
 use wb_row_rules::CaseItem;
 use wb_tenants::Registry;
 

@@ -14,8 +14,8 @@ use crate::tables::Tables;
 use std::alloc::Global;
 use wb_base::{Change, Format, Memory, Row};
 use wb_custody::SealedTable;
-use wb_kinds::{NumberingItem, entry_row, format_row, numbering_row, sealed_row};
 use wb_model::{ContextItem, FormItem, TenantItem, UserItem};
+use wb_row_codec::{NumberingItem, entry_row, format_row, numbering_row, sealed_row};
 use wb_row_rules::CaseItem;
 use wb_tenants::{context_row, form_row, settings_row, user_row};
 

@@ -1,7 +1,7 @@
 -- What holds by each lock.
 use Rattle.std.proofs.Common.{◌≡◌, refl}
-use Rattle.wb_words.specs.declared.plans.Lock.{Lock}
-use Rattle.wb_words.specs.declared.plans.Lock.TheVariants.{Mutex, Ticket}
+use Rattle.wb_cli.specs.declared.plans.Lock.{Lock}
+use Rattle.wb_cli.specs.declared.plans.Lock.TheVariants.{Mutex, Ticket}
 use Rattle.wb_serve.specs.Serves.{ByLock}
 
 pub by_lock : (lock : Lock) (A B : Type 0) → (lock ≡ Mutex → A) → (lock ≡ Ticket → B) → ByLock lock A B

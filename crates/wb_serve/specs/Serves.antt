@@ -11,12 +11,12 @@ use Rattle.wb_model.specs.Tenants.{Hosts}
 use Rattle.wb_tables.specs.Standing.{Standing, hosts_of}
 use Rattle.wb_desk.specs.Openings.{AreLoaded}
 use Rattle.wb_desk.specs.Turns.{StandsFor}
-use Rattle.wb_kept.specs.GoneOn.{HasGoneOn}
-use Rattle.wb_kept.specs.Hosted.{Hand, Hosted, turns_of, begun}
-use Rattle.wb_words.specs.declared.plans.Lock.{Lock}
-use Rattle.wb_words.specs.declared.plans.Lock.TheVariants.{Mutex, Ticket}
-use Rattle.wb_words.specs.declared.plans.Plan.TheVariants.{Serve}
-use Rattle.wb_words.specs.CommandLine.{Asks}
+use Rattle.wb_ledger.specs.GoneOn.{HasGoneOn}
+use Rattle.wb_ledger.specs.Hosted.{Hand, Hosted, turns_of, begun}
+use Rattle.wb_cli.specs.declared.plans.Lock.{Lock}
+use Rattle.wb_cli.specs.declared.plans.Lock.TheVariants.{Mutex, Ticket}
+use Rattle.wb_cli.specs.declared.plans.Plan.TheVariants.{Serve}
+use Rattle.wb_cli.specs.CommandLine.{Asks}
 use Rattle.wb_rows.specs.Judged.{judged}
 use Rattle.wb_rows.specs.Left.{left as left_by}
 use Rattle.wb_ticket_lock.specs.Histories.{IsSplitInto}

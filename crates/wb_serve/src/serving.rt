@@ -9,16 +9,16 @@ ghost use Rattle.wb_tables.specs.Standing.{Standing, hosts_of};
 ghost use Rattle.wb_setup.specs.Setups.{setup as lists_in};
 ghost use Rattle.wb_rows.specs.Held.{Held};
 ghost use Rattle.wb_rows.specs.Judged.{judged};
-ghost use Rattle.wb_kept.specs.GoneOn.{IsLater};
-ghost use Rattle.wb_kept.specs.Hosted.{Hand, turns_of, begun, fresh};
+ghost use Rattle.wb_ledger.specs.GoneOn.{IsLater};
+ghost use Rattle.wb_ledger.specs.Hosted.{Hand, turns_of, begun, fresh};
 ghost use Rattle.wb_front.specs.Attended.{clock_of, RoseOften};
 ghost use Rattle.wb_ticket.specs.OneHistory.{IsLastOf};
 ghost use Rattle.wb_ticket.specs.Owned.{TurnEntry};
 ghost use Rattle.wb_workers.specs.InOrder.{WasServedInOrder};
 ghost use Rattle.wb_workers.specs.Workers.{AtEach, HasNone, WasServed};
-ghost use Rattle.wb_words.specs.declared.plans.Lock.{Lock as LockOf};
-ghost use Rattle.wb_words.specs.declared.plans.Plan.TheVariants.{Serve};
-ghost use Rattle.wb_words.specs.CommandLine.{Asks};
+ghost use Rattle.wb_cli.specs.declared.plans.Lock.{Lock as LockOf};
+ghost use Rattle.wb_cli.specs.declared.plans.Plan.TheVariants.{Serve};
+ghost use Rattle.wb_cli.specs.CommandLine.{Asks};
 ghost use Rattle.wb_serve.specs.Serves.{AsksLock, ByLock, HasServed, IsServeForm, OpensNone, OpensOne, ServesIt, ServesInOrder, setup_limit};
 
 use crate::starting::start;
@@ -26,15 +26,15 @@ use std::alloc::Global;
 use std::sync::Wait;
 use std::thread::Threads;
 use wb_base::{Keeper, Memory, Source, Text};
+use wb_cli::{Lock, Plan, PlanFault, plan};
 use wb_desk::Desk;
 use wb_front::Station;
-use wb_kept::Closed;
-use wb_links::{Listener, Ticker};
+use wb_ledger::Closed;
 use wb_promise::{a_desk_leaves_rows_that_are_read, each_script_is_as_promised};
 use wb_start::Status;
+use wb_transport::{Listener, Ticker};
 use wb_wire::Routes;
-use wb_words::{Lock, Plan, PlanFault, plan};
-use wb_workers::{Ended, serve_all, serve_in_order};
+use wb_workers::{ServeEnd, serve_all, serve_in_order};
 
 /// How a call that was to serve ended, with the keeper, where it came back: always, but where a host was opened and there was no memory
 /// for its workers.
@@ -45,13 +45,13 @@ pub struct Served<K: Keeper> {
 }
 
 // How the call ends where its stations ended.
-fn finished<K: Keeper>(ended: Ended<K>) -> Served<K>
+fn finished<K: Keeper>(ended: ServeEnd<K>) -> Served<K>
     ensures served { HasServed result.status }
     ensures done { result.status ≡ Status.Done → ended.all ≡ true }
     ensures failed { result.status ≡ Status.ListenFault → ended.all ≡ false }
     ensures keeper { result.keeper ≡ Some ended.closed.keeper }
 {
-    let Ended { all, closed } = ended;
+    let ServeEnd { all, closed } = ended;
     let Closed {
         desk: _,
         keeper,
@@ -77,7 +77,7 @@ fn serve_by<K: Keeper + Send, Li: Listener + Send, T: Ticker + Send, R: Threads 
     desk: Desk,
     keeper: K,
     stations: &mut Vec<Station<Li, T>>,
-) -> Result<Ended<K>, Memory>
+) -> Result<ServeEnd<K>, Memory>
 where
     Li::End: Send,
     requires some { (0 < vec_len stations.old) × (vec_len stations.old ≤ 64) }

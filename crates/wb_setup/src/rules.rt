@@ -15,10 +15,10 @@ use crate::toml_values::PartNo;
 use serde_json::Value;
 use std::alloc::Global;
 use wb_base::{Form, FormFault, Role, Tenant, UserId};
-use wb_bodies::{BodyNo, read_json};
 use wb_form::FormText;
 use wb_list::Items;
 use wb_model::FormItem;
+use wb_request_json::{BodyNo, read_json};
 
 /// In what two items are the same.
 trait Sameness<T> {

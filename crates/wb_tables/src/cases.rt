@@ -21,7 +21,7 @@ ghost use Rattle.wb_terms.specs.Index.{same_term};
 ghost use Rattle.wb_terms.specs.declared.term_index.Term.{Term as TermData};
 
 use crate::asked::{Asked, put_asked};
-use crate::filed::{Filed, report_in};
+use crate::boxed_report::{BoxedReport, report_in};
 use crate::noting::{Acting, Moving, Noting, expires};
 use crate::tenancy::Report;
 use std::alloc::Global;
@@ -37,7 +37,7 @@ use wb_terms::{Term, TermIndex};
 #[derive(Drop)]
 pub struct Cases {
     tenant: Tenant,
-    cases: Sorted<Filed>,
+    cases: Sorted<BoxedReport>,
     asked: Sorted<Asked>,
     terms: TermIndex,
     receipts: ReceiptBox,
@@ -110,7 +110,7 @@ impl Cases {
     }
 
     /// All reports, in the order of their numbers.
-    pub fn as_slice(&self) -> &[Filed]
+    pub fn as_slice(&self) -> &[BoxedReport]
         ensures all { result.now ≡ self.now.items }
         ensures ascending { IsAscending nat_cmp (λ report. report.number) self.now.items }
         ensures custodied { AreCustodied self.now.items }
@@ -172,7 +172,7 @@ impl Cases {
     }
 
     /// Adds a report with the greatest number and a receipt of its own, into room that was made. It takes no memory.
-    pub fn add(&mut self, filed: Filed)
+    pub fn add(&mut self, filed: BoxedReport)
         requires room { 0 < self.old.spare }
         requires above { (last : ℕ) × (AtMost last (map case_of self.old.items) × (last < filed.number)) }
         requires submitted { is_submitted filed.case.items ≡ true }

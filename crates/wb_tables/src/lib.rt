@@ -2,12 +2,12 @@
 #![tactic(auto)]
 
 mod asked;
+mod boxed_report;
 mod cases;
 mod configuration;
 mod counts;
 mod dead;
 mod deletion;
-mod filed;
 mod noting;
 mod proposal;
 mod purge;
@@ -16,12 +16,12 @@ mod sessions;
 mod tenancy;
 mod tenants;
 
+pub use boxed_report::{BoxedReport, UnnumberedReport};
 pub use cases::Cases;
 pub use configuration::Configuration;
 pub use counts::{Counts, count};
 pub use dead::dead_batch;
 pub use deletion::delete_report;
-pub use filed::{Begun, Filed};
 pub use proposal::Proposal;
 pub use purge::purge_all;
 pub use reports::{live_report, lives, reads, report_of_receipt, today_at};

@@ -2,7 +2,7 @@
 ghost use Rattle.std.specs.Prelude.{◌≡◌};
 ghost use Rattle.wb_model.specs.Trails.{expires as expires_by};
 
-use crate::filed::Filed;
+use crate::boxed_report::BoxedReport;
 use crate::tenancy::Report;
 use wb_base::{Calendar, Day, Moment};
 use wb_list::ItemChange;
@@ -17,7 +17,7 @@ pub(crate) struct Acting<'a> {
     pub(crate) calendar: &'a Calendar,
 }
 
-impl ItemChange<Filed> for Acting<'_> {
+impl ItemChange<BoxedReport> for Acting<'_> {
     type Answer = Result<Entry, CaseFault>;
 
     ghost use Rattle.wb_case.specs.Plans.{IsInRange};
@@ -27,7 +27,7 @@ impl ItemChange<Filed> for Acting<'_> {
 
     ghost makes = { λ acting old new answer. IsActed acting.calendar.now acting.at acting.by acting.act old new answer };
 
-    fn change(self, filed: &mut Filed) -> Result<Entry, CaseFault> {
+    fn change(self, filed: &mut BoxedReport) -> Result<Entry, CaseFault> {
         let case = &mut filed.report.case;
         case.plan(self.at, self.by, self.act, self.calendar)
     }
@@ -41,7 +41,7 @@ pub(crate) struct Moving {
     pub(crate) move_: Move,
 }
 
-impl ItemChange<Filed> for Moving {
+impl ItemChange<BoxedReport> for Moving {
     type Answer = Result<Entry, CustodyFault>;
 
     ghost use Rattle.std.specs.Prelude.{◌≡◌, ◌≤◌, length, false};
@@ -52,7 +52,7 @@ impl ItemChange<Filed> for Moving {
 
     ghost makes = { λ moving old new answer. IsMoved moving.at moving.by moving.move_ old new answer };
 
-    fn change(self, filed: &mut Filed) -> Result<Entry, CustodyFault> {
+    fn change(self, filed: &mut BoxedReport) -> Result<Entry, CustodyFault> {
         let report = &mut filed.report;
         let entries = report.case.trail().len();
         let mark = report.case.summary().has_identity;
@@ -89,7 +89,7 @@ pub(crate) fn expires(report: &Report) -> Day
     report.case.summary().expires
 }
 
-impl ItemChange<Filed> for Noting {
+impl ItemChange<BoxedReport> for Noting {
     type Answer = NotedEntry;
 
     ghost use Rattle.wb_tables.specs.Noted.{IsRoomy, IsNoted};
@@ -98,7 +98,7 @@ impl ItemChange<Filed> for Noting {
 
     ghost makes = { λ noting old new answer. IsNoted noting.0 old new answer };
 
-    fn change(self, filed: &mut Filed) -> NotedEntry {
+    fn change(self, filed: &mut BoxedReport) -> NotedEntry {
         let report = &mut filed.report;
         let before = expires(report);
         report.desk.take(&self.0);

@@ -11,8 +11,8 @@ use Rattle.wb_model.specs.Scripts.{Loss, NotLost, ByKeeper, ByMemory, Unread, Pl
 use Rattle.wb_tables.specs.Standing.{hosts_of}
 use Rattle.wb_desk.specs.Kept.{MayLose}
 use Rattle.wb_desk.specs.Turns.{StandsFor}
-use Rattle.wb_kept.specs.Hosted.{Hosted}
-use Rattle.wb_kept.specs.Turned.{CameTo}
+use Rattle.wb_ledger.specs.Hosted.{Hosted}
+use Rattle.wb_ledger.specs.Turned.{CameTo}
 use Rattle.wb_ticket_lock.specs.Histories.{Leads}
 use Rattle.wb_model.specs.Tenants.{Hosts}
 use Rattle.wb_gate.specs.Turns.{IsAsked}

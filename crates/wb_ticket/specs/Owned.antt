@@ -3,8 +3,8 @@ use Rattle.std.specs.Prelude.{◌≡◌, ◌++◌, List, [], ◌∷◌}
 use Rattle.atomic_table.specs.Seated.{TableId}
 use Rattle.wb_model.specs.declared.body.Told.{Told}
 use Rattle.wb_model.specs.Requests.{Frame}
-use Rattle.wb_kept.specs.Hosted.{Hosted, Hand}
-use Rattle.wb_kept.specs.Turned.{Turned}
+use Rattle.wb_ledger.specs.Hosted.{Hosted, Hand}
+use Rattle.wb_ledger.specs.Turned.{Turned}
 use Rattle.wb_gate.specs.Turns.{IsAsked}
 use Rattle.wb_ticket_lock.specs.declared.entry.Entry.{Entry}
 

@@ -11,7 +11,7 @@ use Rattle.wb_model.specs.Scripts.{Loss, Place, ArePossible, play, past_after}
 use Rattle.wb_tables.specs.Standing.{hosts_of}
 use Rattle.wb_desk.specs.Kept.{MayLose}
 use Rattle.wb_desk.specs.Turns.{StandsFor}
-use Rattle.wb_kept.specs.Hosted.{Hosted}
+use Rattle.wb_ledger.specs.Hosted.{Hosted}
 use Rattle.wb_ticket_lock.specs.Histories.{Leads}
 use Rattle.wb_ticket.specs.Owned.{Answered, TurnEntry, IsTurnOf, answered}
 

@@ -2,7 +2,7 @@
 use std::sync::ledger::Ledger;
 use wb_base::Keeper;
 use wb_gate::{Job, Turn};
-use wb_kept::{Kept, Origin, Pass};
+use wb_ledger::{Kept, Origin, Pass};
 use wb_model::Told;
 use wb_ticket_lock::{ByWork, Deed, LockSeat, TicketLock, Work};
 

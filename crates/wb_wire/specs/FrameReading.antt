@@ -6,10 +6,10 @@ use Rattle.wb_model.specs.declared.wire.ScriptFrame.{ScriptFrame}
 use Rattle.wb_model.specs.FrameTexts.{frame_line, frame_text, IsFrame, IsBroken, NoFrame}
 use Rattle.wb_wire.specs.declared.frames.FrameNo.{FrameNo}
 use Rattle.wb_wire.specs.declared.frames.FrameNo.TheVariants.{Read, Bad, TooLong, Memory}
-use Rattle.wb_wire.specs.declared.taking.LineEnd.{LineEnd}
-use Rattle.wb_wire.specs.declared.taking.LineEnd.TheVariants as ends
-use Rattle.wb_wire.specs.declared.taking.Part.{Part}
-use Rattle.wb_wire.specs.declared.taking.Part.TheVariants as parts
+use Rattle.wb_wire.specs.declared.read_frame.LineEnd.{LineEnd}
+use Rattle.wb_wire.specs.declared.read_frame.LineEnd.TheVariants as ends
+use Rattle.wb_wire.specs.declared.read_frame.Part.{Part}
+use Rattle.wb_wire.specs.declared.read_frame.Part.TheVariants as parts
 
 -- how far a reader has come: how many frames it gave, how many bytes these have, and why it stopped, if it did
 pub record Progress : Type 0 where

@@ -2,17 +2,17 @@
 ghost use Rattle.std.specs.Prelude.{◌≡◌};
 ghost use Rattle.serde_json.specs.View.{view};
 ghost use Rattle.wb_model.specs.RouteBodies.{bare as bare_of, shaped as shaped_of};
-ghost use Rattle.wb_bodies.specs.Gives.{Gives};
+ghost use Rattle.wb_request_json.specs.Gives.{Gives};
 ghost use Rattle.wb_wire.specs.Places.{at_place};
 
 use crate::segments::number_under;
 use serde_json::Value;
 use std::alloc::Global;
-use wb_bodies::{
+use wb_model::{Command, Route};
+use wb_request_json::{
     BodyNo, ask, comment, context_set, decide, extend, feedback, identity, label, login, new_form,
     new_status, own_comment, settings_set, share, submission, transfer, user_set,
 };
-use wb_model::{Command, Route};
 
 /// A path and its pattern, by which the numbers in it have names.
 #[derive(Clone, Copy)]

@@ -5,7 +5,7 @@ ghost use Rattle.wb_wire.specs.FrameReading.{TookNext, HasCause, after_next};
 ghost use Rattle.wb_wire.specs.SetupReading.{TookSetup, LacksSetup, after_setup};
 
 use crate::frame_line::{read_line, read_setup_line};
-use crate::taking::{LINE_ROOM, LineEnd, Part, take_body, take_line};
+use crate::read_frame::{LINE_ROOM, LineEnd, Part, take_body, take_line};
 use std::alloc::Global;
 use std::marker::Model;
 use wb_base::Source;

@@ -12,11 +12,11 @@ mod heads;
 mod laws;
 mod numbers;
 mod paths;
+mod read_frame;
 mod replies;
 mod requests;
 mod router;
 mod segments;
-mod taking;
 mod written;
 
 pub use faults::{fault_allow, fault_body, fault_closes, fault_status};

@@ -23,9 +23,9 @@ use httparse::Status;
 use httparse::spans::{EMPTY_HEADER_SPAN, HeaderSpan, parse_request};
 use serde_json::Value;
 use std::alloc::Global;
-use wb_bodies::{BodyNo, read_json};
 use wb_form::good_forms_are_those_that_are_read;
 use wb_model::{Asked, Command, PathNo, Route, answers_that_are_read_stand_in_order};
+use wb_request_json::{BodyNo, read_json};
 
 /// Why a request is not read, and whether the connection closes after the reply.
 #[derive(Clone, Copy, Debug, PartialEq, Eq)]

@@ -9,11 +9,11 @@ use denote.Struct.Declared.{shape}
 use Rattle.std.proofs.Crossing.{crosses}
 use Rattle.std.specs.declared.sync.ledger.Ledger as Ledger
 use Rattle.wb_base.specs.declared.outside.Keeper as Keeper
-use Rattle.wb_kept.specs.declared.origin.Origin as Origin
-use Rattle.wb_kept.specs.contracts.kept.Kept as Kept
-use Rattle.wb_kept.specs.contracts.pass.Pass as Pass
-use Rattle.wb_kept.proofs.kept.Kept.TheSendSync as kept
-use Rattle.wb_kept.proofs.pass.Pass.TheSendSync as pass
+use Rattle.wb_ledger.specs.declared.origin.Origin as Origin
+use Rattle.wb_ledger.specs.contracts.kept.Kept as Kept
+use Rattle.wb_ledger.specs.contracts.pass.Pass as Pass
+use Rattle.wb_ledger.proofs.kept.Kept.TheSendSync as kept
+use Rattle.wb_ledger.proofs.pass.Pass.TheSendSync as pass
 use Rattle.wb_gate.specs.contracts.job.Turn as Turn
 use Rattle.wb_model.specs.contracts.body.Told as Told
 use Rattle.wb_ticket_lock.specs.contracts.deed.ByWork as ByWork

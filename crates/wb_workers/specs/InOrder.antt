@@ -1,6 +1,6 @@
 -- Stations of a host that goes through one history.
 use Rattle.std.specs.Prelude.{◌≡◌, List, [], Option}
-use Rattle.wb_links.specs.Lines.{Lines}
+use Rattle.wb_transport.specs.Lines.{Lines}
 use Rattle.wb_front.specs.Attended.{Clock}
 use Rattle.wb_ticket.specs.Owned.{Owned, TurnEntry, IsNextEntry}
 use Rattle.wb_workers.specs.Workers.{IsServed}

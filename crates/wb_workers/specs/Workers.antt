@@ -3,10 +3,10 @@ use Rattle.std.specs.Prelude.{◌≡◌, ◌<◌, ℕ, List, [], Option, Some, l
 use Rattle.wb_model.specs.declared.body.Told.{Told}
 use Rattle.wb_model.specs.Requests.{Frame}
 use Rattle.wb_tables.specs.Standing.{Standing}
-use Rattle.wb_kept.specs.Hosted.{Hosted, Hand, fresh}
-use Rattle.wb_kept.specs.Turned.{Turned}
-use Rattle.wb_kept.specs.Whole.{IsWhole}
-use Rattle.wb_links.specs.Lines.{Lines}
+use Rattle.wb_ledger.specs.Hosted.{Hosted, Hand, fresh}
+use Rattle.wb_ledger.specs.Turned.{Turned}
+use Rattle.wb_ledger.specs.Whole.{IsWhole}
+use Rattle.wb_transport.specs.Lines.{Lines}
 use Rattle.wb_front.specs.Attended.{Clock, HasWorked}
 use Rattle.wb_front.specs.declared.worker.Worked.{Worked}
 use Rattle.wb_front.specs.declared.worker.Worked.TheVariants.{End}

@@ -2,7 +2,7 @@
 ghost use Rattle.std.specs.Prelude.{◌≡◌, ◌<◌, ◌≤◌, ℕ, List, [], true, false, All, length, vec_len, slice_index_or, IfOk, IfErr};
 ghost use Rattle.wb_model.specs.Rows.{rows_of};
 ghost use Rattle.wb_tables.specs.Standing.{hosts_of};
-ghost use Rattle.wb_kept.specs.Hosted.{begun};
+ghost use Rattle.wb_ledger.specs.Hosted.{begun};
 ghost use Rattle.wb_front.specs.Attended.{clock_of, RoseOften};
 ghost use Rattle.wb_ticket.specs.OneHistory.{IsLastOf};
 ghost use Rattle.wb_ticket.specs.Owned.{TurnEntry};
@@ -10,7 +10,7 @@ ghost use Rattle.wb_workers.specs.InOrder.{WasServedInOrder};
 ghost use Rattle.wb_workers.specs.Workers.{AtEach, HasNone};
 
 use crate::placing::{place, unplace};
-use crate::serving::Ended;
+use crate::serving::ServeEnd;
 use crate::worker::attend_all;
 use std::alloc::Global;
 use std::marker::Brand;
@@ -20,9 +20,9 @@ use std::thread::Threads;
 use wb_base::{Keeper, Memory};
 use wb_desk::Desk;
 use wb_front::Station;
-use wb_kept::{Kept, Origin};
-use wb_links::{Listener, Ticker};
+use wb_ledger::{Kept, Origin};
 use wb_ticket::{TicketGate, Tickets, close_tickets};
+use wb_transport::{Listener, Ticker};
 use wb_wire::Routes;
 
 // Serves over two ledgers of as many parts as there are stations. Memory is wanted before the first link is taken.
@@ -42,7 +42,7 @@ fn serve_on<
     turns: Blank,
     numbers: Blank,
     stations: &mut Vec<Station<Li, T>>,
-) -> Result<Ended<K>, Memory>
+) -> Result<ServeEnd<K>, Memory>
 where
     Li::End: Send,
     requires some { (0 < vec_len stations.old) × (vec_len stations.old ≤ 64) }
@@ -74,7 +74,7 @@ where
     attend_all(rt, alloc, &gate, routes, workers.as_mut_slice());
     let all = unplace(workers, stations, &mut seats);
     match close_tickets(gate, seats, room) {
-        Ok(closed) => Ok(Ended { all, closed }),
+        Ok(closed) => Ok(ServeEnd { all, closed }),
         Err(_) => unreachable!(),
     }
 }
@@ -93,7 +93,7 @@ pub fn serve_in_order<
     desk: Desk,
     keeper: K,
     stations: &mut Vec<Station<Li, T>>,
-) -> Result<Ended<K>, Memory>
+) -> Result<ServeEnd<K>, Memory>
 where
     Li::End: Send,
     requires some { (0 < vec_len stations.old) × (vec_len stations.old ≤ 64) }

@@ -7,4 +7,4 @@ mod serving;
 mod worker;
 
 pub use in_order::serve_in_order;
-pub use serving::{Ended, serve_all};
+pub use serving::{ServeEnd, serve_all};

@@ -4,7 +4,7 @@ ghost use Rattle.wb_workers.specs.Workers.{HasEnded, HasNone};
 
 use crate::worker::{Worker, make_worker};
 use wb_front::{Station, Worked};
-use wb_links::{Listener, Ticker};
+use wb_transport::{Listener, Ticker};
 
 /// Moves the stations, the last first, into workers, each with what it has of the gate.
 pub(crate) fn place<Li: Listener, T: Ticker, O: Drop>(

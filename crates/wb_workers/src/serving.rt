@@ -3,8 +3,8 @@ ghost use Rattle.std.specs.Prelude.{◌≡◌, ◌<◌, ◌≤◌, ◌+◌, ℕ,
 ghost use Rattle.wb_model.specs.Drawn.{numbers_of};
 ghost use Rattle.wb_model.specs.Rows.{rows_of};
 ghost use Rattle.wb_tables.specs.Standing.{hosts_of};
-ghost use Rattle.wb_kept.specs.GoneOn.{IsLater};
-ghost use Rattle.wb_kept.specs.Hosted.{Hand, turns_of, numbers_drawn, fresh};
+ghost use Rattle.wb_ledger.specs.GoneOn.{IsLater};
+ghost use Rattle.wb_ledger.specs.Hosted.{Hand, turns_of, numbers_drawn, fresh};
 ghost use Rattle.wb_front.specs.Attended.{clock_of, RoseOften};
 ghost use Rattle.wb_workers.specs.Workers.{AtEach, HasNone, WasServed};
 
@@ -19,13 +19,13 @@ use wb_base::{Keeper, Memory};
 use wb_desk::Desk;
 use wb_front::Station;
 use wb_gate::{LockGate, close};
-use wb_kept::{Closed, Kept, Origin, Pass};
-use wb_links::{Listener, Ticker};
+use wb_ledger::{Closed, Kept, Origin, Pass};
+use wb_transport::{Listener, Ticker};
 use wb_wire::Routes;
 
 /// How a host ended: whether each station had no more links, and what is left of the host.
 #[derive(Drop)]
-pub struct Ended<K: Keeper> {
+pub struct ServeEnd<K: Keeper> {
     pub all: bool,
     pub closed: Closed<K>,
 }
@@ -62,7 +62,7 @@ fn serve_on<
     turns: Blank,
     numbers: Blank,
     stations: &mut Vec<Station<Li, T>>,
-) -> Result<Ended<K>, Memory>
+) -> Result<ServeEnd<K>, Memory>
 where
     Li::End: Send,
     requires some { 0 < vec_len stations.old }
@@ -92,7 +92,7 @@ where
     attend_all(rt, alloc, &gate, routes, workers.as_mut_slice());
     let all = unplace(workers, stations, &mut passes);
     match close(gate, passes) {
-        Ok(closed) => Ok(Ended { all, closed }),
+        Ok(closed) => Ok(ServeEnd { all, closed }),
         Err(_) => unreachable!(),
     }
 }
@@ -106,7 +106,7 @@ pub fn serve_all<K: Keeper + Send, Li: Listener + Send, T: Ticker + Send, R: Thr
     desk: Desk,
     keeper: K,
     stations: &mut Vec<Station<Li, T>>,
-) -> Result<Ended<K>, Memory>
+) -> Result<ServeEnd<K>, Memory>
 where
     Li::End: Send,
     requires some { 0 < vec_len stations.old }

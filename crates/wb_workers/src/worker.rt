@@ -11,8 +11,8 @@ use std::thread::Threads;
 use wb_base::Keeper;
 use wb_front::{Station, Worked, work};
 use wb_gate::{Gate, Turn};
-use wb_kept::Origin;
-use wb_links::{Listener, Ticker};
+use wb_ledger::Origin;
+use wb_transport::{Listener, Ticker};
 use wb_wire::Routes;
 
 /// A worker at its station, with what it has of the gate.

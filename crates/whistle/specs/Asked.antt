@@ -3,8 +3,8 @@ use Rattle.std.specs.Prelude.{ℕ, ◌≡◌, ◌⊎◌, List, Option}
 use Rattle.std.specs.Io.KnownBytes.{Appends, Keeps}
 use Rattle.wb_base.specs.declared.rows.Row.{Row}
 use Rattle.wb_base.specs.Outside.{AppendsFront, Rose}
-use Rattle.wb_words.specs.declared.plans.Plan.TheVariants.{Play, Make, Tally}
-use Rattle.wb_words.specs.CommandLine.{Asks, IsRunForm}
+use Rattle.wb_cli.specs.declared.plans.Plan.TheVariants.{Play, Make, Tally}
+use Rattle.wb_cli.specs.CommandLine.{Asks, IsRunForm}
 use Rattle.wb_start.specs.declared.status.Status.{Status}
 use Rattle.wb_start.specs.declared.status.Status.TheVariants.{Done, Usage, ReadFault, WriteFault, NoMemory, BadFrame, Setup, OpenFault, KeptRows, TooLong, ListenFault}
 use Rattle.whistle.specs.Generated.{generated}

@@ -1,4 +1,4 @@
-use crate::setup_text::harbour;
+use crate::setup_text::sample_setup;
 use crate::tests::{
     BRIBE, Ends, ROOM, begun, begun_with, keeper_failing_at, play, play_over, post, push,
     push_reply, request, rows, script_of, source,

@@ -3,7 +3,7 @@
 use crate::ending_tests::opened;
 use crate::office_tests::{ADMIN_1, DAN, FIRST_VERSION, SET};
 use crate::reporting_tests::{Asked, Told, Turn, first_unlike};
-use crate::setup_text::harbour;
+use crate::setup_text::sample_setup;
 use crate::tests::{ROOM, keeper_failing_at};
 use crate::{Status, exit_line, rows_in_memory};
 use std::alloc::Global;

@@ -5,7 +5,7 @@ use crate::reporting_tests::{
     ADA, Asked, BAD_LOGIN, BRIBED, MADE, NO_SESSION, NOT_THERE, OWN, OWN_VIEW, READ, RECEIVED,
     RECIPIENT_2, REPORTER_4, RETURNING, Told, Turn, first, first_unlike, leaves, script_on,
 };
-use crate::setup_text::harbour;
+use crate::setup_text::sample_setup;
 use crate::tests::VIEW;
 use std::alloc::Global;
 use std::test::Fail;

@@ -5,7 +5,7 @@ use crate::reporting_tests::{
     Asked, MADE, NO_SESSION, OWN, PLAIN, RECEIVED_1, Script, Told, leaves, output_over, push_turn,
     script_on,
 };
-use crate::setup_text::harbour;
+use crate::setup_text::sample_setup;
 use crate::tests::keeper_failing_at;
 use std::alloc::Global;
 use std::test::Fail;

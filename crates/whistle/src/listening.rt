@@ -1,9 +1,9 @@
 //! The host that links over TCP reach: its stations, and its end.
 ghost use Rattle.std.specs.Prelude.{◌≡◌, ℕ, List, Option, All, IfOk, is_some, vec_len};
 ghost use Rattle.wb_base.specs.declared.rows.Row.{Row as KeptRow};
-ghost use Rattle.wb_words.specs.declared.plans.Lock.{Lock as LockOf};
-ghost use Rattle.wb_words.specs.declared.plans.Plan.TheVariants.{Serve};
-ghost use Rattle.wb_words.specs.CommandLine.{Asks};
+ghost use Rattle.wb_cli.specs.declared.plans.Lock.{Lock as LockOf};
+ghost use Rattle.wb_cli.specs.declared.plans.Plan.TheVariants.{Serve};
+ghost use Rattle.wb_cli.specs.CommandLine.{Asks};
 
 use crate::exits::end;
 use crate::setup_file::SetupFile;
@@ -13,9 +13,9 @@ use std::sync::Wait;
 use std::thread::Threads;
 use wb_base::{Keeper, StdSink, StdSource, Text};
 use wb_front::Station;
-use wb_real::{RealTicker, TcpLinks};
 use wb_serve::{Served, serve};
 use wb_start::Status;
+use wb_system::{RealTicker, TcpLinks};
 
 // A station over links of TCP, the system's clock and its random bytes.
 type RealStation<'a> = Station<TcpLinks<'a, HostRuntime>, RealTicker<'a, HostRuntime>>;

@@ -5,10 +5,10 @@ mod answering;
 mod counting;
 mod exits;
 mod generated;
-mod harbour;
 mod listening;
 mod playing;
 mod running;
+mod sample_setup;
 mod setup_file;
 mod tally_lines;
 mod tallying;
@@ -25,10 +25,10 @@ use std::process::ExitCode;
 use std::sync::Wait;
 use std::thread::Threads;
 use wb_base::{Keeper, MemKeeper, StdSink, StdSource, Text};
+use wb_cli::{Plan, PlanFault, plan};
 pub use wb_serve::serve;
 use wb_sqlite::PathKeeper;
 pub use wb_start::{Status, exit_line};
-use wb_words::{Plan, PlanFault, plan};
 
 // The words after the program's name. Words that are not UTF-8 are no form of any call.
 fn words(rt: &HostRuntime) -> Result<Vec<Text>, Status> {

@@ -3,7 +3,7 @@ use crate::reporting_tests::{
     RECEIVED, RECEIVED_1, RECIPIENT_2, REPORTER_4, RETURNING, Script, Told, Turn, first_unlike,
     is_answered, push_turn, script_on,
 };
-use crate::setup_text::harbour;
+use crate::setup_text::sample_setup;
 use crate::tests::VIEW;
 use std::alloc::Global;
 use std::test::Fail;

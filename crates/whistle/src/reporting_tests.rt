@@ -1,7 +1,7 @@
 ghost use Rattle.std.specs.Prelude.{◌<◌};
 
 use crate::ending_tests::numbered;
-use crate::setup_text::harbour;
+use crate::setup_text::sample_setup;
 use crate::tests::{
     BRIBE, Ends, LONGER, VIEW, begun_with, keeper_failing_at, kept, play_over, push_frame_of,
     push_reply,

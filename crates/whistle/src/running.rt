@@ -10,8 +10,8 @@ ghost use Rattle.wb_rows.specs.Held.{Held};
 ghost use Rattle.wb_rows.specs.Judged.{judged};
 ghost use Rattle.wb_setup.specs.Setups.{setup as lists_in};
 ghost use Rattle.wb_wire.specs.SetupText.{IsSetup};
-ghost use Rattle.wb_words.specs.declared.plans.Plan.TheVariants.{Play, Tally};
-ghost use Rattle.wb_words.specs.CommandLine.{Asks};
+ghost use Rattle.wb_cli.specs.declared.plans.Plan.TheVariants.{Play, Tally};
+ghost use Rattle.wb_cli.specs.CommandLine.{Asks};
 ghost use Rattle.whistle.specs.declared.harbour.TheConstants.{HARBOUR};
 ghost use Rattle.whistle.specs.Asked.{Did, Writes};
 ghost use Rattle.whistle.specs.Runs.{script_text};
@@ -21,8 +21,8 @@ use crate::playing::play_script;
 use crate::tallying::tally;
 use std::alloc::Global;
 use wb_base::{Keeper, Sink, Source, Text};
+use wb_cli::{Plan, PlanFault, plan};
 use wb_start::Status;
-use wb_words::{Plan, PlanFault, plan};
 
 // Writes the script of so many turns.
 fn make_script<W: Sink>(turns: u32, sink: &mut W) -> Status

@@ -2,7 +2,7 @@
 
 use crate::keeping_tests::{ALL_MADE, script_told};
 use crate::reporting_tests::{DOCKED, RETURNED, script_on, two_tenants};
-use crate::setup_text::harbour;
+use crate::setup_text::sample_setup;
 use crate::tests::{BRIBE, ROOM, begun, rows, script_of, source};
 use crate::{Status, exit_line, rows_in_memory, run};
 use sqlite::{Connection, MemStore};

@@ -2,7 +2,7 @@ ghost use Rattle.std.specs.Prelude.{◌<◌};
 
 use super::*;
 use crate::rows_in_memory;
-use crate::setup_text::harbour;
+use crate::setup_text::sample_setup;
 use std::alloc::Global;
 use std::test::Fail;
 use wb_base::{Keeper, MemKeeper, MemSink, MemSource, Text};

@@ -1,5 +1,5 @@
 use Rattle.std.proofs.Common.{sym, subst}
-use Rattle.wb_plan.specs.Plans.{IsFit}
+use Rattle.wb_commands.specs.Plans.{IsFit}
 use Rattle.wb_tables.specs.Kept.{place_of}
 use Rattle.wb_tables.specs.declared.tenancy.Tenancy.{Tenancy as KeptTenancy}
 use Rattle.wb_tables.proofs.PlacesAt.{place_at}

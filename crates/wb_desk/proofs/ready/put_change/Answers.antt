@@ -1,7 +1,7 @@
 use Rattle.std.proofs.Common.{subst}
 use Rattle.wb_model.specs.Tables.{is_live}
 use Rattle.wb_model.proofs.PastLaw.{there_before}
-use Rattle.wb_plan.specs.Plans.{IsFit}
+use Rattle.wb_commands.specs.Plans.{IsFit}
 use Rattle.wb_tables.specs.Kept.{plain_of}
 use Rattle.wb_desk.proofs.ready.put_change.Goals as goal
 

@@ -1,7 +1,7 @@
 use Rattle.std.proofs.Common.{◌≡◌, None, refl, sym, ap, ◌∙◌, subst}
 use Rattle.wb_model.specs.Changes.{Begins, Notes, Deletes, LogsIn, LogsOut, Configures}
 use Rattle.wb_model.specs.Host.{changed}
-use Rattle.wb_plan.specs.Plans.{IsFit, HasRoom, begins, given_of}
+use Rattle.wb_commands.specs.Plans.{IsFit, HasRoom, begins, given_of}
 use Rattle.wb_tables.specs.Configured.{setting_of}
 use Rattle.wb_tables.specs.Kept.{place_of, plain_of, tables_of}
 use Rattle.wb_tables.specs.Logins.{login_of, who_seen}

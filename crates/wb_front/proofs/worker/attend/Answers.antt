@@ -2,7 +2,7 @@ use Rattle.std.proofs.Common.{ℕ, refl, ◌∙◌, subst}
 use Rattle.wb_base.specs.Outside.{Rose}
 use Rattle.wb_model.specs.declared.body.Told.{Told}
 use Rattle.wb_model.specs.Requests.{Frame}
-use Rattle.wb_links.specs.Lines.{Line}
+use Rattle.wb_transport.specs.Lines.{Line}
 use Rattle.wb_front.specs.Served.{Sides}
 use Rattle.wb_front.proofs.Working.{still_tells, ended_at}
 use Rattle.wb_front.proofs.worker.attend.Goals as goal

@@ -1,5 +1,5 @@
 use Rattle.std.proofs.Common.{◌≡◌, ◌+◌, ◌-◌, inl, [], ◌∷◌, ◌++◌, Some, refl, ap, ◌∙◌, subst, arith}
-use Rattle.wb_links.specs.Lines.{IsLine}
+use Rattle.wb_transport.specs.Lines.{IsLine}
 use Rattle.wb_front.specs.Attended.{clock_of, RoseOften}
 use Rattle.wb_front.proofs.Working.{nothing_worked, worked_more, out_given, none_left, rose_more, rose_stays}
 use Rattle.wb_front.proofs.worker.work.Goals as goal

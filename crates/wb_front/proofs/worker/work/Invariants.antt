@@ -1,5 +1,5 @@
 use Rattle.std.proofs.Common.{◌≡◌, ◌<◌, Some}
-use Rattle.wb_links.specs.Lines.{Lines}
+use Rattle.wb_transport.specs.Lines.{Lines}
 use Rattle.wb_front.specs.Attended.{clock_of, HasWorked, RoseOften}
 use Rattle.wb_front.proofs.worker.work.Given as goal
 

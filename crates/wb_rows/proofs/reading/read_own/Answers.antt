@@ -8,8 +8,8 @@ use Rattle.wb_model.specs.SetUps.{is_tenant_item, is_form_item}
 use Rattle.wb_rows.specs.declared.items.Kept.{Kept}
 use Rattle.wb_row_rules.specs.Places.{entry_key}
 use Rattle.wb_rows.specs.ReadItems.{items_in}
-use Rattle.wb_kinds.specs.declared.item.Item.{Item}
-use Rattle.wb_kinds.specs.Items.{is_in_range}
+use Rattle.wb_row_codec.specs.declared.item.Item.{Item}
+use Rattle.wb_row_codec.specs.Items.{is_in_range}
 use Rattle.wb_base.specs.declared.form.Format.{Format}
 use Rattle.wb_base.specs.declared.rows.Row.{Row}
 use Rattle.wb_row_rules.specs.declared.faults.RowFault.{RowFault}

@@ -1,5 +1,5 @@
 use Rattle.std.proofs.Common.{arith}
-use Rattle.wb_words.proofs.CommandLineLemmas.{few_workers}
+use Rattle.wb_cli.proofs.CommandLineLemmas.{few_workers}
 use Rattle.wb_serve.proofs.serving.serve.Goals as goal
 
 pub serve_text-requires-clause-some : goal.serve_text-requires-clause-some

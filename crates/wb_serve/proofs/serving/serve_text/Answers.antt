@@ -3,7 +3,7 @@ use Rattle.wb_model.specs.Rows.{rows_of}
 use Rattle.wb_model.specs.Scripts.{past_after}
 use Rattle.wb_model.specs.Tenants.{Hosts}
 use Rattle.wb_tables.specs.Standing.{Standing, hosts_of}
-use Rattle.wb_kept.specs.GoneOn.{HasGoneOn}
+use Rattle.wb_ledger.specs.GoneOn.{HasGoneOn}
 use Rattle.wb_serve.specs.Serves.{OpensOne}
 use Rattle.wb_serve.proofs.Locks.{by_lock}
 use Rattle.wb_serve.proofs.serving.serve_text.Goals as goal

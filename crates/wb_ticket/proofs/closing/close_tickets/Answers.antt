@@ -1,5 +1,5 @@
 use Rattle.std.proofs.Common.{◌≡◌, List, All, ap, sym, subst}
-use Rattle.wb_kept.specs.Hosted.{Hosted}
+use Rattle.wb_ledger.specs.Hosted.{Hosted}
 use Rattle.wb_ticket_lock.specs.Histories.{IsSplitInto, Leads}
 use Rattle.wb_ticket_lock.specs.Seats.{Locked, Seated}
 use Rattle.wb_ticket.specs.Owned.{Answered, IsTurnOf, Owned, TurnEntry}

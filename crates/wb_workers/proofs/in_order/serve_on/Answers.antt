@@ -5,7 +5,7 @@ use Rattle.std.proofs.Math.ListN.{get_or-map}
 use Rattle.std.proofs.lemmas.List.{length-map}
 use Rattle.std.proofs.lemmas.List.Elements.{All-get_or, All-same, All-weaker}
 use Rattle.wb_front.specs.declared.worker.Worked.TheVariants.{End, ListenFault}
-use Rattle.wb_kept.specs.Hosted.{fresh}
+use Rattle.wb_ledger.specs.Hosted.{fresh}
 use Rattle.wb_ticket.specs.OneHistory.{IsLastOf}
 use Rattle.wb_ticket.specs.Owned.{Owned}
 use Rattle.wb_workers.specs.Workers.{HasEnded}

@@ -1,7 +1,7 @@
 use Rattle.std.proofs.Common.{◌≡◌, ◌<◌, ◌-◌, slice_index_or, vec_len, arith, sym, ap, ◌∙◌}
 use Rattle.std.proofs.lemmas.List.Elements.{All-get_or, All-same}
 use Rattle.wb_front.specs.declared.worker.Worked.TheVariants.{End, ListenFault}
-use Rattle.wb_kept.specs.Hosted.{Hand, fresh}
+use Rattle.wb_ledger.specs.Hosted.{Hand, fresh}
 use Rattle.wb_workers.specs.Workers.{HasEnded}
 use Rattle.wb_workers.proofs.Orders.{all_back, back_in_place, in_place, same_place}
 use Rattle.wb_workers.proofs.Parts.{all_of, parts_each, take_written}

@@ -1,5 +1,5 @@
 use Rattle.std.proofs.Common.{◌≡◌, ◌<◌, ◌≤◌, ◌+◌, All, vec_len, vec_capacity}
-use Rattle.wb_kept.specs.Hosted.{fresh}
+use Rattle.wb_ledger.specs.Hosted.{fresh}
 use Rattle.wb_workers.proofs.serving.split.Given as goal
 
 abbrev pub invariant-loop-passes : goal.invariant-loop-passes

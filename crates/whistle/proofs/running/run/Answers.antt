@@ -1,7 +1,7 @@
 use Rattle.std.proofs.Common.{[], inl, inr, refl, sym, subst, arith}
 use Rattle.std.proofs.KnownBytes.{Consumes-nil, Keeps-refl}
-use Rattle.wb_words.specs.declared.plans.Plan.TheVariants.{Play, Make, Tally}
-use Rattle.wb_words.proofs.CommandLineLemmas.{few_turns, same_turns, not_play, not_make}
+use Rattle.wb_cli.specs.declared.plans.Plan.TheVariants.{Play, Make, Tally}
+use Rattle.wb_cli.proofs.CommandLineLemmas.{few_turns, same_turns, not_play, not_make}
 use Rattle.whistle.specs.Asked.{ReadsNothing}
 use Rattle.whistle.specs.Tallies.{Tallied}
 use Rattle.whistle.proofs.PlayLemmas.{nothing_begins}

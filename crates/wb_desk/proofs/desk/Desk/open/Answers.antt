@@ -12,7 +12,7 @@ use Rattle.wb_rows.specs.Openings.{tables_of, tenancies_of, time_of, with_setup}
 use Rattle.wb_tables.specs.Kept.{place_of, tenancy_of}
 use Rattle.wb_tables.specs.Standing.{hosts_of}
 use Rattle.wb_desk.specs.Desks.{IsDesk}
-use Rattle.wb_opening.specs.HeldPlaces.{held_places}
+use Rattle.wb_recovery.specs.HeldPlaces.{held_places}
 use Rattle.wb_desk.specs.Openings.{IsOpenedOver}
 use Rattle.wb_desk.specs.Turns.{standing}
 use Rattle.wb_desk.proofs.KeptOpenings.{AreRead, is_desk, opened_over, same_tenancies}

@@ -1,0 +1,118 @@
+-- What the words after the program's name ask. The first names the command. The rest is read by what `clap` defines for one flat command, in
+-- which each option takes one value, each plain word is a value, all may be left out, and nothing asks for help or a version.
+use Rattle.std.specs.Prelude.{ℕ, Bool, true, false, ◌≡◌, ◌≢◌, ◌≤◌, List, [], ◌∷◌, codes, decimal, Option, Some, None}
+use Rattle.clap.specs.Walk.{Rule, Text, first_of}
+use Rattle.clap.specs.Simple.{App, new_app, new_rule, with_rule, matches_of}
+use Rattle.clap.specs.Faults.{fault_of}
+use Rattle.clap.specs.Kinds.{Kinds}
+use Rattle.clap.specs.declared.builder.action.ArgAction.TheVariants.{Set}
+use Rattle.wb_cli.specs.declared.plans.Lock.{Lock}
+use Rattle.wb_cli.specs.declared.plans.Lock.TheVariants.{Mutex, Ticket}
+use Rattle.wb_cli.specs.declared.plans.Plan.{Plan}
+use Rattle.wb_cli.specs.declared.plans.Plan.TheVariants.{Play, Make, Tally, Serve}
+
+-- an option, which takes one value
+abbrev pub option_rule : Text → Rule
+option_rule name = record (new_rule name) { long = Some name; action = Some Set }
+
+-- a plain word, which is a value
+abbrev pub word_rule : Text → Rule
+word_rule name = record (new_rule name) { action = Some Set }
+
+-- a command with nothing in it yet
+abbrev pub bare_app : Text → App
+bare_app name = let a = new_app name in record a { top = record a.top { no_binary_name = true; disable_help_flag = true; disable_version_flag = true } }
+
+-- `play`, with the option `--store`
+abbrev pub play_app : App
+play_app = with_rule (bare_app (codes "play")) (option_rule (codes "store"))
+
+-- `make` or `tally`, with one plain word
+abbrev pub turns_app : App
+turns_app = with_rule (bare_app (codes "turns")) (word_rule (codes "turns"))
+
+-- `serve`, with the options `--setup`, `--listen`, `--workers`, `--lock` and `--store`
+abbrev pub serve_app : App
+serve_app = with_rule (with_rule (with_rule (with_rule (with_rule (bare_app (codes "serve")) (option_rule (codes "setup"))) (option_rule (codes "listen"))) (option_rule (codes "workers"))) (option_rule (codes "lock"))) (option_rule (codes "store"))
+
+-- there is no fault among these
+abbrev pub has_none : Kinds → Bool
+has_none [] = true
+has_none (k ∷ ks) = false
+
+-- the command takes the words: they have none of its faults
+unfoldable pub takes_words : App → List Text → Bool
+takes_words app words = has_none (fault_of app words)
+
+-- the value that the words have under this name
+unfoldable pub value_of : App → Text → List Text → Option Text
+value_of app name words = first_of name (matches_of app words)
+
+-- where rows are kept: in memory, or in the file of a path
+abbrev pub IsStore : Option Text → Type 0
+IsStore None = Unit {0}
+IsStore (Some path) = path ≢ []
+
+-- a path or an address, which is not empty
+abbrev pub SaysPath : Option Text → Text → Type 0
+SaysPath None path = ⊥
+SaysPath (Some word) path = (word ≡ path) × (path ≢ [])
+
+-- a number from 1 to a greatest one, in digits without a leading zero
+abbrev pub SaysNumber : ℕ → Option Text → ℕ → Type 0
+SaysNumber greatest None number = ⊥
+SaysNumber greatest (Some word) number = (word ≡ decimal number) × (1 ≤ number) × (number ≤ greatest)
+
+-- a lock by its name
+abbrev pub lock_name : Lock → Text
+lock_name Mutex = codes "mutex"
+lock_name Ticket = codes "ticket"
+
+-- a lock: the one that is named, or a mutex
+abbrev pub SaysLock : Option Text → Lock → Type 0
+SaysLock None lock = lock ≡ Mutex
+SaysLock (Some word) lock = word ≡ lock_name lock
+
+-- the words after `play`
+pub record AsksPlay (words : List Text) (store : Option Text) : Type 0 where
+  pub taken : takes_words play_app words ≡ true
+  pub named : value_of play_app (codes "store") words ≡ store
+  pub good : IsStore store
+
+-- the words after `make` or `tally`
+pub record AsksTurns (words : List Text) (turns : ℕ) : Type 0 where
+  pub taken : takes_words turns_app words ≡ true
+  pub said : SaysNumber 20_000 (value_of turns_app (codes "turns") words) turns
+
+-- the words after `serve`
+pub record AsksServe (words : List Text) (setup listen : Text) (workers : ℕ) (lock : Lock) (store : Option Text) : Type 0 where
+  pub taken : takes_words serve_app words ≡ true
+  pub set_up : SaysPath (value_of serve_app (codes "setup") words) setup
+  pub heard : SaysPath (value_of serve_app (codes "listen") words) listen
+  pub said : SaysNumber 64 (value_of serve_app (codes "workers") words) workers
+  pub locked : SaysLock (value_of serve_app (codes "lock") words) lock
+  pub named : value_of serve_app (codes "store") words ≡ store
+  pub good : IsStore store
+
+-- the words ask this
+abbrev pub Asks : List Text → Plan → Type 0
+Asks [] plan = ⊥
+Asks (command ∷ rest) (Play store) = (command ≡ codes "play") × AsksPlay rest store
+Asks (command ∷ rest) (Make turns) = (command ≡ codes "make") × AsksTurns rest turns
+Asks (command ∷ rest) (Tally turns) = (command ≡ codes "tally") × AsksTurns rest turns
+Asks (command ∷ rest) (Serve setup listen workers lock store) = (command ≡ codes "serve") × AsksServe rest setup listen workers lock store
+
+-- the words are a form of a call
+abbrev pub IsForm : List Text → Type 0
+IsForm words = (plan : Plan) × Asks words plan
+
+-- what is asked is a run, by `play`, `make` or `tally`, and no host that serves
+abbrev pub IsRun : Plan → Type 0
+IsRun (Play store) = Unit {0}
+IsRun (Make turns) = Unit {0}
+IsRun (Tally turns) = Unit {0}
+IsRun (Serve setup listen workers lock store) = ⊥
+
+-- the words are a form of a run
+abbrev pub IsRunForm : List Text → Type 0
+IsRunForm words = (plan : Plan) × Asks words plan × IsRun plan

@@ -1,0 +1,152 @@
+-- What the code plans stands for.
+use Rattle.std.specs.Prelude.{◌≡◌, ℕ, ◌<◌, nat_le, true, List, [], ◌∷◌, Option, Some, None, map}
+use Rattle.std.specs.Option.{option_or}
+use Rattle.wb_base.specs.AnswerList.{Answered}
+use Rattle.wb_base.specs.AnswerFaults.{answers_fault, public_of, sealed_of, is_marked}
+use Rattle.wb_base.specs.declared.form.Form.{Form}
+use Rattle.wb_trigger.specs.declared.split.Split.{Split}
+use Rattle.wb_model.specs.declared.body.Told.{Told}
+use Rattle.wb_model.specs.declared.command.Asked.{Asked}
+use Rattle.wb_model.specs.declared.entry.Entry.{Entry}
+use Rattle.wb_model.specs.declared.registry.ContextItem.{ContextItem}
+use Rattle.wb_model.specs.declared.registry.FormItem.{FormItem}
+use Rattle.wb_model.specs.Access.{requests}
+use Rattle.wb_model.specs.Changes.{TurnContext, Change, Nothing, Begins, Notes, Deletes, LogsIn, LogsOut, Configures, Verdict, judged}
+use Rattle.wb_model.specs.Effects.{Submits, in_open}
+use Rattle.wb_model.specs.Host.{Sealed, Tables, ruling, reply_by, change_of as verdict_change}
+use Rattle.wb_model.specs.Refusals.{numbers_spent, quota_spent, receipt_taken}
+use Rattle.wb_model.specs.Refusing.{refuses_where}
+use Rattle.wb_model.specs.Requests.{Outcome, asking_form, submission_outcome, submission_secret, request, sealed_part}
+use Rattle.wb_model.specs.Rules.{refusal_alone, change_alone, answer_alone, verdict_on}
+use Rattle.wb_model.specs.Submissions.{Drawing, drawing}
+use Rattle.wb_model.specs.Tables.{Registry, Plain, Session, Who, context as context_by, newest_form, is_there}
+use Rattle.wb_model.specs.Targets.{Target, trail_at}
+use Rattle.wb_tables.specs.declared.tenancy.Tenancy.{Tenancy as KeptTenancy}
+use Rattle.wb_tables.specs.Configured.{IsReady as IsReadyToSet, row_of, setting_of}
+use Rattle.wb_tables.specs.Kept.{plain_of, live_plain}
+use Rattle.wb_tables.specs.Logins.{AreEarlier, login_of, session_of, who_seen}
+use Rattle.wb_tables.specs.Noted.{IsReady}
+use Rattle.wb_tables.specs.Receipted.{is_submitted}
+use Rattle.wb_commands.specs.declared.plan.TurnPlan.{TurnPlan}
+use Rattle.wb_commands.specs.declared.plan.Mutation.{Mutation}
+use Rattle.wb_commands.specs.declared.plan.Mutation.TheVariants as planned
+
+-- a report begins with an entry
+abbrev pub begins : List Entry → Change
+begins [] = Nothing
+begins (e ∷ es) = Begins e
+
+-- what is planned of a tenant that is set up so
+abbrev pub change_of : ℕ → Registry → Mutation → Change
+change_of t g planned.Nothing = Nothing
+change_of t g (planned.Begins o) = begins o.case.items
+change_of t g (planned.Notes n) = Notes n.number n.entry
+change_of t g (planned.Deletes n) = Deletes n
+change_of t g (planned.LogsIn login) = LogsIn (login_of login)
+change_of t g (planned.LogsOut turn who) = LogsOut turn (who_seen who)
+change_of t g (planned.Configures c) = Configures (setting_of t g c.proposal)
+
+-- the identity answers that come with it
+abbrev pub given_of : Mutation → Option Answered
+given_of (planned.Begins o) = o.secret
+given_of (planned.Notes n) = n.secret
+given_of _ = None
+
+-- a change that takes identity answers has these
+abbrev pub Gives : Mutation → Option Answered → Type 0
+Gives (planned.Begins o) given = o.secret ≡ given
+Gives (planned.Notes n) given = n.secret ≡ given
+Gives _ given = Unit {0}
+
+-- a report begins with this entry, and these identity answers
+abbrev pub IsBegun : Mutation → Entry → Option Answered → Type 0
+IsBegun (planned.Begins o) entry secret = (o.case.items ≡ entry ∷ []) × (o.secret ≡ secret)
+IsBegun _ entry secret = ⊥
+
+-- this session begins
+abbrev pub IsLogin : Mutation → Session → Type 0
+IsLogin (planned.LogsIn login) session = login_of login ≡ session
+IsLogin _ session = ⊥
+
+-- ---- room
+
+-- what a change that is planned at once asks of a tenant's tables but for room: a report that begins has a number and one entry, a
+-- submission, which asks for no identity; and a login is made at a later turn than all others
+abbrev pub IsFitAtOnce : KeptTenancy → Mutation → Type 0
+IsFitAtOnce x (planned.Begins o) = (x.numbering.last < 4_294_967_295) × ((e : Entry) × (o.case.items ≡ e ∷ [])) × (requests o.case.items ≡ []) × (is_submitted o.case.items ≡ true)
+IsFitAtOnce x (planned.LogsIn login) = AreEarlier login.turn (map session_of x.sessions.items)
+IsFitAtOnce x (planned.Notes n) = ⊥
+IsFitAtOnce x (planned.Configures c) = ⊥
+IsFitAtOnce x _ = Unit {0}
+
+-- and so of each: an entry comes to a live report, and a setting comes with its row
+abbrev pub IsFit : ℕ → KeptTenancy → Mutation → Type 0
+IsFit time x (planned.Notes n) = is_there n.number (live_plain time (plain_of x)).cases ≡ true
+IsFit time x (planned.Configures c) = c.row ≡ row_of x.configuration.tenant x.configuration.registry c.proposal
+IsFit time x change = IsFitAtOnce x change
+
+-- so much room for identity answers, and what there is in a tenant's tables, is enough for a change; what only goes needs none
+abbrev pub HasRoom : KeptTenancy → ℕ → Mutation → Type 0
+HasRoom x sealed (planned.Begins o) = (0 < x.cases.spare) × (0 < sealed)
+HasRoom x sealed (planned.Notes n) = IsReady n.number n.entry x.cases.items × (0 < x.cases.spare) × (0 < sealed)
+HasRoom x sealed (planned.LogsIn login) = 0 < x.sessions.spare
+HasRoom x sealed (planned.Configures c) = IsReadyToSet x.configuration c.proposal
+HasRoom x sealed _ = Unit {0}
+
+-- a tenant's tables, and the identity answers, have all that a change takes
+pub record IsRoomy (time : ℕ) (x : KeptTenancy) (sealed : ℕ) (change : Mutation) : Type 0 where
+  pub fit : IsFit time x change
+  pub room : HasRoom x sealed change
+
+-- ---- plans
+
+-- the plan is the verdict's reply over these identity answers, and its change, with those that the request gives, of a tenant
+-- that is set up so
+pub record IsPlan (id : ℕ) (g : Registry) (sealed : Sealed) (v : Verdict) (secret : Option Answered) (plan : TurnPlan) : Type 0 where
+  pub reply : reply_by v sealed ≡ plan.told
+  pub change : verdict_change v ≡ change_of id g plan.change
+  pub given : Gives plan.change secret
+
+-- the plan of a request on this target
+abbrev pub PlansOn : ℕ → Tables → TurnContext → Asked → Target → TurnPlan → Type 0
+PlansOn id t at a to plan = IsPlan id t.plain.registry t.sealed (verdict_on t.plain at (request t.plain.registry (trail_at to) a) to) (sealed_part t.plain a) plan
+
+-- the plan of a request over a tenant's purged tables
+abbrev pub Plans : ℕ → Tables → TurnContext → Asked → TurnPlan → Type 0
+Plans id t at a plan = IsPlan id t.plain.registry t.sealed (ruling t at a) (sealed_part t.plain a) plan
+
+-- a tenant's tables at a time, with these identity answers
+abbrev pub tables_at : ℕ → KeptTenancy → Sealed → Tables
+tables_at time x sealed = record { plain = live_plain time (plain_of x); sealed = sealed }
+
+-- ---- submissions
+
+-- what stands in the way of a draw
+abbrev pub drawing_refusal : ℕ → Drawing → Option Told
+drawing_refusal quota n =
+    option_or (refuses_where (nat_le 4_294_967_295 n.last) numbers_spent)
+    (option_or (refuses_where (nat_le quota n.today) (quota_spent quota))
+    (refuses_where n.taken receipt_taken))
+
+-- the verdict on a submission to a context, once its answers are checked
+abbrev pub submission_verdict : Plain → TurnContext → Option Who → ℕ → Outcome → Verdict
+submission_verdict p at who id o = let does = in_open Submits id p.registry in
+    judged (refusal_alone p.registry (drawing at p) o does) (change_alone at p.registry who o does) (answer_alone at p who does)
+
+-- the open context of an id, and its form in the newest version
+pub record IsAsking (g : Registry) (id : ℕ) (c : ContextItem) (item : FormItem) : Type 0 where
+  pub context : context_by id g.contexts ≡ Some c
+  pub opens : c.is_open ≡ true
+  pub form : newest_form c.form g.forms ≡ Some item
+
+-- right answers, parted into public ones and identity answers
+pub record IsSplit (form : Form) (answers : Answered) (split : Split) : Type 0 where
+  pub valid : answers_fault form answers ≡ None
+  pub public : split.public ≡ public_of form answers
+  pub sealed : split.sealed ≡ sealed_of form answers
+  pub mark : split.mark ≡ is_marked form answers
+
+-- the plan of a submission to a context
+abbrev pub PlansSubmission : ℕ → Plain → TurnContext → ℕ → Answered → TurnPlan → Type 0
+PlansSubmission t p at id answers plan = let form = asking_form (context_by id p.registry.contexts) p.registry.forms in
+    (who : Option Who) (sealed : Sealed) → IsPlan t p.registry sealed (submission_verdict p at who id (submission_outcome form answers)) (submission_secret form answers) plan

@@ -1,5 +1,0 @@
-use Rattle.wb_kinds.proofs.GoodRows.{item-back}
-use Rattle.wb_kinds.proofs.laws.good_rows_are_read_as_their_items.Goals as goal
-
-pub returns : goal.returns
-returns c = item-back

@@ -1,7 +1,0 @@
-use Rattle.std.proofs.Common.{◌≡◌, ◌++◌, drop, map, filter}
-use Rattle.wb_model.specs.ViewRows.{all_listed, readable}
-use Rattle.wb_tables.specs.Kept.{case_of, lives_on}
-use Rattle.wb_looks.proofs.looks.listed_rows.Given as goal
-
-abbrev pub invariant-loop-filed : goal.invariant-loop-filed
-invariant-loop-filed l = l.rows.items ++ all_listed (readable l.user (filter (lives_on l.today) (map case_of (drop l.filed-index l.cases)))) ≡ all_listed (readable l.user (filter (lives_on l.today) (map case_of l.cases)))

@@ -1,8 +1,0 @@
-use Rattle.wb_real.proofs.Untold.{write_untold}
-use Rattle.wb_real.proofs.timed.TimedStreamWrite.TheImpl.Goals as goal
-
-pub write-tells : goal.write-tells
-write-tells g c = record {
-  bound = c.ensures.bound;
-  bytes = write_untold c.result c.args.buf.now;
-}

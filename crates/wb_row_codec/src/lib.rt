@@ -1,0 +1,24 @@
+//! Kept rows, one at a time: what a row of each kind stands for, and its compact JSON text (RFC 8259), written and read.
+#![tactic(auto)]
+
+mod answers;
+mod contexts;
+mod entries;
+mod item;
+mod laws;
+mod members;
+mod numberings;
+mod parts;
+mod read_deed;
+mod read_moves;
+mod reading;
+mod row_no;
+mod rows;
+mod settings;
+mod users;
+mod write_deed;
+
+pub use item::{EntryItem, Item, NumberingItem};
+pub use laws::good_rows_are_read_as_their_items;
+pub use reading::{item_row, read_item};
+pub use rows::{entry_row, format_row, numbering_row, sealed_row};

@@ -1,0 +1,210 @@
+//! A host whose turns are booked, and a gate through which two passes share it.
+ghost use Rattle.std.specs.Prelude.{◌≡◌, true, IfOk};
+ghost use Rattle.wb_model.specs.Fits.{fits};
+ghost use Rattle.wb_model.specs.Rows.{rows_of};
+ghost use Rattle.wb_tables.specs.Standing.{hosts_of};
+ghost use Rattle.wb_gate.specs.Turns.{IsAsked};
+
+use crate::hosts::{moment, opened};
+use std::alloc::Global;
+use std::marker::Brand;
+use std::process::Abort;
+use std::sync::Wait;
+use std::sync::ledger::{Blank, Ledger};
+use std::test::Fail;
+use wb_base::{MemKeeper, Moment, Words};
+use wb_desk::Desk;
+use wb_gate::{Gate, LockGate, Turn, close};
+use wb_ledger::{Kept, Origin, Pass, Tally};
+use wb_model::{Asked, Told};
+use wb_wire::{Routes, read_request};
+
+/// A submission with an identity answer.
+pub const SUBMISSION: &str =
+    "POST /t/1/reports HTTP/1.1\r\nHost: h\r\nContent-Length: 53\r\n\r\n{\"context\":1,\"answers\":{\"what\":\"Bribe\",\"name\":\"Eve\"}}";
+
+const LOGIN: &str =
+    "POST /t/1/sessions HTTP/1.1\r\nHost: h\r\nContent-Length: 36\r\n\r\n{\"user\":\"ada\",\"password\":\"ada-pass\"}";
+
+const READ: &str =
+    "GET /t/1/reports/1 HTTP/1.1\r\nHost: h\r\nX-Session: 2-00000000000000000000000000000002\r\n\r\n";
+
+const RECEIPT: &str = r#"{"number":1,"receipt":"0000000000000042"}"#;
+
+const SESSION: &str = r#"{"role":"recipient","session":"2-00000000000000000000000000000002"}"#;
+
+const REPORT: &str =
+    r#"{"ack_due":"2025-01-08","acknowledged":null,"answers":{"what":"Bribe"},"context":1,"dialogue":[],"expires":"2025-01-31","feedback_due":"2025-04-08","feedback_given":false,"form":1,"identity":"sealed","label":"","number":1,"readers":[1],"received":"2025-01-01","requests":[],"status":"new","version":1}"#;
+
+// What a request asks.
+fn asked(alloc: Global, routes: &Routes, text: &str) -> Result<Asked, Fail>
+    ensures fits { IfOk result (λ asked. fits asked ≡ true) }
+    ensures asked { IfOk result (λ asked. IsAsked asked) }
+{
+    match read_request(alloc, routes, text.as_bytes()) {
+        Ok(asked) => Ok(asked),
+        Err(_) => Err("a request".into()),
+    }
+}
+
+// The turn of a request, so many seconds after the start of 2025 in UTC.
+pub fn turn(
+    alloc: Global,
+    routes: &Routes,
+    text: &str,
+    seconds: u32,
+    words: [u64; 4],
+) -> Result<Turn, Fail> {
+    let moment = moment(seconds)?;
+    let asked = asked(alloc, routes, text)?;
+    Ok(Turn::new(asked, moment, Words(words)))
+}
+
+// Whether a reply has this status and body.
+fn is_told(told: &Told, status: u16, body: &str) -> bool {
+    told.status == status && told.body.as_bytes() == body.as_bytes()
+}
+
+// What a turn is told behind a gate.
+fn enter<A: Origin, B: Ledger, R: Wait>(
+    rt: &R,
+    gate: &LockGate<MemKeeper, A, B>,
+    pass: &mut Pass<A, B>,
+    turn: Turn,
+) -> Told {
+    gate.enter(rt, pass, turn)
+}
+
+// One pass submits a report. The other logs in, and reads it.
+fn take_turns<A: Origin, B: Ledger, R: Wait + Abort>(
+    rt: &R,
+    alloc: Global,
+    gate: &LockGate<MemKeeper, A, B>,
+    first: &mut Pass<A, B>,
+    second: &mut Pass<A, B>,
+) -> Result<(), Fail> {
+    let routes = Routes::new(alloc)?;
+    let submits = turn(alloc, &routes, SUBMISSION, 0, [0, 42, 0, 0])?;
+    assert!(rt; is_told(&enter(rt, gate, first, submits), 201, RECEIPT));
+    let logs_in = turn(alloc, &routes, LOGIN, 10, [0, 2, 0, 2])?;
+    assert!(rt; is_told(&enter(rt, gate, second, logs_in), 201, SESSION));
+    let reads = turn(alloc, &routes, READ, 20, [0, 3, 0, 3])?;
+    assert!(rt; is_told(&enter(rt, gate, second, reads), 200, REPORT));
+    assert!(rt; first.turns() == 1 && first.numbers() == 1);
+    assert!(rt; second.turns() == 2 && second.numbers() == 0);
+    Ok(())
+}
+
+// The host is not taken apart with the second pass alone, and is with both.
+fn close_with_both<A: Origin, B: Ledger, R: Abort>(
+    rt: &R,
+    alloc: Global,
+    gate: LockGate<MemKeeper, A, B>,
+    first: Pass<A, B>,
+    second: Pass<A, B>,
+) -> Result<(), Fail> {
+    let mut passes = Vec::new(alloc);
+    passes.push(second)?;
+    let Err(back) = close(gate, passes) else {
+        return Err("closed with one pass".into());
+    };
+    assert!(rt; back.book == tally(3, 1) && back.sum == tally(2, 0));
+    let mut passes = back.passes;
+    passes.push(first)?;
+    let Ok(closed) = close(back.gate, passes) else {
+        return Err("not closed with both".into());
+    };
+    assert!(rt; closed.turns == 3 && closed.numbers == 1);
+    Ok(())
+}
+
+// So many turns, and so many numbers.
+fn tally(turns: u64, numbers: u64) -> Tally {
+    Tally { turns, numbers }
+}
+
+// A host behind a gate has two passes.
+fn share<A: Origin, B: Ledger, R: Wait + Abort>(
+    rt: &R,
+    alloc: Global,
+    desk: Desk,
+    keeper: MemKeeper,
+    turns: Blank,
+    numbers: Blank,
+) -> Result<(), Fail>
+    requires kept { keeper.rows ≡ rows_of (hosts_of desk).list }
+    requires opened { A.desk ≡ desk }
+    requires honest { A.honest }
+    requires turns { (turns.name ≡ A.name) × (turns.parts ≡ A.parts) × (turns.parts ≡ 2) }
+    requires numbers { (numbers.name ≡ B.name) × (numbers.parts ≡ B.parts) × (numbers.parts ≡ 2) }
+{
+    let (kept, mut first) = Kept::<MemKeeper, A, B>::new(desk, keeper, 2, turns, numbers);
+    let mut second = first.split();
+    assert!(rt; first.parts() == 1 && second.parts() == 1);
+    let gate = LockGate::over(kept);
+    take_turns(rt, alloc, &gate, &mut first, &mut second)?;
+    close_with_both(rt, alloc, gate, first, second)
+}
+
+#[test]
+fn a_host_is_taken_apart_with_all_passes_that_took_turns(rt: HostRuntime) -> Result<(), Fail> {
+    let (desk, keeper) = opened(rt.alloc())?;
+    share::<Brand, Brand, HostRuntime>(&rt, rt.alloc(), desk, keeper, Blank::new(2), Blank::new(2))
+}
+
+// What a turn is told that a host is handed without a gate.
+fn hand<A: Origin, B: Ledger>(
+    kept: &mut Kept<MemKeeper, A, B>,
+    pass: &mut Pass<A, B>,
+    asked: &Asked,
+    moment: Moment,
+) -> Told
+    requires { fits asked.now ≡ true }
+{
+    kept.turn(pass, asked, moment, &Words([0, 42, 0, 0]))
+}
+
+// What a submission is told.
+fn submit<A: Origin, B: Ledger>(
+    alloc: Global,
+    kept: &mut Kept<MemKeeper, A, B>,
+    pass: &mut Pass<A, B>,
+) -> Result<Told, Fail> {
+    let routes = Routes::new(alloc)?;
+    let asked = asked(alloc, &routes, SUBMISSION)?;
+    Ok(hand(kept, pass, &asked, moment(0)?))
+}
+
+// A turn is booked, and the host is not taken apart without the pass that made it.
+fn book<A: Origin, B: Ledger, R: Abort>(
+    rt: &R,
+    alloc: Global,
+    desk: Desk,
+    keeper: MemKeeper,
+    turns: Blank,
+    numbers: Blank,
+) -> Result<(), Fail>
+    requires kept { keeper.rows ≡ rows_of (hosts_of desk).list }
+    requires opened { A.desk ≡ desk }
+    requires honest { A.honest }
+    requires turns { (turns.name ≡ A.name) × (turns.parts ≡ A.parts) × (turns.parts ≡ 1) }
+    requires numbers { (numbers.name ≡ B.name) × (numbers.parts ≡ B.parts) × (numbers.parts ≡ 1) }
+{
+    let (kept, pass) = Kept::<MemKeeper, A, B>::new(desk, keeper, 1, turns, numbers);
+    let mut kept = kept;
+    let mut pass = pass;
+    assert!(rt; kept.book() == 0 && pass.turns() == 0);
+    assert!(rt; is_told(&submit(alloc, &mut kept, &mut pass)?, 201, RECEIPT));
+    assert!(rt; kept.book() == 1 && pass.turns() == 1 && pass.numbers() == 1);
+    let Err(back) = kept.close(Vec::new(alloc)) else {
+        return Err("closed with no pass".into());
+    };
+    assert!(rt; back.book == tally(1, 1) && back.sum == tally(0, 0));
+    Ok(())
+}
+
+#[test]
+fn a_turn_is_booked_and_counts_in_its_pass(rt: HostRuntime) -> Result<(), Fail> {
+    let (desk, keeper) = opened(rt.alloc())?;
+    book::<Brand, Brand, HostRuntime>(&rt, rt.alloc(), desk, keeper, Blank::new(1), Blank::new(1))
+}

@@ -1,0 +1,99 @@
+//! A worker attends the links of its listener, and ends with it.
+ghost use Rattle.std.specs.Prelude.{◌≡◌};
+ghost use Rattle.wb_model.specs.Rows.{rows_of};
+ghost use Rattle.wb_tables.specs.Standing.{hosts_of};
+
+use crate::connecting::gate_of;
+use crate::hosts::{opened, replies, station};
+use std::alloc::Global;
+use std::marker::Brand;
+use std::sync::Wait;
+use std::sync::ledger::{Blank, Ledger};
+use std::test::Fail;
+use wb_base::MemKeeper;
+use wb_desk::Desk;
+use wb_front::{Station, Worked, work};
+use wb_ledger::Origin;
+use wb_transport::{MemLink, MemListener, MemTicker};
+use wb_wire::Routes;
+
+// How a worker ends at a station of a host whose books are of two ledgers, and in how many turns its pass took part.
+fn work_on<A: Origin, B: Ledger, R: Wait>(
+    rt: &R,
+    alloc: Global,
+    desk: Desk,
+    keeper: MemKeeper,
+    turns: Blank,
+    numbers: Blank,
+    station: &mut Station<MemListener, MemTicker>,
+) -> Result<(Worked, u64), Fail>
+    requires kept { keeper.rows ≡ rows_of (hosts_of desk).list }
+    requires opened { A.desk ≡ desk }
+    requires honest { A.honest }
+    requires turns { (turns.name ≡ A.name) × (turns.parts ≡ A.parts) × (turns.parts ≡ 1) }
+    requires numbers { (numbers.name ≡ B.name) × (numbers.parts ≡ B.parts) × (numbers.parts ≡ 1) }
+{
+    let routes = Routes::new(alloc)?;
+    let (gate, mut pass) = gate_of::<A, B>(desk, keeper, turns, numbers);
+    let worked = work(rt, alloc, &gate, &routes, &mut pass, station);
+    Ok((worked, pass.turns()))
+}
+
+// How a worker ends at a station of a new host.
+fn work_at<R: Wait>(
+    rt: &R,
+    alloc: Global,
+    station: &mut Station<MemListener, MemTicker>,
+) -> Result<(Worked, u64), Fail> {
+    let (desk, keeper) = opened(alloc)?;
+    work_on::<Brand, Brand, R>(
+        rt,
+        alloc,
+        desk,
+        keeper,
+        Blank::new(1),
+        Blank::new(1),
+        station,
+    )
+}
+
+// Whether so many links came back, each with one reply.
+fn are_attended(came: &[MemLink], links: usize) -> bool {
+    for link in came {
+        if replies(link.got()) != 1 {
+            return false;
+        }
+    }
+    came.len() == links
+}
+
+/// How many links there are, how many of the listener's first calls fail, how the worker ends, and how many links it attends.
+type Case = (u32, u64, Worked, u32);
+
+const CASES: &[Case] = &[
+    (0, 0, Worked::End, 0),
+    (3, 0, Worked::End, 3),
+    (2, 15, Worked::End, 2),
+    (2, 16, Worked::ListenFault, 0),
+    (2, 100, Worked::ListenFault, 0),
+];
+
+// Whether a worker ends as it is to, with a turn for each link that it attended.
+fn is_right<R: Wait>(rt: &R, alloc: Global, case: &Case) -> Result<bool, Fail> {
+    let (links, fails, ended, attended) = *case;
+    let mut station = station(alloc, links, fails)?;
+    let (worked, turns) = work_at(rt, alloc, &mut station)?;
+    Ok(
+        worked == ended
+            && turns == u64::from(attended)
+            && are_attended(station.listener.came(), attended as usize),
+    )
+}
+
+#[test]
+fn a_worker_attends_each_link_and_hands_it_back(rt: HostRuntime) -> Result<(), Fail> {
+    for case in CASES {
+        assert!(rt; is_right(&rt, rt.alloc(), case)?);
+    }
+    Ok(())
+}
