@@ -1,15 +1,16 @@
 -- What the words after the program's name ask. The first names the command. The rest is read by what `clap` defines for one flat command, in
 -- which each option takes one value, each plain word is a value, all may be left out, and nothing asks for help or a version.
-use Rattle.std.specs.Prelude.{ℕ, Bool, true, false, ◌≡◌, ◌≢◌, ◌≤◌, List, [], ◌∷◌, codes, decimal, Option, Some, None}
+use Rattle.std.specs.Prelude.{ℕ, ℤ, Bool, true, false, ◌≡◌, ◌≢◌, ◌≤◌, List, [], ◌∷◌, codes, decimal, Option, Some, None}
 use Rattle.clap.specs.Walk.{Rule, Text, first_of}
 use Rattle.clap.specs.Simple.{App, new_app, new_rule, with_rule, matches_of}
 use Rattle.clap.specs.Faults.{fault_of}
 use Rattle.clap.specs.Kinds.{Kinds}
 use Rattle.clap.specs.declared.builder.action.ArgAction.TheVariants.{Set}
+use Rattle.wb_base.specs.DateTexts.{read_date}
 use Rattle.wb_cli.specs.declared.plans.Lock.{Lock}
 use Rattle.wb_cli.specs.declared.plans.Lock.TheVariants.{Mutex, Ticket}
 use Rattle.wb_cli.specs.declared.plans.Plan.{Plan}
-use Rattle.wb_cli.specs.declared.plans.Plan.TheVariants.{Play, Make, Tally, Serve}
+use Rattle.wb_cli.specs.declared.plans.Plan.TheVariants.{Play, Make, Tally, Serve, Notices, Register, Forecast}
 
 -- an option, which takes one value
 abbrev pub option_rule : Text → Rule
@@ -34,6 +35,18 @@ turns_app = with_rule (bare_app (codes "turns")) (word_rule (codes "turns"))
 -- `serve`, with the options `--setup`, `--listen`, `--workers`, `--lock` and `--store`
 abbrev pub serve_app : App
 serve_app = with_rule (with_rule (with_rule (with_rule (with_rule (bare_app (codes "serve")) (option_rule (codes "setup"))) (option_rule (codes "listen"))) (option_rule (codes "workers"))) (option_rule (codes "lock"))) (option_rule (codes "store"))
+
+-- `notices`, with one plain word and the options `--store` and `--outbox`
+abbrev pub notices_app : App
+notices_app = with_rule (with_rule (with_rule (bare_app (codes "notices")) (word_rule (codes "moment"))) (option_rule (codes "store"))) (option_rule (codes "outbox"))
+
+-- `register`, with three plain words and the option `--store`
+abbrev pub register_app : App
+register_app = with_rule (with_rule (with_rule (with_rule (bare_app (codes "register")) (word_rule (codes "tenant"))) (word_rule (codes "user"))) (word_rule (codes "moment"))) (option_rule (codes "store"))
+
+-- `forecast`, with two plain words and the option `--store`
+abbrev pub forecast_app : App
+forecast_app = with_rule (with_rule (with_rule (bare_app (codes "forecast")) (word_rule (codes "tenant"))) (word_rule (codes "date"))) (option_rule (codes "store"))
 
 -- there is no fault among these
 abbrev pub has_none : Kinds → Bool
@@ -62,6 +75,16 @@ SaysPath (Some word) path = (word ≡ path) × (path ≢ [])
 abbrev pub SaysNumber : ℕ → Option Text → ℕ → Type 0
 SaysNumber greatest None number = ⊥
 SaysNumber greatest (Some word) number = (word ≡ decimal number) × (1 ≤ number) × (number ≤ greatest)
+
+-- a moment, in digits without a leading zero
+abbrev pub SaysMoment : Option Text → ℕ → Type 0
+SaysMoment None moment = ⊥
+SaysMoment (Some word) moment = (word ≡ decimal moment) × (moment ≤ 99_999_999_999)
+
+-- a day by its date, of the years 1970 to 5199
+abbrev pub SaysDate : Option Text → ℤ → Type 0
+SaysDate None day = ⊥
+SaysDate (Some word) day = read_date word ≡ Some day
 
 -- a lock by its name
 abbrev pub lock_name : Lock → Text
@@ -94,6 +117,30 @@ pub record AsksServe (words : List Text) (setup listen : Text) (workers : ℕ) (
   pub named : value_of serve_app (codes "store") words ≡ store
   pub good : IsStore store
 
+-- the words after `notices`
+pub record AsksNotices (words : List Text) (moment : ℕ) (store outbox : Text) : Type 0 where
+  pub taken : takes_words notices_app words ≡ true
+  pub at : SaysMoment (value_of notices_app (codes "moment") words) moment
+  pub named : SaysPath (value_of notices_app (codes "store") words) store
+  pub put : SaysPath (value_of notices_app (codes "outbox") words) outbox
+
+-- the words after `register`
+pub record AsksRegister (words : List Text) (tenant user moment : ℕ) (store : Option Text) : Type 0 where
+  pub taken : takes_words register_app words ≡ true
+  pub of : SaysNumber 64 (value_of register_app (codes "tenant") words) tenant
+  pub by : SaysNumber 256 (value_of register_app (codes "user") words) user
+  pub at : SaysMoment (value_of register_app (codes "moment") words) moment
+  pub named : value_of register_app (codes "store") words ≡ store
+  pub good : IsStore store
+
+-- the words after `forecast`
+pub record AsksForecast (words : List Text) (tenant : ℕ) (day : ℤ) (store : Option Text) : Type 0 where
+  pub taken : takes_words forecast_app words ≡ true
+  pub of : SaysNumber 64 (value_of forecast_app (codes "tenant") words) tenant
+  pub by : SaysDate (value_of forecast_app (codes "date") words) day
+  pub named : value_of forecast_app (codes "store") words ≡ store
+  pub good : IsStore store
+
 -- the words ask this
 abbrev pub Asks : List Text → Plan → Type 0
 Asks [] plan = ⊥
@@ -101,17 +148,23 @@ Asks (command ∷ rest) (Play store) = (command ≡ codes "play") × AsksPlay re
 Asks (command ∷ rest) (Make turns) = (command ≡ codes "make") × AsksTurns rest turns
 Asks (command ∷ rest) (Tally turns) = (command ≡ codes "tally") × AsksTurns rest turns
 Asks (command ∷ rest) (Serve setup listen workers lock store) = (command ≡ codes "serve") × AsksServe rest setup listen workers lock store
+Asks (command ∷ rest) (Notices moment store outbox) = (command ≡ codes "notices") × AsksNotices rest moment store outbox
+Asks (command ∷ rest) (Register tenant user moment store) = (command ≡ codes "register") × AsksRegister rest tenant user moment store
+Asks (command ∷ rest) (Forecast tenant day store) = (command ≡ codes "forecast") × AsksForecast rest tenant day store
 
 -- the words are a form of a call
 abbrev pub IsForm : List Text → Type 0
 IsForm words = (plan : Plan) × Asks words plan
 
--- what is asked is a run, by `play`, `make` or `tally`, and no host that serves
+-- what is asked is a run: no host that serves, and no notices
 abbrev pub IsRun : Plan → Type 0
 IsRun (Play store) = Unit {0}
 IsRun (Make turns) = Unit {0}
 IsRun (Tally turns) = Unit {0}
 IsRun (Serve setup listen workers lock store) = ⊥
+IsRun (Notices moment store outbox) = ⊥
+IsRun (Register tenant user moment store) = Unit {0}
+IsRun (Forecast tenant day store) = Unit {0}
 
 -- the words are a form of a run
 abbrev pub IsRunForm : List Text → Type 0

@@ -170,6 +170,73 @@ const SERVE_NO_FORMS: &[&str] = &[
     "serve -setup s --listen l --workers 1",
 ];
 
+// Words of the other calls over kept rows, with a space between each two, and what they ask.
+const KEPT_FORMS: &[(&str, &str)] = &[
+    (
+        "notices 1735689700 --store s --outbox o",
+        "notices at 1735689700 over s into o",
+    ),
+    (
+        "notices --outbox=s --store=s 0",
+        "notices at 0 over s into s",
+    ),
+    (
+        "register 1 256 99999999999",
+        "register of 1 by 256 at 99999999999",
+    ),
+    (
+        "register --store f 64 1 0",
+        "register of 64 by 1 at 0 over f",
+    ),
+    ("forecast 1 2025-01-31", "forecast of 1 by 20119"),
+    (
+        "forecast 64 5199-12-31 --store=f",
+        "forecast of 64 by 1179732 over f",
+    ),
+    ("forecast -- 1 1970-01-01", "forecast of 1 by 0"),
+];
+
+// Such words that ask nothing.
+const KEPT_NO_FORMS: &[&str] = &[
+    "notices 1 --store s",
+    "notices 1 --outbox o",
+    "notices --store s --outbox o",
+    "notices 01 --store s --outbox o",
+    "notices -1 --store s --outbox o",
+    "notices 100000000000 --store s --outbox o",
+    "notices 18446744073709551617 --store s --outbox o",
+    "notices 1 --store= --outbox o",
+    "notices 1 --store s --outbox=",
+    "notices 1 2 --store s --outbox o",
+    "register 0 1 1",
+    "register 65 1 1",
+    "register 1 0 1",
+    "register 1 257 1",
+    "register 1 65537 1",
+    "register 1 1",
+    "register 1 1 1 1",
+    "register 1 1 01",
+    "register 1 1 1 --store=",
+    "register 1 1 1 --outbox o",
+    "forecast 1",
+    "forecast 65 2025-01-31",
+    "forecast 1 2025-02-30",
+    "forecast 1 2025-1-31",
+    "forecast 1 1969-12-31",
+    "forecast 1 5200-01-01",
+    "forecast 1 2025-01-31 1",
+    "forecast 1 2025-01-31 --store",
+    "forecasts 1 2025-01-31",
+];
+
+// What is asked over rows in memory, or in the file of a path, in short.
+fn told_over(alloc: Global, asked: String, store: &Option<Text>) -> Result<String, Fail> {
+    match store {
+        None => Ok(asked),
+        Some(path) => Ok(format!(in alloc; "{} over {}", asked.as_str(), path.as_str())?),
+    }
+}
+
 // What is asked of a host that serves, in short.
 fn told_of_serving(
     alloc: Global,
@@ -185,11 +252,47 @@ fn told_of_serving(
         Lock::Mutex => "",
         Lock::Ticket => " with tickets",
     };
-    match store {
-        None => Ok(format!(in alloc; "serve {setup} at {listen} by {workers}{lock}")?),
-        Some(path) => {
-            let path = path.as_str();
-            Ok(format!(in alloc; "serve {setup} at {listen} by {workers}{lock} over {path}")?)
+    let asked = format!(in alloc; "serve {setup} at {listen} by {workers}{lock}")?;
+    told_over(alloc, asked, store)
+}
+
+// What is asked, in short.
+fn told_of_plan(alloc: Global, plan: &Plan) -> Result<String, Fail> {
+    match plan {
+        Plan::Play { store } => told_over(alloc, String::from_str(alloc, "play")?, store),
+        Plan::Make(turns) => Ok(format!(in alloc; "make {turns}")?),
+        Plan::Tally(turns) => Ok(format!(in alloc; "tally {turns}")?),
+        Plan::Serve {
+            setup,
+            listen,
+            workers,
+            lock,
+            store,
+        } => told_of_serving(alloc, setup, listen, *workers, *lock, store),
+        Plan::Notices {
+            moment,
+            store,
+            outbox,
+        } => {
+            let at = moment.seconds();
+            let store = store.as_str();
+            Ok(format!(in alloc; "notices at {at} over {store} into {}", outbox.as_str())?)
+        }
+        Plan::Register {
+            tenant,
+            user,
+            moment,
+            store,
+        } => {
+            let user = user.id();
+            let at = moment.seconds();
+            let asked = format!(in alloc; "register of {} by {user} at {at}", tenant.id())?;
+            told_over(alloc, asked, store)
+        }
+        Plan::Forecast { tenant, day, store } => {
+            let day = day.days();
+            let asked = format!(in alloc; "forecast of {} by {day}", tenant.id())?;
+            told_over(alloc, asked, store)
         }
     }
 }
@@ -201,21 +304,7 @@ fn told(alloc: Global, words: &[&str]) -> Result<String, Fail> {
         texts.push(Text::from_str(alloc, word)?)?;
     }
     match plan(alloc, &texts) {
-        Ok(Plan::Play { store: None }) => Ok(String::from_str(alloc, "play")?),
-        Ok(Plan::Play { store: Some(path) }) => {
-            Ok(format!(in alloc; "play over {}", path.as_str())?)
-        }
-        Ok(Plan::Make(turns)) => Ok(format!(in alloc; "make {turns}")?),
-        Ok(Plan::Tally(turns)) => Ok(format!(in alloc; "tally {turns}")?),
-        Ok(
-            Plan::Serve {
-                setup,
-                listen,
-                workers,
-                lock,
-                store,
-            },
-        ) => told_of_serving(alloc, &setup, &listen, workers, lock, &store),
+        Ok(plan) => told_of_plan(alloc, &plan),
         Err(PlanFault::Usage) => Ok(String::from_str(alloc, "usage")?),
         Err(PlanFault::Memory) => Err("no memory".into()),
     }
@@ -249,6 +338,18 @@ fn each_form_of_serve_is_read_and_all_else_is_none(rt: HostRuntime) -> Result<()
         assert!(rt; told_of_line(alloc, line)?.as_str() == *wanted, "{line}");
     }
     for line in SERVE_NO_FORMS {
+        assert!(rt; told_of_line(alloc, line)?.as_str() == "usage", "{line}");
+    }
+    Ok(())
+}
+
+#[test]
+fn each_form_over_kept_rows_is_read_and_all_else_is_none(rt: HostRuntime) -> Result<(), Fail> {
+    let alloc = rt.alloc();
+    for (line, wanted) in KEPT_FORMS {
+        assert!(rt; told_of_line(alloc, line)?.as_str() == *wanted, "{line}");
+    }
+    for line in KEPT_NO_FORMS {
         assert!(rt; told_of_line(alloc, line)?.as_str() == "usage", "{line}");
     }
     Ok(())

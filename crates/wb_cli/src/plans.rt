@@ -3,7 +3,7 @@ ghost use Rattle.std.specs.Prelude.{◌≡◌};
 ghost use Rattle.wb_cli.specs.declared.plans.PlanFault.TheVariants.{Memory as NoMemory};
 
 use std::alloc::AllocError;
-use wb_base::{Memory, Text};
+use wb_base::{Day, Memory, Moment, Tenant, Text, UserId};
 
 /// What the workers of a host take their turns by.
 #[derive(Clone, Copy, Debug, PartialEq, Eq)]
@@ -32,6 +32,25 @@ pub enum Plan {
         listen: Text,
         workers: u32,
         lock: Lock,
+        store: Option<Text>,
+    },
+    /// Writes the notices that are owed at a moment over the rows in the file of a path, and puts them into the outbox in another file.
+    Notices {
+        moment: Moment,
+        store: Text,
+        outbox: Text,
+    },
+    /// Writes the register of a tenant's user at a moment, over rows in memory, or in the file of this path.
+    Register {
+        tenant: Tenant,
+        user: UserId,
+        moment: Moment,
+        store: Option<Text>,
+    },
+    /// Writes what expires of a tenant by a day, over rows in memory, or in the file of this path.
+    Forecast {
+        tenant: Tenant,
+        day: Day,
         store: Option<Text>,
     },
 }

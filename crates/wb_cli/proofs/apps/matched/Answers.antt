@@ -6,7 +6,7 @@ use Rattle.clap.specs.Matches.{found_of}
 use Rattle.clap.specs.Kinds.{Kinds, IsAmong}
 use Rattle.clap.specs.declared.error.kind.ErrorKind.{ErrorKind}
 use Rattle.wb_cli.specs.CommandLine.{has_none, takes_words, value_of}
-use Rattle.wb_cli.proofs.command_line.matched.Goals as goal
+use Rattle.wb_cli.proofs.apps.matched.Goals as goal
 
 some_kind : (k : ErrorKind) (ks : Kinds) → IsAmong k ks → has_none ks ≡ false
 some_kind k [] h = absurd h
