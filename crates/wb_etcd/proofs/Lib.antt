@@ -1,0 +1,5 @@
+pub mod Orders
+pub mod AboveLast
+pub mod Bodies
+pub mod ToldRows
+pub mod Asking

@@ -1,0 +1,8 @@
+pub mod KeyTexts
+pub mod Transactions
+pub mod Answers
+pub mod Exchanges
+pub mod Holding
+pub mod Counts
+pub mod MemoryDials
+pub mod StoreNames
