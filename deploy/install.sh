@@ -31,7 +31,9 @@ fi
 # The program stands beside the old one until it is whole, so that a running host is not disturbed.
 install -D -m 755 "$program" "$root/usr/local/bin/whistle.new"
 mv -f "$root/usr/local/bin/whistle.new" "$root/usr/local/bin/whistle"
-install -D -m 755 "$here/deploy/erase-deleted" "$root/usr/local/lib/whistle/erase-deleted"
+for script in erase-deleted write-notices mail-notices; do
+    install -D -m 755 "$here/deploy/$script" "$root/usr/local/lib/whistle/$script"
+done
 
 # The pages, and none that an older version had.
 pages=$root/usr/share/whistle/web
@@ -52,8 +54,11 @@ if [ ! -f "$setup" ]; then
         sed -i -f - "$setup.new"
     mv "$setup.new" "$setup"
 fi
-if on_machine; then chown root:whistle /etc/whistle "$setup"; fi
-chmod 640 "$setup"
+# Who is mailed what a user is to know: nobody until there are lines `<organisation> <user> <address>`.
+addresses=$root/etc/whistle/addresses
+[ -f "$addresses" ] || (umask 077 && : > "$addresses")
+if on_machine; then chown root:whistle /etc/whistle "$setup" "$addresses"; fi
+chmod 640 "$setup" "$addresses"
 
 # A certificate of its own making until you put one of a known authority in its place.
 certificate=$root/etc/ssl/whistle
@@ -69,7 +74,8 @@ install -d "$root/etc/nginx/sites-available" "$root/etc/nginx/sites-enabled"
 sed "s/report\.example\.org/$name/g" "$here/deploy/nginx.conf" > "$site.new" && mv "$site.new" "$site"
 ln -sfn ../sites-available/whistle "$root/etc/nginx/sites-enabled/whistle"
 
-for unit in whistle.service whistle-health.service whistle-health.timer whistle-erase.service whistle-erase.timer; do
+for unit in whistle.service whistle-health.service whistle-health.timer whistle-erase.service whistle-erase.timer \
+    whistle-notices.service whistle-notices.timer; do
     install -D -m 644 "$here/deploy/$unit" "$root/etc/systemd/system/$unit"
 done
 
@@ -80,7 +86,7 @@ elif on_machine; then
     nginx -t
     if [ -d /run/systemd/system ]; then
         systemctl daemon-reload
-        systemctl enable --now whistle.service whistle-health.timer whistle-erase.timer nginx.service
+        systemctl enable --now whistle.service whistle-health.timer whistle-erase.timer whistle-notices.timer nginx.service
         systemctl restart whistle.service
         systemctl reload nginx.service
         echo "install.sh: the host serves at https://$name/"

@@ -16,6 +16,7 @@ A table is a file `NAME.rows` beside this one, of cases. `#` begins a remark whe
     fields TEXT                   further lines of the next request's head
     frame TEXT                    bytes of the script in place of a frame
     repeat A B .. end             the lines between, once for each number from A to B, which is `$k` in them
+    each TEXT TEXT .. end         the lines between, once for each of these texts, which is `$v` in them; whole cases too
     cut                           besides, the file is played by two starts that part here, with the same replies
     ends STATUS LINE              how the start ends; with 0 and no line where this is not said
     start                         another start over the same file follows, with the same setup
@@ -135,8 +136,11 @@ def read_table(path, setups):
     for at, line in enumerate(path.read_text().split("\n"), 1):
         line = line.strip(" ")
         if not line or line[0] == "#": continue
-        if line.startswith("repeat "): kept, loop = [], [int(word) for word in line.split()[1:]]
-        elif line == "end": lines, loop = [(row.replace("$k", str(k)), n) for k in range(loop[0], loop[1] + 1) for row, n in kept], None
+        if line.startswith("repeat "):
+            first, last = map(int, line.split()[1:])
+            kept, loop = [], ("$k", [str(k) for k in range(first, last + 1)])
+        elif line.startswith("each "): kept, loop = [], ("$v", line.split()[1:])
+        elif line == "end": lines, loop = [(row.replace(loop[0], text), n) for text in loop[1] for row, n in kept], None
         elif loop: kept.append((line, at))
         else: lines = [(line, at)]
         if loop: continue

@@ -173,20 +173,17 @@ turns_in (Make turns) = turns
 turns_in (Tally turns) = turns
 turns_in p = 0
 
-abbrev form_in : Plan → ℕ
+abbrev pub form_in : Plan → ℕ
 form_in (Play store) = 0
 form_in (Make turns) = 1
 form_in (Tally turns) = 2
-form_in p = 3
+form_in (Serve setup listen workers lock store) = 3
+form_in (Notices moment store outbox) = 4
+form_in (Register tenant user moment store) = 5
+form_in (Forecast tenant day store) = 6
 
 pub same_turns : (n m : ℕ) → Tally n ≡ Tally m → n ≡ m
 same_turns n m e = ap turns_in e
-
-pub not_play : (store : Option (List ℕ)) (n : ℕ) → Play store ≡ Tally n → ⊥
-not_play store n e = let bad : 0 ≡ 2 = ap form_in e in omega (arith, bad)
-
-pub not_make : (turns n : ℕ) → Make turns ≡ Tally n → ⊥
-not_make turns n e = let bad : 1 ≡ 2 = ap form_in e in omega (arith, bad)
 
 workers_said : (word : Option (List ℕ)) (workers : ℕ) → SaysNumber 64 word workers → (1 ≤ workers) × (workers ≤ 64)
 workers_said None workers said = absurd said

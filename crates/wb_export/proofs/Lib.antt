@@ -2,3 +2,4 @@ pub mod LineLemmas
 pub mod ByExpiry
 pub mod Going
 pub mod Entries
+mod ExportLemmas

@@ -1,3 +1,4 @@
 pub mod Csv
+pub mod Exports
 pub mod Forecasts
 pub mod Registers

@@ -10,13 +10,14 @@ use Rattle.wb_model.specs.Cuts.{Nothing, Part, Cuts, Ends, IsCut}
 use Rattle.wb_model.specs.Readings.{Asks, Reads}
 use Rattle.wb_model.specs.Requests.{Frame}
 use Rattle.wb_transport.specs.Lines.{Tick}
-use Rattle.wb_front.specs.declared.answers.Answer.{Answer}
+use Rattle.wb_front.specs.declared.answers.Replied.{Replied}
 use Rattle.wb_front.specs.declared.connection.Ended.{Ended}
 use Rattle.wb_front.specs.declared.connection.Ended.TheVariants as ended
-use Rattle.wb_front.specs.Answers.{reply_of, IsAnswered, IsFatal}
+use Rattle.wb_front.specs.Answers.{IsAnswered, IsFatal}
 use Rattle.wb_front.specs.Arrivals.{Flows}
 use Rattle.wb_front.specs.Endings.{IsOpenYet, IsEnded}
-use Rattle.wb_front.specs.Served.{Exchange, IsExchange, IsReply, replies, reply_bytes, said, refusal, Sides, HasServed, HasReplied}
+use Rattle.wb_wire.specs.Responses.{refusal, reply_of}
+use Rattle.wb_front.specs.Served.{Exchange, IsExchange, IsReply, replies, reply_bytes, said, Sides, HasServed, HasReplied}
 use Rattle.wb_front.proofs.Serving.{read_on, served_more, sent_more, refused_more, stay_more, length_more}
 
 module _ {O : Type 0} (Ran : O → Frame → Told → O → Type 0) (a : Sides O) (left got : Option (List ℕ)) (moments : Option (List Tick)) (own : O) (xs : List Exchange) (held : List ℕ)
@@ -69,16 +70,16 @@ module _ {O : Type 0} (Ran : O → Frame → Told → O → Type 0) (a : Sides O
       (xs, held', (record { exchanges = served.exchanges; bytes = served.bytes; turns = served.turns }, record { before = replies xs; last = reply_bytes (refusal fault true); is_last = inr (fault, cut, yet.stay, room, refl, refl); part = h.2.0; rest = h.2.1; cut = h.2.2; sent = refused_more a read xs h.2.0 got2 sent h.2.3 }), within))
 
   -- a request was answered
-  module _ (size : ℕ) (cut : IsCut held' (Cuts (take size held') (drop size held'))) (bytes : List ℕ) (is : bytes ≡ take size held') (answer : Answer) (tick : Option Tick) (own' : O) (moments' : Option (List Tick))
+  module _ (size : ℕ) (cut : IsCut held' (Cuts (take size held') (drop size held'))) (bytes : List ℕ) (is : bytes ≡ take size held') (answer : Replied) (tick : Option Tick) (own' : O) (moments' : Option (List Tick))
       (told : IsAnswered Ran own own' moments moments' bytes answer tick) (left2 got2 : Option (List ℕ)) (stays : left2 ≡ left') where
     abbrev exchange : Exchange
-    exchange = record { request = take size held'; reply = reply_of answer; tick = tick }
+    exchange = record { request = take size held'; reply = reply_of answer.response; tick = tick }
 
     abbrev after : Sides O
     after = record { left = left2; got = got2; moments = moments'; own = own' }
 
     one : IsExchange Ran own own' exchange
-    one = record { whole = cut.1; replied = subst (λ bs. IsReply Ran own own' bs (reply_of answer) tick) is told.replied }
+    one = record { whole = cut.1; replied = subst (λ bs. IsReply Ran own own' bs (reply_of answer.response) tick) is told.replied }
 
     served_on : HasServed Ran a after (xs ++ exchange ∷ []) (drop size held')
     served_on =
@@ -89,22 +90,22 @@ module _ {O : Type 0} (Ran : O → Frame → Told → O → Type 0) (a : Sides O
     more_within = omega (arith, room, length_more xs exchange)
 
     -- its reply was cut off
-    pub write_cut : AppendsFront got' got2 (reply_bytes (said (length xs) (reply_of answer))) → IsEnded Ran a after ended.WriteFault
-    write_cut off = (xs ++ exchange ∷ [], drop size held', (served_on, record { before = replies xs; last = reply_bytes (said (length xs) (reply_of answer)); is_last = inl (xs, exchange, refl, yet.stay, refl, refl); part = off.0; rest = off.1; cut = off.2; sent = refused_more a read xs off.0 got2 sent off.3 }), more_within)
+    pub write_cut : AppendsFront got' got2 (reply_bytes (said (length xs) (reply_of answer.response))) → IsEnded Ran a after ended.WriteFault
+    write_cut off = (xs ++ exchange ∷ [], drop size held', (served_on, record { before = replies xs; last = reply_bytes (said (length xs) (reply_of answer.response)); is_last = inl (xs, exchange, refl, yet.stay, refl, refl); part = off.0; rest = off.1; cut = off.2; sent = refused_more a read xs off.0 got2 sent off.3 }), more_within)
 
     -- its reply was sent
-    module _ (all : Appends got' got2 (reply_bytes (said (length xs) (reply_of answer)))) where
+    module _ (all : Appends got' got2 (reply_bytes (said (length xs) (reply_of answer.response)))) where
       replied_on : HasReplied Ran a after (xs ++ exchange ∷ []) (drop size held')
       replied_on = record { served = served_on; sent = sent_more a read xs exchange got2 sent all }
 
-      pub more : answer.close ≡ false → IsOpenYet Ran a after (xs ++ exchange ∷ []) (drop size held')
+      pub more : answer.response.close ≡ false → IsOpenYet Ran a after (xs ++ exchange ∷ []) (drop size held')
       more stay = record { replied = replied_on; stay = stay_more xs exchange yet.stay stay }
 
-      closed_by : (fatal : Option WireFault) (result : Ended) → answer.close ≡ true → IsFatal fatal (reply_of answer) tick → ((fault : WireFault) → fatal ≡ Some fault → result ≡ ended.Refused fault) → (fatal ≡ None → result ≡ ended.Closed) → IsEnded Ran a after result
+      closed_by : (fatal : Option WireFault) (result : Ended) → answer.response.close ≡ true → IsFatal fatal (reply_of answer.response) tick → ((fault : WireFault) → fatal ≡ Some fault → result ≡ ended.Refused fault) → (fatal ≡ None → result ≡ ended.Closed) → IsEnded Ran a after result
       closed_by None result closes why some none =
           subst (IsEnded Ran a after) (sym (none refl)) (xs ++ exchange ∷ [], drop size held', inr (replied_on, (exchange, record { front = xs; parts = refl; stay = yet.stay; closes = closes }, why)), more_within)
       closed_by (Some fault) result closes why some none =
           subst (IsEnded Ran a after) (sym (some fault refl)) (xs ++ exchange ∷ [], drop size held', inr (replied_on, (exchange, record { front = xs; parts = refl; stay = yet.stay; closes = closes }, why)), more_within)
 
-      pub closed : (result : Ended) → answer.close ≡ true → ((fault : WireFault) → answer.fatal ≡ Some fault → result ≡ ended.Refused fault) → (answer.fatal ≡ None → result ≡ ended.Closed) → IsEnded Ran a after result
+      pub closed : (result : Ended) → answer.response.close ≡ true → ((fault : WireFault) → answer.fatal ≡ Some fault → result ≡ ended.Refused fault) → (answer.fatal ≡ None → result ≡ ended.Closed) → IsEnded Ran a after result
       closed result closes some none = closed_by answer.fatal result closes told.fatal some none

@@ -3,7 +3,7 @@ use Rattle.std.proofs.Common.{◌≡◌, inr, Bool, true, false, cond, Option, S
 use Rattle.wb_model.specs.declared.wire.WireFault.{WireFault}
 use Rattle.wb_model.specs.Readings.{closes_always}
 use Rattle.wb_model.specs.Scripts.{Reply}
-use Rattle.wb_front.specs.Served.{refusal}
+use Rattle.wb_wire.specs.Responses.{refusal}
 use Rattle.wb_front.specs.Answers.{IsFatal}
 
 fatal_by : (b : Bool) (fault : WireFault) (close : Bool) (reply : Reply) → closes_always fault ≡ b → reply ≡ refusal fault close → IsFatal (cond b (Some fault) None) reply None

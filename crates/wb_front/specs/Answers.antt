@@ -6,11 +6,9 @@ use Rattle.wb_model.specs.Readings.{closes_always}
 use Rattle.wb_model.specs.Requests.{Frame}
 use Rattle.wb_model.specs.Scripts.{Reply}
 use Rattle.wb_transport.specs.Lines.{Tick}
-use Rattle.wb_front.specs.Served.{IsReply, Loses, refusal, tick_of}
-use Rattle.wb_front.specs.declared.answers.Answer.{Answer}
-
-abbrev pub reply_of : Answer → Reply
-reply_of a = record { told = a.told; allow = a.allow; close = a.close }
+use Rattle.wb_wire.specs.Responses.{refusal, reply_of}
+use Rattle.wb_front.specs.Served.{IsReply, Loses, tick_of}
+use Rattle.wb_front.specs.declared.answers.Replied.{Replied}
 
 -- the fault is the one after which the connection closes whatever its head asks for; and where there is none, the reply is a turn's, or
 -- that of a fault after which it may stay
@@ -19,7 +17,7 @@ IsFatal None reply tick = (tick ≢ None) ⊎ ((fault : WireFault) × (close : B
 IsFatal (Some fault) reply tick = (closes_always fault ≡ true) × (tick ≡ None) × (reply ≡ refusal fault reply.close)
 
 -- the answer is the reply to these bytes, by a turn at this tick or none, with what is had of the gate and the ticks that are left before and after
-pub record IsAnswered {O : Type 0} (Ran : O → Frame → Told → O → Type 0) (own own' : O) (moments moments' : Option (List Tick)) (bytes : List ℕ) (a : Answer) (tick : Option Tick) : Type 0 where
-  pub replied : IsReply Ran own own' bytes (reply_of a) tick
+pub record IsAnswered {O : Type 0} (Ran : O → Frame → Told → O → Type 0) (own own' : O) (moments moments' : Option (List Tick)) (bytes : List ℕ) (a : Replied) (tick : Option Tick) : Type 0 where
+  pub replied : IsReply Ran own own' bytes (reply_of a.response) tick
   pub turns : Loses moments moments' (tick_of tick)
-  pub fatal : IsFatal a.fatal (reply_of a) tick
+  pub fatal : IsFatal a.fatal (reply_of a.response) tick

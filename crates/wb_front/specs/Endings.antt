@@ -7,7 +7,8 @@ use Rattle.wb_model.specs.Cuts.{Part, Ends, IsCut}
 use Rattle.wb_model.specs.Requests.{Frame}
 use Rattle.wb_front.specs.Answers.{IsFatal}
 use Rattle.wb_front.specs.Arrivals.{IsUnfinished}
-use Rattle.wb_front.specs.Served.{Exchange, Sides, HasServed, HasReplied, StayOpen, ClosesLast, AsksNext, IsSentLast, replies, reply_bytes, refusal}
+use Rattle.wb_wire.specs.Responses.{refusal}
+use Rattle.wb_front.specs.Served.{Exchange, Sides, HasServed, HasReplied, StayOpen, ClosesLast, AsksNext, IsSentLast, replies, reply_bytes}
 use Rattle.wb_front.specs.declared.connection.Ended.{Ended}
 use Rattle.wb_front.specs.declared.connection.Ended.TheVariants as ended
 

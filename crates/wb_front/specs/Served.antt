@@ -8,10 +8,11 @@ use Rattle.wb_model.specs.declared.wire.WireFault.TheVariants as faults
 use Rattle.wb_model.specs.Commands.{is_health}
 use Rattle.wb_model.specs.Cuts.{HasHead, Ends, IsCut}
 use Rattle.wb_model.specs.Readings.{Asks, Refuses, Reads, Closes}
-use Rattle.wb_model.specs.Replies.{fault_told, fault_allow, reply_text}
+use Rattle.wb_model.specs.Replies.{reply_text}
 use Rattle.wb_model.specs.Requests.{Frame}
 use Rattle.wb_model.specs.Scripts.{Reply}
 use Rattle.wb_transport.specs.Lines.{Tick}
+use Rattle.wb_wire.specs.Responses.{refusal}
 
 -- a request's bytes, its reply, and the moment and words of its turn, where it was one
 pub record Exchange : Type 0 where
@@ -28,9 +29,6 @@ frame_at tick asked = record { moment = tick.0; words = tick.1; asked = asked }
 -- the gate's answer to what the bytes ask: the turn ran, for one who had this of the gate before and that after
 abbrev pub IsTurn : {O : Type 0} → (O → Frame → Told → O → Type 0) → O → O → Tick → List ℕ → Reply → Type 0
 IsTurn Ran own own' tick bytes reply = (asked : Asked) × Reads bytes (Asks asked) × Ran own (frame_at tick asked) reply.told own' × (reply.allow ≡ None) × (reply.close ≡ asked.close)
-
-abbrev pub refusal : WireFault → Bool → Reply
-refusal fault close = record { told = fault_told fault; allow = fault_allow fault; close = close }
 
 -- the bytes do not ask for the host's health, which is read without memory
 abbrev pub AsksNoHealth : List ℕ → Type 0

@@ -5,8 +5,9 @@ ghost use Rattle.wb_base.specs.Outside.{AppendsFront, HasCause};
 ghost use Rattle.wb_model.specs.declared.command.Asked.{Asked as AskedOf};
 ghost use Rattle.wb_model.specs.Readings.{Asks, Reads, closes_always};
 ghost use Rattle.wb_transport.specs.Lines.{Tick};
-ghost use Rattle.wb_front.specs.Served.{IsReply, Loses, closing, refusal as refusal_of, reply_bytes, tick_of};
-ghost use Rattle.wb_front.specs.Answers.{reply_of, IsAnswered};
+ghost use Rattle.wb_wire.specs.Responses.{refusal as refusal_of, reply_of};
+ghost use Rattle.wb_front.specs.Served.{IsReply, Loses, closing, reply_bytes, tick_of};
+ghost use Rattle.wb_front.specs.Answers.{IsAnswered};
 
 use std::alloc::Global;
 use std::sync::Wait;
@@ -14,35 +15,25 @@ use std::sync::ledger::Ledger;
 use wb_base::{Failed, Keeper};
 use wb_gate::{Gate, Turn};
 use wb_ledger::Origin;
-use wb_model::{Body, Told};
 use wb_transport::{Link, Ticker};
 use wb_wire::{
-    PathNo, Routes, WireFault, WireNo, Written, fault_allow, fault_body, fault_closes,
-    fault_status, read_request, reply_head,
+    Response, Routes, WireFault, WireNo, Written, fault_closes, read_request, refusal, reply_head,
 };
 
-/// A reply: what is told, the path whose methods it lists, whether the connection closes after it, and the fault that ends the
-/// connection, where it is such a fault.
+/// The response to a request, and the fault that ends the connection, where it is such a fault.
 #[derive(Drop)]
-pub struct Answer {
-    pub told: Told,
-    pub allow: Option<PathNo>,
-    pub close: bool,
+pub struct Replied {
+    pub response: Response,
     pub fatal: Option<WireFault>,
 }
 
-/// The reply to bytes that ask nothing. It takes no memory.
-pub fn refusal(no: &WireNo) -> Answer
-    ensures reply { reply_of result ≡ refusal_of no.now.fault no.now.close }
+// The response to bytes that ask nothing. It takes no memory.
+fn refused(no: &WireNo) -> Replied
+    ensures reply { reply_of result.response ≡ refusal_of no.now.fault no.now.close }
     ensures fatal { result.fatal ≡ (if closes_always no.now.fault then Some no.now.fault else None) }
 {
-    Answer {
-        told: Told {
-            status: fault_status(&no.fault),
-            body: Body::short(fault_body(&no.fault)),
-        },
-        allow: fault_allow(&no.fault),
-        close: no.close,
+    Replied {
+        response: refusal(no),
         fatal: if fault_closes(&no.fault) {
             Some(no.fault)
         } else {
@@ -60,7 +51,7 @@ pub fn reply_to<R: Wait, K: Keeper, A: Origin, B: Ledger, G: Gate<K, A, B, Turn>
     own: &mut G::Own,
     ticker: &mut T,
     bytes: &[u8],
-) -> Result<Answer, Failed>
+) -> Result<Replied, Failed>
     requires of { G.of gate.now own.old }
     ensures of { G.of gate.now own.new }
     ensures answered { IfOk result (λ a. (tick : Option Tick) × IsAnswered (λ own frame told own'. G.ran own frame told own') own.old own.new (T.left ticker.old) (T.left ticker.new) bytes.now a tick) }
@@ -74,14 +65,17 @@ pub fn reply_to<R: Wait, K: Keeper, A: Origin, B: Ledger, G: Gate<K, A, B, Turn>
                 return Err(Failed);
             };
             let close = asked.close;
-            Ok(Answer {
+            let response = Response {
                 told: gate.enter(rt, own, Turn::new(asked, tick.0, tick.1)),
                 allow: None,
                 close,
+            };
+            Ok(Replied {
+                response,
                 fatal: None,
             })
         }
-        Err(no) => Ok(refusal(&no)),
+        Err(no) => Ok(refused(&no)),
     }
 }
 
@@ -111,14 +105,14 @@ fn send_both<L: Link>(link: &mut L, head: &[u8], body: &[u8]) -> Result<(), Fail
     }
 }
 
-/// Sends a reply, with this closing. It takes no memory.
-pub fn send<L: Link>(link: &mut L, answer: &Answer, close: bool) -> Result<(), Failed>
-    ensures ok { OnOk result (Appends (L.got link.old) (L.got link.new) (reply_bytes (closing (reply_of answer.now) close))) }
-    ensures err { OnErr result (AppendsFront (L.got link.old) (L.got link.new) (reply_bytes (closing (reply_of answer.now) close))) }
+/// Sends a response, with this closing. It takes no memory.
+pub fn send<L: Link>(link: &mut L, response: &Response, close: bool) -> Result<(), Failed>
+    ensures ok { OnOk result (Appends (L.got link.old) (L.got link.new) (reply_bytes (closing (reply_of response.now) close))) }
+    ensures err { OnErr result (AppendsFront (L.got link.old) (L.got link.new) (reply_bytes (closing (reply_of response.now) close))) }
     ensures left { L.left link.new ≡ L.left link.old }
     ensures cause { HasCause (L.count link.old) (L.count link.new) result }
 {
-    let body = answer.told.body.as_bytes();
-    let head = reply_head(answer.told.status, answer.allow, body.len(), close);
+    let body = response.told.body.as_bytes();
+    let head = reply_head(response.told.status, response.allow, body.len(), close);
     send_both(link, head.as_bytes(), body)
 }

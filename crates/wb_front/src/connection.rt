@@ -3,10 +3,11 @@ ghost use Rattle.std.specs.Prelude.{◌≡◌, ◌≢◌, ◌≤◌, ◌⊎◌, 
 ghost use Rattle.std.specs.Io.KnownBytes.{Appends};
 ghost use Rattle.wb_base.specs.Outside.{AppendsFront, Rose};
 ghost use Rattle.wb_model.specs.declared.wire.WireFault.{WireFault as FaultData};
-ghost use Rattle.wb_front.specs.Served.{refusal as refusal_of, reply_bytes};
+ghost use Rattle.wb_wire.specs.Responses.{refusal as refusal_of};
+ghost use Rattle.wb_front.specs.Served.{reply_bytes};
 ghost use Rattle.wb_front.specs.Endings.{IsEnded};
 
-use crate::answers::{Answer, refusal, reply_to, send};
+use crate::answers::{Replied, reply_to, send};
 use crate::inbox::{Arrived, Inbox};
 use std::alloc::Global;
 use std::sync::Wait;
@@ -15,7 +16,7 @@ use wb_base::Keeper;
 use wb_gate::{Gate, Turn};
 use wb_ledger::Origin;
 use wb_transport::{Link, Ticker};
-use wb_wire::{Routes, WireFault, WireNo};
+use wb_wire::{Routes, WireFault, WireNo, refusal};
 
 /// How a connection ended.
 #[derive(Clone, Copy, Debug, PartialEq, Eq)]
@@ -39,11 +40,11 @@ pub enum Ended {
 }
 
 // How a connection ends after a reply that closes.
-fn closed(answer: &Answer) -> Ended
-    ensures some { (fault : FaultData) → answer.now.fatal ≡ Some fault → result ≡ Ended.Refused fault }
-    ensures none { answer.now.fatal ≡ None → result ≡ Ended.Closed }
+fn closed(replied: &Replied) -> Ended
+    ensures some { (fault : FaultData) → replied.now.fatal ≡ Some fault → result ≡ Ended.Refused fault }
+    ensures none { replied.now.fatal ≡ None → result ≡ Ended.Closed }
 {
-    match answer.fatal {
+    match replied.fatal {
         Some(fault) => Ended::Refused(fault),
         None => Ended::Closed,
     }
@@ -64,8 +65,7 @@ fn refuse<L: Link>(link: &mut L, no: &WireNo) -> Ended
     ensures later { L.count link.old ≤ L.count link.new }
     ensures stayed { result ≢ Ended.WriteFault → L.count link.new ≡ L.count link.old }
 {
-    let answer = refusal(no);
-    match send(link, &answer, true) {
+    match send(link, &refusal(no), true) {
         Ok(()) => Ended::Refused(no.fault),
         Err(_) => Ended::WriteFault,
     }
@@ -115,14 +115,18 @@ pub fn serve_connection<
             Arrived::Part => return Ended::CutShort,
             Arrived::No(fault) => return refuse(link, &WireNo { fault, close: true }),
         };
-        let Ok(answer) = reply_to(rt, alloc, gate, routes, own, ticker, inbox.first(size)) else {
+        let Ok(replied) = reply_to(rt, alloc, gate, routes, own, ticker, inbox.first(size)) else {
             return Ended::ClockFault;
         };
-        let Ok(()) = send(link, &answer, closes_after(answer.close, before)) else {
+        let Ok(()) = send(
+            link,
+            &replied.response,
+            closes_after(replied.response.close, before),
+        ) else {
             return Ended::WriteFault;
         };
-        if answer.close {
-            return closed(&answer);
+        if replied.response.close {
+            return closed(&replied);
         }
         inbox.drop_first(size);
     }

@@ -6,7 +6,7 @@ mod connection;
 mod inbox;
 mod worker;
 
-pub use answers::{Answer, refusal, reply_to, send};
+pub use answers::{Replied, reply_to, send};
 pub use connection::{Ended, serve_connection};
 pub use inbox::{Arrived, Inbox};
 pub use worker::{Station, Worked, work};

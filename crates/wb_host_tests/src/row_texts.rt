@@ -1,46 +1,17 @@
 //! The text of a kept row of each kind, and of an entry of each deed, byte for byte.
-ghost use Rattle.std.specs.Prelude.{◌≡◌};
 
-use crate::kept_rows::{Place, keep, key, read_kept};
 use crate::turns::keeper;
-use std::alloc::Global;
 use std::test::Fail;
-use wb_base::{Keeper, Key, MemKeeper, Row, Text};
-use wb_rows::{RowFault, read, write};
+use wb_base::{Change, Keeper, Key, MemKeeper, Row, Text};
+use wb_rows::{read, write};
 
-// The row of the format, that of a form with triggers of both modes, and that of a form with a scored field.
-const FORMAT: Place = (0, 0, 0, 0);
-
-const FORM: Place = (4, 1, 1, 1);
-
-const SCORED: Place = (4, 1, 2, 1);
-
-// The keys of the settings of tenant 1, of the submission of its report and of that report's extension.
-const SET_UP: Key = Key {
-    kind: 1,
-    tenant: 1,
-    a: 0,
-    b: 0,
-};
-
-const SUBMITTED: Key = Key {
-    kind: 6,
-    tenant: 1,
-    a: 1,
-    b: 1,
-};
-
-const EXTENDED: Key = Key {
-    kind: 6,
-    tenant: 1,
-    a: 1,
-    b: 20,
-};
+// A key: kind, tenant and two numbers.
+type Place = (u8, u32, u32, u32);
 
 // The format; what tenant 1, an external channel with holidays, is set up with, a report with every deed, and its identity answers; and
 // tenant 2, twelve hours behind UTC, with a report of the first moment, which there is of the day before 1970.
 const ROWS: &[(Place, &str)] = &[
-    (FORMAT, r#"{"format":2}"#),
+    ((0, 0, 0, 0), r#"{"format":2}"#),
     (
         (1, 1, 0, 0),
         r#"{"external":true,"holidays":["2025-01-08","2025-04-08"],"name":"Harbour City","notice_days":7,"offset":0,"quota":50,"roll":true,"salt":"000102030405060708090a0b0c0d0e0f"}"#,
@@ -72,11 +43,11 @@ const ROWS: &[(Place, &str)] = &[
         r#"{"disabled":0,"enabled":true,"may":[],"name":"ada","role":"recipient","secret":"000102030405060708090a0b0c0d0e0f101112131415161718191a1b1c1d1e1f"}"#,
     ),
     (
-        FORM,
+        (4, 1, 1, 1),
         r#"{"steps":[{"fields":[{"id":"what","identity":false,"kind":"text","label":"What","max":4096,"required":true},{"id":"cat","identity":false,"kind":"choice","label":"Category","options":[{"id":"a","label":"A"},{"id":"b","label":"B"}],"required":false},{"id":"sum","identity":false,"kind":"whole","label":"Sum","required":false,"show":{"least":1,"mode":"any","parts":[{"field":"cat","option":"a","points":1},{"field":"cat","option":"b","points":1}]}},{"id":"day","identity":false,"kind":"date","label":"Day","required":false,"show":{"least":2,"mode":"all","parts":[{"field":"cat","option":"a","points":1},{"field":"cat","option":"b","points":1}]}},{"id":"name","identity":true,"kind":"text","label":"Name","max":64,"required":false}],"title":"Report"}]}"#,
     ),
     (
-        SCORED,
+        (4, 1, 2, 1),
         r#"{"steps":[{"fields":[{"id":"f","identity":false,"kind":"multi","label":"F","options":[{"id":"a","label":"A"},{"id":"b","label":"B"}],"required":false},{"id":"g","identity":false,"kind":"text","label":"G","max":7,"required":false,"show":{"least":16000,"mode":"score","parts":[{"field":"f","option":"a","points":1},{"field":"f","option":"b","points":1000}]}}],"title":"T"}]}"#,
     ),
     (
@@ -186,135 +157,36 @@ const ROWS: &[(Place, &str)] = &[
     ((7, 1, 1, 0), r#"{"name":"Eve"}"#),
 ];
 
-// Texts of the settings of tenant 1, and why the rows are not read with them: a key has its default; an extension stands where there is
-// no external channel; terms are not those of the calendar.
-const SETTINGS: &[(&str, RowFault)] = &[
-    (
-        r#"{"external":true,"holidays":["2025-01-08","2025-04-08"],"name":"H","notice_days":7,"offset":0,"quota":50,"roll":false,"salt":"000102030405060708090a0b0c0d0e0f"}"#,
-        RowFault::BadRow(SET_UP),
-    ),
-    (
-        r#"{"external":true,"holidays":["2025-04-08","2025-01-08"],"name":"H","notice_days":7,"offset":0,"quota":50,"roll":true,"salt":"000102030405060708090a0b0c0d0e0f"}"#,
-        RowFault::BadRow(SET_UP),
-    ),
-    (
-        r#"{"holidays":["2025-01-08","2025-04-08"],"name":"H","notice_days":7,"offset":0,"quota":50,"roll":true,"salt":"000102030405060708090a0b0c0d0e0f"}"#,
-        RowFault::BadSet(6, EXTENDED),
-    ),
-    (
-        r#"{"external":true,"holidays":["2025-01-08","2025-04-08"],"name":"H","notice_days":7,"offset":0,"quota":50,"salt":"000102030405060708090a0b0c0d0e0f"}"#,
-        RowFault::BadSet(5, SUBMITTED),
-    ),
-];
-
-// A row of a table.
-fn row(alloc: Global, place: Place, text: &str) -> Result<Row, Fail> {
-    Ok(Row {
-        key: key(place),
-        text: Text::from_str(alloc, text)?,
-    })
-}
-
-// A keeper of the rows but those of these places, and of others.
-fn keeping(alloc: Global, without: &[Place], others: &[(Place, &str)]) -> Result<MemKeeper, Fail> {
-    let mut keeper = keeper(alloc, &[])?;
-    for (place, text) in ROWS {
-        if !without.iter().any(|other| other == place) {
-            keep(&mut keeper, row(alloc, *place, text)?)?;
-        }
+// Keeps a row.
+fn keep(keeper: &mut MemKeeper, row: Row) -> Result<(), Fail> {
+    if row.key.kind > 7 || row.key.kind == 7 && row.key.b != 0 {
+        return Err("a key".into());
     }
-    for (place, text) in others {
-        keep(&mut keeper, row(alloc, *place, text)?)?;
+    match keeper.apply(&[Change::Put(row)]) {
+        Ok(()) => Ok(()),
+        Err(_) => Err("a keeper".into()),
     }
-    Ok(keeper)
 }
 
 #[test]
 fn rows_of_each_kind_and_deed_are_read_and_written_again(rt: HostRuntime) -> Result<(), Fail> {
     let alloc = rt.alloc();
-    let mut keeper = keeping(alloc, &[], &[])?;
-    let fault = read_kept(alloc, &mut keeper)?;
-    assert!(rt; keeper.rows().len() == ROWS.len() && fault == None);
-    Ok(())
-}
-
-#[test]
-fn settings_are_those_of_the_trails(rt: HostRuntime) -> Result<(), Fail> {
-    let alloc = rt.alloc();
-    for (text, wanted) in SETTINGS {
-        let mut keeper = keeping(alloc, &[(1, 1, 0, 0)], &[((1, 1, 0, 0), *text)])?;
-        assert!(rt; read_kept(alloc, &mut keeper)? == Some(*wanted), "{text}");
+    let mut keeper = keeper(alloc, &[])?;
+    for (place, text) in ROWS {
+        let (kind, tenant, a, b) = *place;
+        let row = Row {
+            key: Key { kind, tenant, a, b },
+            text: Text::from_str(alloc, text)?,
+        };
+        keep(&mut keeper, row)?;
     }
-    Ok(())
-}
-
-// The two forms as they are shown, which is their text in format 1, where none is scored.
-const PLAIN: (Place, &str) = (
-    FORM,
-    r#"{"steps":[{"fields":[{"id":"what","identity":false,"kind":"text","label":"What","max":4096,"required":true},{"id":"cat","identity":false,"kind":"choice","label":"Category","options":[{"id":"a","label":"A"},{"id":"b","label":"B"}],"required":false},{"id":"sum","identity":false,"kind":"whole","label":"Sum","required":false,"show":{"any":[{"field":"cat","option":"a"},{"field":"cat","option":"b"}]}},{"id":"day","identity":false,"kind":"date","label":"Day","required":false,"show":{"all":[{"field":"cat","option":"a"},{"field":"cat","option":"b"}]}},{"id":"name","identity":true,"kind":"text","label":"Name","max":64,"required":false}],"title":"Report"}]}"#,
-);
-
-const PLAIN_SCORED: (Place, &str) = (
-    SCORED,
-    r#"{"steps":[{"fields":[{"id":"f","identity":false,"kind":"multi","label":"F","options":[{"id":"a","label":"A"},{"id":"b","label":"B"}],"required":false},{"id":"g","identity":false,"kind":"text","label":"G","max":7,"required":false,"show":{"score":{"least":16000,"parts":[{"field":"f","option":"a","points":1},{"field":"f","option":"b","points":1000}]}}}],"title":"T"}]}"#,
-);
-
-#[test]
-fn rows_of_format_1_are_read_and_written_in_format_2(rt: HostRuntime) -> Result<(), Fail> {
-    let alloc = rt.alloc();
-    let mut first = keeping(alloc, &[FORMAT, FORM, SCORED], &[PLAIN])?;
-    let Ok(loaded) = first.load() else {
+    let Ok(loaded) = keeper.load() else {
         return Err("rows".into());
     };
     let Ok(tables) = read(alloc, loaded) else {
         return Err("tables".into());
     };
-    let second = keeping(alloc, &[SCORED], &[])?;
-    assert!(rt; write(alloc, &tables)?.as_slice() == second.rows());
-    Ok(())
-}
-
-// Rows that are left out, rows that stand instead, and the row that is then not good.
-const FORMATS: &[(&[Place], &[(Place, &str)], Place)] = &[
-    // A text in the other format, and a scored form in format 1.
-    (&[FORM], &[PLAIN], FORM),
-    (&[SCORED], &[PLAIN_SCORED], SCORED),
-    (&[FORMAT, SCORED], &[], FORM),
-    (&[FORMAT, FORM, SCORED], &[PLAIN, PLAIN_SCORED], SCORED),
-    // Another format, and another text or key of the row that says it.
-    (&[FORMAT], &[(FORMAT, r#"{"format":1}"#)], FORMAT),
-    (&[FORMAT], &[(FORMAT, r#"{"format": 2}"#)], FORMAT),
-    (&[], &[((0, 0, 0, 1), r#"{"format":2}"#)], (0, 0, 0, 1)),
-    (
-        &[FORMAT, FORM, SCORED],
-        &[PLAIN, ((0, 1, 0, 0), r#"{"format":2}"#)],
-        (0, 1, 0, 0),
-    ),
-];
-
-#[test]
-fn forms_are_kept_in_the_format_of_their_rows(rt: HostRuntime) -> Result<(), Fail> {
-    let alloc = rt.alloc();
-    for (without, others, place) in FORMATS {
-        let fault = read_kept(alloc, &mut keeping(alloc, without, others)?)?;
-        assert!(rt; fault == Some(RowFault::BadRow(key(*place))));
-    }
-    Ok(())
-}
-
-// Why one row alone is not read.
-fn fault_of(alloc: Global, row: Row) -> Result<Option<RowFault>, Fail> {
-    match read(alloc, vec![in alloc; row]?) {
-        Ok(_) => Ok(None),
-        Err(fault) => Ok(Some(fault)),
-    }
-}
-
-#[test]
-fn there_is_no_eighth_kind(rt: HostRuntime) -> Result<(), Fail> {
-    let alloc = rt.alloc();
-    let place = (8, 1, 0, 0);
-    let fault = fault_of(alloc, row(alloc, place, "{}")?)?;
-    assert!(rt; fault == Some(RowFault::BadRow(key(place))));
+    assert!(rt; keeper.rows().len() == ROWS.len());
+    assert!(rt; write(alloc, &tables)?.as_slice() == keeper.rows());
     Ok(())
 }

@@ -1,4 +1,4 @@
-//! The texts of setups.
+//! The text of a setup.
 
 use std::alloc::{AllocError, Global};
 
@@ -16,13 +16,6 @@ const HARBOUR: &[&str] = &[
     "[[tenant.context]]\nid = 2\nname = \"Safety\"\nform = 1\nretention = 10\nrecipients = [2]\nopen = true\n",
 ];
 
-// The first lines of its tenant, and those of a second one.
-const CITY: &str =
-    "host = \"whistle 1\"\n[[tenant]]\nid = 1\nname = \"Harbour City\"\nsalt = \"000102030405060708090a0b0c0d0e0f\"\noffset = 0\n";
-
-const DOCK: &str =
-    "[[tenant]]\nid = 2\nname = \"Dock Works\"\nsalt = \"0f0e0d0c0b0a09080706050403020100\"\noffset = 120\n";
-
 /// A setup of one tenant with four users, a form and two contexts.
 pub fn sample_setup(alloc: Global) -> Result<String, AllocError> {
     let mut text = String::new(alloc);
@@ -30,12 +23,4 @@ pub fn sample_setup(alloc: Global) -> Result<String, AllocError> {
         text.push_str(part)?;
     }
     Ok(text)
-}
-
-/// A setup of two tenants that differ in their own lines alone.
-pub fn two_tenants(alloc: Global) -> Result<String, AllocError> {
-    let mut both = sample_setup(alloc)?;
-    let second = both.replace(alloc, CITY, DOCK)?;
-    both.push_str(second.as_str())?;
-    Ok(both)
 }

@@ -1,7 +1,7 @@
-//! What a host answers turn by turn: scripts of requests with their replies, each script a table.
+//! What a host answers turn by turn.
 use std::alloc::Global;
 use std::test::Fail;
-use wb_base::{MemKeeper, Moment, Row, Words};
+use wb_base::{MemKeeper, Moment, Words};
 use wb_desk::Desk;
 use wb_tenants::Setup;
 use wb_wire::{Routes, read_request};
@@ -15,9 +15,6 @@ const NEW_YEAR: u64 = 1_735_689_600;
 
 /// The reply's body where a change is done.
 pub const DONE: &str = r#"{"done":true}"#;
-
-/// The refusal of what is not there for the caller.
-pub const NOT_FOUND: &str = r#"{"code":"not_found"}"#;
 
 // A request to a path with a session, where one is named, and a body, where there is one.
 fn request(alloc: Global, target: &str, session: u64, body: &str) -> Result<String, Fail> {
@@ -44,9 +41,10 @@ pub struct Host {
 }
 
 impl Host {
-    // A host over a setup and the rows of a keeper.
-    fn over(alloc: Global, routes: Routes, keeper: MemKeeper, setup: &str) -> Result<Host, Fail> {
-        let mut keeper = keeper;
+    /// A host over a setup, whose keeper fails at these calls.
+    pub fn open(alloc: Global, setup: &str, fail: &[u64]) -> Result<Host, Fail> {
+        let routes = Routes::new(alloc)?;
+        let mut keeper = keeper(alloc, fail)?;
         let Ok(setup) = Setup::read(alloc, setup.as_bytes()) else {
             return Err("a setup".into());
         };
@@ -59,22 +57,6 @@ impl Host {
             }),
             Err(_) => Err("a host".into()),
         }
-    }
-
-    /// A host over a setup, whose keeper fails at these calls.
-    pub fn open(alloc: Global, setup: &str, fail: &[u64]) -> Result<Host, Fail> {
-        Host::over(alloc, Routes::new(alloc)?, keeper(alloc, fail)?, setup)
-    }
-
-    /// The host that is opened over a setup and the rows that this one leaves.
-    pub fn reopened(self, setup: &str) -> Result<Host, Fail> {
-        let Host {
-            alloc,
-            routes,
-            desk: _,
-            keeper,
-        } = self;
-        Host::over(alloc, routes, keeper, setup)
     }
 
     /// Makes a turn with the words 0, k, 0, k, and says whether its reply is the wanted one.
@@ -92,18 +74,6 @@ impl Host {
         Ok(told.status == status && told.body.as_bytes() == reply.as_bytes())
     }
 
-    /// The number of the first turn whose reply is not the wanted one.
-    pub fn first_other(&mut self, turns: &[Turn]) -> Result<Option<u64>, Fail> {
-        let mut number = 0;
-        for turn in turns {
-            number = u64::saturating_add(number, 1);
-            if !self.answers(number, turn)? {
-                return Ok(Some(number));
-            }
-        }
-        Ok(None)
-    }
-
     /// How many rows are kept, and how many reports are live and sessions stand.
     pub fn holds(&self) -> (usize, u64, u64) {
         let counts = self.desk.counts();
@@ -114,17 +84,6 @@ impl Host {
     pub fn tells_its_rows(&self) -> Result<bool, Fail> {
         Ok(self.desk.rows()?.as_slice() == self.keeper.rows())
     }
-
-    /// The rows that are kept.
-    pub fn rows(&self) -> &[Row] {
-        self.keeper.rows()
-    }
-}
-
-/// The number of the first turn whose reply is not the wanted one, on a host over a setup.
-pub fn first_other(alloc: Global, setup: &str, turns: &[Turn]) -> Result<Option<u64>, Fail> {
-    let mut host = Host::open(alloc, setup, &[])?;
-    host.first_other(turns)
 }
 
 /// A keeper that holds nothing yet and fails at these calls.

@@ -3,22 +3,6 @@
 #![tactic(auto)]
 
 #[cfg(test)]
-mod answers;
-#[cfg(test)]
-mod forms;
-#[cfg(test)]
-mod frames_and_heads;
+mod heads;
 #[cfg(test)]
 mod outside;
-#[cfg(test)]
-mod questionnaires;
-#[cfg(test)]
-mod reply_bodies;
-#[cfg(test)]
-mod request_bodies;
-#[cfg(test)]
-mod requests;
-#[cfg(test)]
-mod scored_fields;
-#[cfg(test)]
-mod written;

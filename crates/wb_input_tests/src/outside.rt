@@ -1,3 +1,4 @@
+//! The ends of a host in memory, and over std, where calls fail.
 ghost use Rattle.std.specs.Prelude.{◌<◌};
 ghost use Rattle.wb_base.specs.KeptRows.{IsGoodChange};
 
@@ -7,86 +8,13 @@ use std::io::{Read, Write};
 use std::process::Abort;
 use std::test::Fail;
 use wb_base::{
-    Answers, Change, Day, Failed, Given, KeepErr, Keeper, Key, MemKeeper, MemSink, MemSource,
-    Moment, Number, Row, Sink, Source, StdSink, StdSource, Tenant, Text, TextFault, UserId,
+    Change, Failed, KeepErr, Keeper, Key, MemKeeper, MemSink, MemSource, Number, Row, Sink, Source,
+    StdSink, StdSource, Tenant, Text,
 };
-use wb_list::TryClone;
 
 fn made_text(rt: &impl Abort, alloc: Global, bytes: &[u8]) -> Text {
     let copied = Text::copy(alloc, bytes);
     copied.expect(rt, "a text")
-}
-
-#[test]
-fn a_text_is_utf8_and_keeps_its_bytes(rt: HostRuntime) -> Result<(), Fail> {
-    let texts = [
-        (b"".as_slice(), true),
-        (b"caf\xc3\xa9".as_slice(), true),
-        (b"caf\xc3".as_slice(), false),
-        (b"\xed\xa0\x80".as_slice(), false),
-        (b"\xf0\x9f\x94\x94".as_slice(), true),
-        (b"\xff".as_slice(), false),
-    ];
-    for (bytes, is_text) in texts {
-        match Text::copy(rt.alloc(), bytes) {
-            Ok(text) => assert!(rt; is_text && text.as_bytes() == bytes, "{bytes:?}"),
-            Err(fault) => assert!(rt; !is_text && fault == TextFault::NotUtf8, "{bytes:?}"),
-        }
-    }
-    let bell = Text::from_str(rt.alloc(), "bell")?;
-    assert_eq!(rt; bell.len(), 4);
-    assert!(rt; bell < made_text(&rt, rt.alloc(), b"bells"));
-    assert!(rt; bell.try_clone()? == bell);
-    assert_eq!(rt; Text::empty(rt.alloc()).as_str(), "");
-    Ok(())
-}
-
-#[test]
-fn numbers_keep_their_ranges(rt: HostRuntime) {
-    for (number, is_tenant, is_user) in [
-        (0, false, false),
-        (1, true, true),
-        (64, true, true),
-        (65, false, true),
-        (256, false, true),
-        (257, false, false),
-    ] {
-        assert_eq!(rt; Tenant::try_new(number).is_some(), is_tenant, "{number}");
-        assert_eq!(rt;
-            UserId::try_new(number as u16).is_some(),
-            is_user,
-            "{number}"
-        );
-        assert_eq!(rt; Number::try_new(number).is_some(), number > 0, "{number}");
-    }
-    assert!(rt; Moment::try_new(99_999_999_999).is_some());
-    assert!(rt; Moment::try_new(100_000_000_000).is_none());
-    for (days, is_day) in [
-        (-2, false),
-        (-1, true),
-        (1_200_000, true),
-        (1_200_001, false),
-    ] {
-        assert_eq!(rt; Day::try_new(days).is_some(), is_day, "{days}");
-    }
-}
-
-#[test]
-fn answers_stand_in_byte_order_of_their_ids(rt: HostRuntime) -> Result<(), Fail> {
-    let mut answers = Answers::new(rt.alloc());
-    for (id, whole) in [("what", 1), ("cat", 2), ("who", 3)] {
-        let id = Text::from_str(rt.alloc(), id)?;
-        if answers.find(&id).is_none() {
-            answers.insert(id, Given::Whole(whole))?;
-        }
-    }
-    assert_eq!(rt; answers.len(), 3);
-    assert_eq!(rt; answers.get(0).0.as_str(), "cat");
-    assert_eq!(rt; answers.get(2).0.as_str(), "who");
-    let what = Text::from_str(rt.alloc(), "what")?;
-    assert!(rt; matches!(answers.find(&what), Some(Given::Whole(1))));
-    assert_eq!(rt; answers.try_clone()?.as_slice().len(), 3);
-    Ok(())
 }
 
 #[test]

@@ -6,6 +6,6 @@ mod opening;
 mod reports;
 mod rows;
 
-pub use moments::later;
+pub use moments::{later, latest_kept};
 pub use opening::{Opened, begin};
 pub use rows::{Kind, held_rows};

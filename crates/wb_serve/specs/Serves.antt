@@ -24,7 +24,7 @@ use Rattle.wb_ticket.specs.Owned.{TurnEntry}
 use Rattle.wb_ticket.specs.Scripts.{IsScript}
 use Rattle.wb_promise.specs.Promises.{IsAsPromised}
 use Rattle.wb_start.specs.declared.status.Status.{Status}
-use Rattle.wb_start.specs.declared.status.Status.TheVariants.{Done, Usage, ReadFault, WriteFault, NoMemory, BadFrame, Setup, OpenFault, KeptRows, TooLong, ListenFault}
+use Rattle.wb_start.specs.declared.status.Status.TheVariants.{Done, ReadFault, NoMemory, BadFrame, ListenFault}
 use Rattle.wb_start.specs.Starts.{IsOpenedBy, Refuses, KeepsRows}
 
 -- the words ask for a host that serves by this lock
@@ -60,14 +60,7 @@ module _ (left : Option (List ℕ)) (source source' : ℕ) where
   Unread ReadFault = Rose source source'
   Unread NoMemory = source ≤ source'
   Unread (BadFrame n) = (n ≡ 0) × IfSome left IsTooLong
-  Unread Done = ⊥
-  Unread Usage = ⊥
-  Unread WriteFault = ⊥
-  Unread (Setup fault) = ⊥
-  Unread OpenFault = ⊥
-  Unread (KeptRows fault) = ⊥
-  Unread TooLong = ⊥
-  Unread ListenFault = ⊥
+  Unread status = ⊥
 
   -- what the source has left now; the keeper's count before and now, and the rows that it holds before and now, where it is honest
   module _ (left' : Option (List ℕ)) (keeper keeper' : ℕ) (honest : Type 0) (holds holds' : List Row → Type 0) where

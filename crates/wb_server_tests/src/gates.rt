@@ -12,7 +12,7 @@ use std::process::Abort;
 use std::sync::Wait;
 use std::sync::ledger::{Blank, Ledger};
 use std::test::Fail;
-use wb_base::{MemKeeper, Moment, Words};
+use wb_base::{MemKeeper, Words};
 use wb_desk::Desk;
 use wb_gate::{Gate, LockGate, Turn, close};
 use wb_ledger::{Kept, Origin, Pass, Tally};
@@ -140,7 +140,7 @@ fn share<A: Origin, B: Ledger, R: Wait + Abort>(
 {
     let (kept, mut first) = Kept::<MemKeeper, A, B>::new(desk, keeper, 2, turns, numbers);
     let mut second = first.split();
-    assert!(rt; first.parts() == 1 && second.parts() == 1);
+    assert!(rt; kept.book() == 0 && first.parts() == 1 && second.parts() == 1);
     let gate = LockGate::over(kept);
     take_turns(rt, alloc, &gate, &mut first, &mut second)?;
     close_with_both(rt, alloc, gate, first, second)
@@ -150,61 +150,4 @@ fn share<A: Origin, B: Ledger, R: Wait + Abort>(
 fn a_host_is_taken_apart_with_all_passes_that_took_turns(rt: HostRuntime) -> Result<(), Fail> {
     let (desk, keeper) = opened(rt.alloc())?;
     share::<Brand, Brand, HostRuntime>(&rt, rt.alloc(), desk, keeper, Blank::new(2), Blank::new(2))
-}
-
-// What a turn is told that a host is handed without a gate.
-fn hand<A: Origin, B: Ledger>(
-    kept: &mut Kept<MemKeeper, A, B>,
-    pass: &mut Pass<A, B>,
-    asked: &Asked,
-    moment: Moment,
-) -> Told
-    requires { fits asked.now ≡ true }
-{
-    kept.turn(pass, asked, moment, &Words([0, 42, 0, 0]))
-}
-
-// What a submission is told.
-fn submit<A: Origin, B: Ledger>(
-    alloc: Global,
-    kept: &mut Kept<MemKeeper, A, B>,
-    pass: &mut Pass<A, B>,
-) -> Result<Told, Fail> {
-    let routes = Routes::new(alloc)?;
-    let asked = asked(alloc, &routes, SUBMISSION)?;
-    Ok(hand(kept, pass, &asked, moment(0)?))
-}
-
-// A turn is booked, and the host is not taken apart without the pass that made it.
-fn book<A: Origin, B: Ledger, R: Abort>(
-    rt: &R,
-    alloc: Global,
-    desk: Desk,
-    keeper: MemKeeper,
-    turns: Blank,
-    numbers: Blank,
-) -> Result<(), Fail>
-    requires kept { keeper.rows ≡ rows_of (hosts_of desk).list }
-    requires opened { A.desk ≡ desk }
-    requires honest { A.honest }
-    requires turns { (turns.name ≡ A.name) × (turns.parts ≡ A.parts) × (turns.parts ≡ 1) }
-    requires numbers { (numbers.name ≡ B.name) × (numbers.parts ≡ B.parts) × (numbers.parts ≡ 1) }
-{
-    let (kept, pass) = Kept::<MemKeeper, A, B>::new(desk, keeper, 1, turns, numbers);
-    let mut kept = kept;
-    let mut pass = pass;
-    assert!(rt; kept.book() == 0 && pass.turns() == 0);
-    assert!(rt; is_told(&submit(alloc, &mut kept, &mut pass)?, 201, RECEIPT));
-    assert!(rt; kept.book() == 1 && pass.turns() == 1 && pass.numbers() == 1);
-    let Err(back) = kept.close(Vec::new(alloc)) else {
-        return Err("closed with no pass".into());
-    };
-    assert!(rt; back.book == tally(1, 1) && back.sum == tally(0, 0));
-    Ok(())
-}
-
-#[test]
-fn a_turn_is_booked_and_counts_in_its_pass(rt: HostRuntime) -> Result<(), Fail> {
-    let (desk, keeper) = opened(rt.alloc())?;
-    book::<Brand, Brand, HostRuntime>(&rt, rt.alloc(), desk, keeper, Blank::new(1), Blank::new(1))
 }

@@ -15,8 +15,6 @@ mod hosts;
 #[cfg(test)]
 mod listeners;
 #[cfg(test)]
-mod refusals;
-#[cfg(test)]
 mod served;
 #[cfg(test)]
 mod setup_text;

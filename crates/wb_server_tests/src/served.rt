@@ -112,6 +112,9 @@ fn workers_of(alloc: Global, words: &[Text]) -> Result<u32, Fail>
         Ok(Plan::Play { .. }) => Ok(2),
         Ok(Plan::Make(_)) => Ok(2),
         Ok(Plan::Tally(_)) => Ok(2),
+        Ok(Plan::Notices { .. }) => Ok(2),
+        Ok(Plan::Register { .. }) => Ok(2),
+        Ok(Plan::Forecast { .. }) => Ok(2),
         Err(PlanFault::Usage) => Ok(2),
         Err(PlanFault::Memory) => Err("no memory".into()),
     }

@@ -14,7 +14,7 @@ use wb_cli::Lock;
 use wb_front::Station;
 use wb_transport::{Link, Listener, MemTicker};
 use wb_wire::Routes;
-use wb_workers::{Ended, serve_all, serve_in_order};
+use wb_workers::{ServeEnd, serve_all, serve_in_order};
 
 /// A link with two submissions. It holds its second back until the other link has a reply, for a million looks.
 #[derive(Drop)]
@@ -169,7 +169,7 @@ fn serve_at<R: Threads + Wait + Sync>(
     alloc: Global,
     lock: Lock,
     stations: &mut Vec<Station<OneLink, MemTicker>>,
-) -> Result<Ended<MemKeeper>, Fail>
+) -> Result<ServeEnd<MemKeeper>, Fail>
     requires { (0 < vec_len stations.old) × (vec_len stations.old ≤ 64) }
 {
     let routes = Routes::new(alloc)?;

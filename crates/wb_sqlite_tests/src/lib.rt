@@ -17,7 +17,7 @@ use wb_sqlite::SqlKeeper;
 #[cfg(test)]
 mod files;
 #[cfg(test)]
-mod foreign_rows;
+mod refused_rows;
 #[cfg(test)]
 mod rows;
 #[cfg(test)]

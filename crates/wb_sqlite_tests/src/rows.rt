@@ -6,7 +6,7 @@ ghost use Rattle.wb_base.specs.KeptRows.{IsGoodChange};
 use std::alloc::Global;
 use std::process::Abort;
 use std::test::Fail;
-use wb_base::{Change, KeepErr, Keeper, Key, Number, Row, Tenant, Text};
+use wb_base::{Change, KeepErr, Keeper, Key, Row, Text};
 
 /// An entry of the trail of report 2 of tenant 1.
 pub(crate) fn entry(alloc: Global, place: u32, text: &str) -> Result<Change, Fail>
@@ -35,20 +35,6 @@ pub(crate) fn put<K: Keeper>(
     let key = Key { kind, tenant, a, b };
     let text = Text::from_str(alloc, text)?;
     assert_eq!(rt; keeper.apply(&[Change::Put(Row { key, text })]), Ok(()));
-    Ok(())
-}
-
-/// Drops a report of a tenant.
-pub(crate) fn drop_report<K: Keeper>(
-    rt: &impl Abort,
-    keeper: &mut K,
-    tenant: u32,
-    number: u32,
-) -> Result<(), Fail> {
-    let (Some(tenant), Some(number)) = (Tenant::try_new(tenant), Number::try_new(number)) else {
-        return Err(Fail::from("a report"));
-    };
-    assert_eq!(rt; keeper.apply(&[Change::DropReport(tenant, number)]), Ok(()));
     Ok(())
 }
 

@@ -1,6 +1,6 @@
 -- Writes one after another.
 use Rattle.std.proofs.Common.{ℕ, List, ◌++◌, Option, Result, Ok, Err, sym, ap, ◌∙◌, append_assoc}
-use Rattle.std.specs.Prelude.{OnErr}
+use Rattle.std.specs.Prelude.{OnOk, OnErr}
 use Rattle.std.specs.Io.KnownBytes.{Appends}
 use Rattle.std.proofs.KnownBytes.{Appends-trans}
 use Rattle.wb_base.specs.Outside.{AppendsFront}
@@ -17,3 +17,8 @@ front_after a b c xs ys whole h = (xs ++ h.0, h.1, ap (λ l. xs ++ l) h.2 ∙ sy
 pub front_if_err : {T E : Type 0} (r : Result T E) (a b c : Option (List ℕ)) (xs ys : List ℕ) → Appends a b xs → OnErr r (AppendsFront b c ys) → OnErr r (AppendsFront a c (xs ++ ys))
 front_if_err (Ok x) a b c xs ys whole h = tt
 front_if_err (Err e) a b c xs ys whole h = front_after a b c xs ys whole h
+
+-- a whole after a whole, where the last write is
+pub whole_if_ok : {T E : Type 0} (r : Result T E) (a b c : Option (List ℕ)) (xs ys : List ℕ) → Appends a b xs → OnOk r (Appends b c ys) → OnOk r (Appends a c (xs ++ ys))
+whole_if_ok (Ok x) a b c xs ys whole h = Appends-trans a b c xs ys whole h
+whole_if_ok (Err e) a b c xs ys whole h = tt

@@ -18,7 +18,7 @@ use Rattle.wb_wire.specs.SetupText.{NoSetup}
 use Rattle.wb_desk.specs.Openings.{AreLoaded, IsOpeningOver}
 use Rattle.wb_desk.specs.Turns.{StandsFor}
 use Rattle.wb_start.specs.declared.status.Status.{Status}
-use Rattle.wb_start.specs.declared.status.Status.TheVariants.{Done, Usage, ReadFault, WriteFault, NoMemory, BadFrame, Setup, OpenFault, KeptRows, TooLong, ListenFault}
+use Rattle.wb_start.specs.declared.status.Status.TheVariants.{Usage, ReadFault, NoMemory, BadFrame, Setup, OpenFault, KeptRows, TooLong}
 
 -- the past that loaded rows and a setup's bytes open: both are read, and the host is before its first turn
 pub record IsOpenedBy (loaded : List Row) (setup : List ℕ) (start : Past AllOpened) : Type 0 where
@@ -33,6 +33,17 @@ pub record IsOpenedBy (loaded : List Row) (setup : List ℕ) (start : Past AllOp
 -- a reader that took nothing
 abbrev pub unread : Progress
 unread = record { given = 0; taken = 0; stopped = None }
+
+-- rows were loaded of a keeper that are read as what is held
+abbrev pub AreRead : Type 0 → (List Row → Type 0) → Held → Type 0
+AreRead honest holds held = (loaded : List Row) × AreLoaded honest holds loaded × (judged loaded ≡ Ok held)
+
+-- none were, with the keeper's count before and now: it failed, or the rows that it held are refused, or there was no memory
+abbrev pub ReadsNone : ℕ → ℕ → Type 0 → (List Row → Type 0) → Status → Type 0
+ReadsNone keeper keeper' honest holds OpenFault = Rose keeper keeper'
+ReadsNone keeper keeper' honest holds (KeptRows fault) = (loaded : List Row) × AreLoaded honest holds loaded × (judged loaded ≡ Err fault)
+ReadsNone keeper keeper' honest holds NoMemory = keeper' ≡ keeper
+ReadsNone keeper keeper' honest holds status = ⊥
 
 -- the keeper's count before and now, and the rows that it holds before and now where it is honest
 module _ (keeper keeper' : ℕ) (honest : Type 0) (holds holds' : List Row → Type 0) where
@@ -49,13 +60,7 @@ module _ (keeper keeper' : ℕ) (honest : Type 0) (holds holds' : List Row → T
   Refuses setup OpenFault = Rose keeper keeper' × ((lists : Lists) × (lists_in setup ≡ Ok lists))
   Refuses setup (KeptRows fault) = ((loaded : List Row) × AreLoaded honest holds loaded × (judged loaded ≡ Err fault)) × ((lists : Lists) × (lists_in setup ≡ Ok lists)) × (keeper ≤ keeper')
   Refuses setup NoMemory = keeper ≤ keeper'
-  Refuses setup Done = ⊥
-  Refuses setup Usage = ⊥
-  Refuses setup ReadFault = ⊥
-  Refuses setup WriteFault = ⊥
-  Refuses setup (BadFrame n) = ⊥
-  Refuses setup TooLong = ⊥
-  Refuses setup ListenFault = ⊥
+  Refuses setup status = ⊥
 
   -- what is kept is as it was
   abbrev pub KeepsRows : Type 0
@@ -78,17 +83,15 @@ module _ (keeper keeper' : ℕ) (honest : Type 0) (holds holds' : List Row → T
 
     -- why no host was opened
     abbrev pub Lacks : Status → Type 0
-    Lacks Done = ⊥
     Lacks Usage = Keeps left left' × (keeper' ≡ keeper)
     Lacks ReadFault = Rose source source' × TookSetupPart 0 left left' × (keeper' ≡ keeper)
-    Lacks WriteFault = ⊥
     Lacks NoMemory = (TookSetupPart 0 left left' × (keeper' ≡ keeper)) ⊎ IsRefused NoMemory
     Lacks (BadFrame n) = (n ≡ 0) × IfSome left NoSetup × TookSetupPart 0 left left' × (keeper' ≡ keeper)
     Lacks (Setup fault) = IsRefused (Setup fault)
     Lacks OpenFault = IsRefused OpenFault
     Lacks (KeptRows fault) = IsRefused (KeptRows fault)
     Lacks TooLong = TookSetupAll 0 left left' × (keeper' ≡ keeper)
-    Lacks ListenFault = ⊥
+    Lacks status = ⊥
 
     -- no host was opened, and what is kept is as it was
     pub record OpensNone (status : Status) : Type 0 where

@@ -3,6 +3,8 @@
 
 mod opening;
 mod status;
+mod tables;
 
 pub use opening::{open, open_by};
 pub use status::{Status, exit_line};
+pub use tables::load_tables;

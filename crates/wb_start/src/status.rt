@@ -2,7 +2,7 @@
 ghost use Rattle.std.specs.Prelude.{◌≡◌, ◌++◌, codes, decimal, OnOk, OnErr};
 ghost use Rattle.std.specs.Io.KnownBytes.{Appends};
 ghost use Rattle.wb_base.specs.Outside.{AppendsFront, HasCause};
-ghost use Rattle.wb_start.specs.Statuses.{broken_text, refusal_text, rows_text, status_text, status_number};
+ghost use Rattle.wb_start.specs.Statuses.{broken_text, outbox_text, place_text, refusal_text, rows_text, status_text, status_number};
 
 use itoa::Buffer;
 use wb_base::{Failed, Key, Sink};
@@ -20,13 +20,13 @@ pub enum Status {
     ReadFault,
     /// The sink failed.
     WriteFault,
-    /// There was no memory for the words, for the script or the setup, for opening the host, or for its workers.
+    /// There was no memory for the words, for the script or the setup, for opening the host, for its workers, or for what is to be written.
     NoMemory,
     /// The frame of this number, counted from 1, is not of the form, or the input ends inside it; 0 is the setup's.
     BadFrame(u64),
     /// The setup is refused. It is never for want of memory.
     Setup(SetupFault),
-    /// The keeper failed when the host was opened.
+    /// The keeper failed when the host was opened, or its rows were loaded.
     OpenFault,
     /// The rows that the keeper holds are refused. It is never for want of memory.
     KeptRows(RowFault),
@@ -34,6 +34,12 @@ pub enum Status {
     TooLong,
     /// A listener failed too often.
     ListenFault,
+    /// The row of this key in the outbox is no notice.
+    OutboxRows(Key),
+    /// The tenant is not there, or the user is not there or is no recipient.
+    NotThere,
+    /// The outbox failed.
+    OutboxFault,
 }
 
 impl Status {
@@ -53,6 +59,9 @@ impl Status {
             Status::KeptRows(_) => 9,
             Status::TooLong => 10,
             Status::ListenFault => 11,
+            Status::OutboxRows(_) => 12,
+            Status::NotThere => 13,
+            Status::OutboxFault => 14,
         }
     }
 }
@@ -121,27 +130,47 @@ fn write_two<W: Sink>(
     write_part(sink, second, m)
 }
 
+// Writes where a row stands, and a line feed.
+fn place_line<W: Sink>(key: Key, sink: &mut W) -> Result<(), Failed>
+    ensures ok { OnOk result (Appends (W.held sink.old) (W.held sink.new) (place_text key)) }
+    ensures err { OnErr result (AppendsFront (W.held sink.old) (W.held sink.new) (place_text key)) }
+    ensures cause { HasCause (W.count sink.old) (W.count sink.new) result }
+{
+    match write_two(sink, b" at ", key.kind as u64, b"/", key.tenant as u64) {
+        Ok(()) => {}
+        Err(no) => return Err(no),
+    }
+    match write_part(sink, b"/", key.a as u64) {
+        Ok(()) => {}
+        Err(no) => return Err(no),
+    }
+    write_numbered(sink, b"/", key.b as u64)
+}
+
 // Writes the line of the rule that kept rows break at a key.
 fn broken_line<W: Sink>(rule: u8, key: Key, sink: &mut W) -> Result<(), Failed>
     ensures ok { OnOk result (Appends (W.held sink.old) (W.held sink.new) (broken_text rule key)) }
     ensures err { OnErr result (AppendsFront (W.held sink.old) (W.held sink.new) (broken_text rule key)) }
     ensures cause { HasCause (W.count sink.old) (W.count sink.new) result }
 {
-    match write_two(
-        sink,
-        b"kept rows refused: rule ",
-        rule as u64,
-        b" at ",
-        key.kind as u64,
-    ) {
+    match write_part(sink, b"kept rows refused: rule ", rule as u64) {
         Ok(()) => {}
         Err(no) => return Err(no),
     }
-    match write_two(sink, b"/", key.tenant as u64, b"/", key.a as u64) {
+    place_line(key, sink)
+}
+
+// Writes the line of a row of the outbox that is no notice.
+fn outbox_line<W: Sink>(key: Key, sink: &mut W) -> Result<(), Failed>
+    ensures ok { OnOk result (Appends (W.held sink.old) (W.held sink.new) (outbox_text key)) }
+    ensures err { OnErr result (AppendsFront (W.held sink.old) (W.held sink.new) (outbox_text key)) }
+    ensures cause { HasCause (W.count sink.old) (W.count sink.new) result }
+{
+    match sink.write_all(b"outbox rows refused:") {
         Ok(()) => {}
         Err(no) => return Err(no),
     }
-    write_numbered(sink, b"/", key.b as u64)
+    place_line(key, sink)
 }
 
 // Writes the line of a refusal of kept rows.
@@ -166,7 +195,7 @@ pub fn exit_line<W: Sink>(status: &Status, sink: &mut W) -> Result<(), Failed>
     match status {
         Status::Done => Ok(()),
         Status::Usage => sink.write_all(
-            b"usage: whistle play [--store PATH], make N, tally N, serve --setup PATH --listen ADDRESS --workers N [--lock mutex|ticket] [--store PATH]\n",
+            b"usage: whistle play [--store PATH], make N, tally N, notices MOMENT --store PATH --outbox PATH, register TENANT USER MOMENT [--store PATH], forecast TENANT DATE [--store PATH], serve --setup PATH --listen ADDRESS --workers N [--lock mutex|ticket] [--store PATH]\n",
         ),
         Status::ReadFault => sink.write_all(b"read fault\n"),
         Status::WriteFault => sink.write_all(b"write fault\n"),
@@ -177,5 +206,8 @@ pub fn exit_line<W: Sink>(status: &Status, sink: &mut W) -> Result<(), Failed>
         Status::KeptRows(fault) => rows_line(*fault, sink),
         Status::TooLong => sink.write_all(b"input too long\n"),
         Status::ListenFault => sink.write_all(b"listen fault\n"),
+        Status::OutboxRows(key) => outbox_line(*key, sink),
+        Status::NotThere => sink.write_all(b"not there\n"),
+        Status::OutboxFault => sink.write_all(b"outbox fault\n"),
     }
 }

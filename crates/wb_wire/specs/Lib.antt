@@ -8,3 +8,4 @@ pub mod HeadReading
 pub mod RequestParts
 pub mod SetupText
 pub mod SetupReading
+pub mod Responses

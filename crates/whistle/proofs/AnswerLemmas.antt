@@ -18,8 +18,9 @@ use Rattle.wb_model.specs.Scripts.{Loss, NotLost, ByKeeper, ByMemory, Unread, Pl
 use Rattle.wb_model.specs.Tenants.{Hosts}
 use Rattle.wb_desk.specs.Kept.{Took}
 use Rattle.wb_desk.specs.Turns.{StandsFor}
-use Rattle.whistle.specs.declared.answering.Answer.{Answer}
-use Rattle.whistle.specs.Answered.{reply_of, IsAnswer}
+use Rattle.wb_wire.specs.declared.responses.Response.{Response}
+use Rattle.wb_wire.specs.Responses.{reply_of}
+use Rattle.whistle.specs.Answered.{IsAnswer}
 
 abbrev pub as_place : ScriptFrame → Reading → Loss → Place
 as_place frame reading loss = record { moment = frame.moment; words = frame.words; reading = reading; loss = loss }
@@ -28,7 +29,7 @@ abbrev pub asked_frame : ScriptFrame → Asked → Frame
 asked_frame frame a = record { moment = frame.moment; words = frame.words; asked = a }
 
 module _ (honest : Type 0) (holds holds' : List Row → Type 0) where
-  abbrev pub Answers : Past AllOpened → ScriptFrame → Answer → Hosts → ℕ → ℕ → Type 0
+  abbrev pub Answers : Past AllOpened → ScriptFrame → Response → Hosts → ℕ → ℕ → Type 0
   Answers past frame answer after before now = (place : Place) × IsAnswer honest holds holds' past frame answer after before now place
 
   -- a request that was read
@@ -60,17 +61,17 @@ unread_possible past p bytes (Refuses fault c) close other reads = tt
 
 -- the keeper was not asked
 module _ (honest : Type 0) (holds : List Row → Type 0) where
-  abbrev pub Unkept : Past AllOpened → ScriptFrame → Answer → Hosts → ℕ → Type 0
+  abbrev pub Unkept : Past AllOpened → ScriptFrame → Response → Hosts → ℕ → Type 0
   Unkept past frame answer after keeper = Answers honest holds holds past frame answer after keeper keeper
 
   -- one that was refused
-  refused : (past : Past AllOpened) (frame : ScriptFrame) (answer : Answer) (fault : WireFault) (close : Bool) (after : Hosts) (keeper : ℕ) → Reads frame.bytes (Refuses fault close) → StandsFor after past
+  refused : (past : Past AllOpened) (frame : ScriptFrame) (answer : Response) (fault : WireFault) (close : Bool) (after : Hosts) (keeper : ℕ) → Reads frame.bytes (Refuses fault close) → StandsFor after past
       → reply_of answer ≡ record { told = fault_told fault; allow = fault_allow fault; close = close } → Unkept past frame answer after keeper
   refused past frame answer fault close after keeper reads stands is =
       (as_place frame (Refuses fault close) NotLost, record { of_frame = record { at = refl; drawn = refl; reads = reads; losing = tt }; possible = tt; reply = is; stands = stands; counted = omega arith; kept = λ h held. held })
 
   -- one that was not read for want of memory
-  unread : (past : Past AllOpened) (frame : ScriptFrame) (answer : Answer) (close : Bool) (after : Hosts) (keeper : ℕ) → Closes frame.bytes close → IsNotHealth frame.bytes → StandsFor after past → reply_of answer ≡ replying no_memory close
+  unread : (past : Past AllOpened) (frame : ScriptFrame) (answer : Response) (close : Bool) (after : Hosts) (keeper : ℕ) → Closes frame.bytes close → IsNotHealth frame.bytes → StandsFor after past → reply_of answer ≡ replying no_memory close
       → Unkept past frame answer after keeper
   unread past frame answer close after keeper closes other stands is =
       let reading : Reading = reading_of closes.0 closes.1 in
@@ -89,7 +90,7 @@ module _ (honest : Type 0) (holds : List Row → Type 0) where
       )
 
   -- a fault, want of memory among them
-  pub unanswered : (past : Past AllOpened) (frame : ScriptFrame) (answer : Answer) (fault : WireFault) (close : Bool) (after : Hosts) (keeper : ℕ)
+  pub unanswered : (past : Past AllOpened) (frame : ScriptFrame) (answer : Response) (fault : WireFault) (close : Bool) (after : Hosts) (keeper : ℕ)
       → (fault ≢ faults.Memory → Reads frame.bytes (Refuses fault close)) → (fault ≡ faults.Memory → Closes frame.bytes close) → (fault ≡ faults.Memory → IsNotHealth frame.bytes) → StandsFor after past
       → reply_of answer ≡ record { told = fault_told fault; allow = fault_allow fault; close = close } → Unkept past frame answer after keeper
   unfolding fault_told

@@ -6,7 +6,7 @@ use Rattle.wb_base.specs.Outside.{Rose}
 use Rattle.wb_model.specs.declared.wire.ScriptFrame.{ScriptFrame}
 use Rattle.wb_model.specs.FrameTexts.{texts, frame_text, IsFrame, IsBroken}
 use Rattle.wb_start.specs.declared.status.Status.{Status}
-use Rattle.wb_start.specs.declared.status.Status.TheVariants.{Done, Usage, ReadFault, WriteFault, NoMemory, BadFrame, Setup, OpenFault, KeptRows, TooLong, ListenFault}
+use Rattle.wb_start.specs.declared.status.Status.TheVariants.{Done, Usage, ReadFault, WriteFault, NoMemory, BadFrame, Setup, OpenFault, KeptRows, TooLong, ListenFault, OutboxRows, NotThere, OutboxFault}
 use Rattle.wb_model.specs.declared.registry.Lists.{Lists}
 use Rattle.wb_row_rules.specs.declared.faults.RowFault.{RowFault}
 use Rattle.wb_rows.specs.Held.{Held}
@@ -70,6 +70,9 @@ module _ (one_way : (f g : ScriptFrame) (x y : List ℕ) → IsFrame f → IsFra
         not_begun OpenFault ne ran = absurd (kept ran.none.cause.2.0)
         not_begun (KeptRows fault) ne ran = let refused = ran.none.cause.2.0 in absurd (rows_not_refused kept_rows refused.0 held_rows fault (refused.1 h kept_rows holding) reads_rows refused.2)
         not_begun ListenFault ne ran = absurd ran.none.cause
+        not_begun (OutboxRows key) ne ran = absurd ran.none.cause
+        not_begun NotThere ne ran = absurd ran.none.cause
+        not_begun OutboxFault ne ran = absurd ran.none.cause
         not_begun TooLong ne ran =
             let part = ran.none.cause.0 in
             let text = begins_with (Some (script_text setup frames)) left' (part.0 ++ part.1 ∷ []) part.2 in
@@ -88,6 +91,9 @@ module _ (one_way : (f g : ScriptFrame) (x y : List ℕ) → IsFrame f → IsFra
         gone_on OpenFault ran = absurd ran.plays
         gone_on (KeptRows fault) ran = absurd ran.plays
         gone_on ListenFault ran = absurd ran.plays
+        gone_on (OutboxRows key) ran = absurd ran.plays
+        gone_on NotThere ran = absurd ran.plays
+        gone_on OutboxFault ran = absurd ran.plays
         gone_on TooLong ran =
             let plays = ran.plays in
             let text = begins_with (Some (script_text setup frames)) left' (script_text ran.setup plays.0 ++ plays.3.0 ++ plays.3.1 ∷ []) plays.3.2 in

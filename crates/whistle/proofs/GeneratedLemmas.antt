@@ -5,7 +5,7 @@ use Rattle.std.proofs.KnownBytes.{Appends-trans}
 use Rattle.wb_base.specs.Outside.{AppendsFront}
 use Rattle.wb_model.specs.FrameTexts.{frame_text, texts}
 use Rattle.wb_wire.specs.SetupText.{setup_line, setup_text}
-use Rattle.whistle.specs.declared.harbour.TheConstants.{HARBOUR}
+use Rattle.whistle.specs.declared.sample_setup.TheConstants.{HARBOUR}
 use Rattle.whistle.specs.Generated.{frame_at, frames_from, generated}
 use Rattle.wb_start.proofs.SinkLemmas.{front_more, front_after}
 

@@ -8,3 +8,5 @@ pub mod PlayLemmas
 pub mod Completeness
 pub mod PlayedTurns
 pub mod TallyCompleteness
+pub mod SampleSetupRead
+pub mod PlanLemmas

@@ -17,8 +17,9 @@ use Rattle.wb_rows.specs.Judged.{judged}
 use Rattle.wb_rows.specs.Left.{left as left_of}
 use Rattle.wb_wire.specs.FrameReading.{Progress, after_next}
 use Rattle.wb_desk.specs.Turns.{StandsFor}
-use Rattle.whistle.specs.declared.answering.Answer.{Answer}
-use Rattle.whistle.specs.Answered.{reply_of, IsAnswer}
+use Rattle.wb_wire.specs.declared.responses.Response.{Response}
+use Rattle.wb_wire.specs.Responses.{reply_of}
+use Rattle.whistle.specs.Answered.{IsAnswer}
 use Rattle.wb_wire.specs.SetupText.{setup_line, setup_text, IsSetup, NoSetup}
 use Rattle.wb_wire.specs.SetupReading.{after_setup}
 use Rattle.wb_start.specs.Starts.{IsOpenedBy, Opens, unread}
@@ -106,7 +107,7 @@ module _ (loaded : List Row) (setup : List ℕ) (start : Past AllOpened) where
 
     -- a turn whose reply was written
     pub advance : AllAsPromised loaded setup start → (left' held' : Option (List ℕ)) (keeper' : ℕ) (honest : Type 0) (holds' : List Row → Type 0) (hosts : Hosts) (reader : Progress) (frames : List ScriptFrame) (places : List Place) → Standing left' held' keeper' honest holds' hosts reader frames places
-        → (left'' held'' : Option (List ℕ)) (keeper'' : ℕ) (honest' : Type 0) (holds'' : List Row → Type 0) → (honest' → honest) → (after : Hosts) (frame : ScriptFrame) (answer : Answer) (place : Place) → IsFrame frame → Consumes left' left'' (frame_text frame)
+        → (left'' held'' : Option (List ℕ)) (keeper'' : ℕ) (honest' : Type 0) (holds'' : List Row → Type 0) → (honest' → honest) → (after : Hosts) (frame : ScriptFrame) (answer : Response) (place : Place) → IsFrame frame → Consumes left' left'' (frame_text frame)
         → IsAnswer honest' holds' holds'' (past_after start places) frame answer after keeper' keeper'' place → IsReadBy after → Appends held' held'' (written (reply_of answer))
         → (reader' : Progress) → reader' ≡ after_next reader (Some frame) → Standing left'' held'' keeper'' honest' holds'' after reader' (more frames frame) (more places place)
     advance promise left' held' keeper' honest holds' hosts reader frames places so_far left'' held'' keeper'' honest' holds'' back after frame answer place is_frame taken is read told reader' goes =
@@ -123,7 +124,7 @@ module _ (loaded : List Row) (setup : List ℕ) (start : Past AllOpened) where
 
     -- a turn whose reply was not wholly written
     pub stuck : AllAsPromised loaded setup start → (left' held' : Option (List ℕ)) (keeper' : ℕ) (honest : Type 0) (holds' : List Row → Type 0) (hosts : Hosts) (reader : Progress) (frames : List ScriptFrame) (places : List Place) → Standing left' held' keeper' honest holds' hosts reader frames places
-        → (left'' held'' : Option (List ℕ)) (keeper'' : ℕ) (honest' : Type 0) (holds'' : List Row → Type 0) → (honest' → honest) → (after : Hosts) (frame : ScriptFrame) (answer : Answer) (place : Place) → IsFrame frame → Consumes left' left'' (frame_text frame)
+        → (left'' held'' : Option (List ℕ)) (keeper'' : ℕ) (honest' : Type 0) (holds'' : List Row → Type 0) → (honest' → honest) → (after : Hosts) (frame : ScriptFrame) (answer : Response) (place : Place) → IsFrame frame → Consumes left' left'' (frame_text frame)
         → IsAnswer honest' holds' holds'' (past_after start places) frame answer after keeper' keeper'' place → IsReadBy after → AppendsFront held' held'' (written (reply_of answer)) → (source source' sink sink' : ℕ)
         → Played left left'' held held'' source source' sink sink' keeper keeper'' honest' holds holds'' loaded setup start (more frames frame) (more places place) × Consumes left left'' (script_text setup (more frames frame)) × BrokeOff left left'' held held'' source source' sink sink' keeper keeper'' honest' holds holds'' loaded setup start (more places place)
     stuck promise left' held' keeper' honest holds' hosts reader frames places so_far left'' held'' keeper'' honest' holds'' back after frame answer place is_frame taken is read told source source' sink sink' =

@@ -20,11 +20,11 @@ use Rattle.wb_tables.specs.Standing.{Standing, hosts_of, counts_of as desk_count
 use Rattle.wb_desk.specs.Turns.{StandsFor}
 use Rattle.wb_rows.specs.Judged.{judged}
 use Rattle.wb_rows.specs.Left.{left}
-use Rattle.whistle.specs.declared.answering.Answer.{Answer}
+use Rattle.wb_wire.specs.declared.responses.Response.{Response}
 use Rattle.whistle.specs.declared.counting.StatusCount.{StatusCount}
-use Rattle.whistle.specs.declared.harbour.TheConstants.{HARBOUR}
+use Rattle.whistle.specs.declared.sample_setup.TheConstants.{HARBOUR}
 use Rattle.wb_start.specs.declared.status.Status.{Status}
-use Rattle.wb_start.specs.declared.status.Status.TheVariants.{Done, Usage, ReadFault, WriteFault, NoMemory, BadFrame, Setup, OpenFault, KeptRows, TooLong, ListenFault}
+use Rattle.wb_start.specs.declared.status.Status.TheVariants.{Done, Usage, ReadFault, WriteFault, NoMemory, BadFrame, Setup, OpenFault, KeptRows, TooLong, ListenFault, OutboxRows, NotThere, OutboxFault}
 use Rattle.whistle.specs.Answered.{IsAnswer}
 use Rattle.whistle.specs.Counted.{IsCounted}
 use Rattle.whistle.specs.Generated.{frame_at, frames_from}
@@ -74,7 +74,7 @@ module _ (keeper : ℕ) (holds : List Row → Type 0) where
 
   -- one more turn
   module _ (keeper' : ℕ) (honest : Type 0) (holds' : List Row → Type 0) (hosts : Hosts) (rows : List StatusCount) (turns : ℕ) (so_far : SoFar keeper' honest holds' hosts rows turns) (promise : AllAsPromised so_far.played.loaded HARBOUR.now so_far.played.start)
-      (keeper'' : ℕ) (honest' : Type 0) (holds'' : List Row → Type 0) (back : honest' → honest) (after : Hosts) (frame : ScriptFrame) (is_frame : frame ≡ frame_at (turns + 1)) (answer : Answer) (place : Place)
+      (keeper'' : ℕ) (honest' : Type 0) (holds'' : List Row → Type 0) (back : honest' → honest) (after : Hosts) (frame : ScriptFrame) (is_frame : frame ≡ frame_at (turns + 1)) (answer : Response) (place : Place)
       (is : IsAnswer honest' holds' holds'' (past_after so_far.played.start so_far.played.places) frame answer after keeper' keeper'' place) (read : IsReadBy after)
     where
       frames_are : frames_from 1 (turns + 1) ≡ more (frames_from 1 turns) frame
@@ -142,3 +142,6 @@ module _ (keeper keeper' : ℕ) (honest : Type 0) (holds holds' : List Row → T
   none_told turns (KeptRows fault) held held' sink sink' stopped keeps = (stopped, keeps)
   none_told turns TooLong held held' sink sink' stopped keeps = (stopped, keeps)
   none_told turns ListenFault held held' sink sink' stopped keeps = (stopped, keeps)
+  none_told turns (OutboxRows key) held held' sink sink' stopped keeps = (stopped, keeps)
+  none_told turns NotThere held held' sink sink' stopped keeps = (stopped, keeps)
+  none_told turns OutboxFault held held' sink sink' stopped keeps = (stopped, keeps)

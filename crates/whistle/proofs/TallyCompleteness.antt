@@ -8,9 +8,9 @@ use Rattle.wb_rows.specs.Held.{Held}
 use Rattle.wb_rows.specs.Judged.{judged}
 use Rattle.wb_setup.specs.declared.setup.SetupFault.{SetupFault}
 use Rattle.wb_setup.specs.Setups.{setup as lists_in}
-use Rattle.whistle.specs.declared.harbour.TheConstants.{HARBOUR}
+use Rattle.whistle.specs.declared.sample_setup.TheConstants.{HARBOUR}
 use Rattle.wb_start.specs.declared.status.Status.{Status}
-use Rattle.wb_start.specs.declared.status.Status.TheVariants.{Done, Usage, ReadFault, WriteFault, NoMemory, BadFrame, Setup, OpenFault, KeptRows, TooLong, ListenFault}
+use Rattle.wb_start.specs.declared.status.Status.TheVariants.{Done, Usage, ReadFault, WriteFault, NoMemory, BadFrame, Setup, OpenFault, KeptRows, TooLong, ListenFault, OutboxRows, NotThere, OutboxFault}
 use Rattle.wb_start.specs.Starts.{Refuses}
 use Rattle.whistle.specs.Tallies.{Stopped, Tallied}
 
@@ -36,6 +36,9 @@ module _ (keeper keeper' : ℕ) (honest : Type 0) (holds holds' : List Row → T
   not_opened (KeptRows fault) refuses = let refused = refuses.0 in absurd (rows_stand kept refused.0 held_rows fault (refused.1 h kept holding) reads_rows refused.2)
   not_opened TooLong refuses = absurd refuses
   not_opened ListenFault refuses = absurd refuses
+  not_opened (OutboxRows key) refuses = absurd refuses
+  not_opened NotThere refuses = absurd refuses
+  not_opened OutboxFault refuses = absurd refuses
 
   stopped : (turns : ℕ) (status : Status) → Stopped keeper keeper' honest holds holds' turns status → Comes status
   stopped turns status (inl none) = not_opened status none.cause
@@ -53,3 +56,6 @@ module _ (keeper keeper' : ℕ) (honest : Type 0) (holds holds' : List Row → T
   comes held held' sink sink' turns (KeptRows fault) wrote told = stopped turns (KeptRows fault) told.0
   comes held held' sink sink' turns TooLong wrote told = stopped turns TooLong told.0
   comes held held' sink sink' turns ListenFault wrote told = stopped turns ListenFault told.0
+  comes held held' sink sink' turns (OutboxRows key) wrote told = stopped turns (OutboxRows key) told.0
+  comes held held' sink sink' turns NotThere wrote told = stopped turns NotThere told.0
+  comes held held' sink sink' turns OutboxFault wrote told = stopped turns OutboxFault told.0

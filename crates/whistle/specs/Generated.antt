@@ -6,7 +6,7 @@ use Rattle.wb_base.specs.Secrets.{secret_text}
 use Rattle.wb_model.specs.declared.wire.ScriptFrame.{ScriptFrame}
 use Rattle.wb_model.specs.ShortViews.{session_text}
 use Rattle.whistle.specs.Runs.{script_text}
-use Rattle.whistle.specs.declared.harbour.TheConstants.{HARBOUR}
+use Rattle.whistle.specs.declared.sample_setup.TheConstants.{HARBOUR}
 
 -- the turns come an hour apart, the first an hour after 2025-01-01 00:00 UTC
 abbrev pub moment_at : ℕ → ℕ

@@ -14,7 +14,7 @@ use Rattle.wb_wire.specs.SetupText.{setup_text, IsSetup}
 use Rattle.wb_start.specs.Starts.{IsOpenedBy, OpensNone}
 use Rattle.whistle.specs.Played.{HasPlayed}
 use Rattle.wb_start.specs.declared.status.Status.{Status}
-use Rattle.wb_start.specs.declared.status.Status.TheVariants.{Done, Usage, ReadFault, WriteFault, NoMemory, BadFrame, Setup, OpenFault, KeptRows, TooLong, ListenFault}
+use Rattle.wb_start.specs.declared.status.Status.TheVariants.{Done, ReadFault, WriteFault, NoMemory, BadFrame, TooLong}
 
 -- the text of a script: the setup's frame, and frame after frame
 abbrev pub script_text : List ℕ → List ScriptFrame → List ℕ
@@ -57,17 +57,13 @@ module _ (left left' held held' : Option (List ℕ)) (source source' sink sink' 
     -- what the run did with the frames, by its status
     abbrev pub Plays : Status → Type 0
     Plays Done = (frames : List ScriptFrame) × (places : List Place) × Wrote frames places × IfSome left (λ text. text ≡ script_text setup frames)
-    Plays Usage = ⊥
     Plays ReadFault = (frames : List ScriptFrame) × (places : List Place) × Wrote frames places × Rose source source' × TookThen frames
     Plays WriteFault = (frames : List ScriptFrame) × (places : List Place) × Played frames places × Rose sink sink' × Consumes left left' (script_text setup frames) × BrokeOff places
     Plays NoMemory = (frames : List ScriptFrame) × (places : List Place) × Wrote frames places × TookThen frames
     Plays (BadFrame n) = (frames : List ScriptFrame) × (places : List Place) × Wrote frames places × TookThen frames × (n ≡ length frames + 1)
         × IfSome left (λ text. (rest : List ℕ) × (text ≡ script_text setup frames ++ rest) × IsBroken rest)
-    Plays (Setup fault) = ⊥
-    Plays OpenFault = ⊥
-    Plays (KeptRows fault) = ⊥
-    Plays ListenFault = ⊥
     Plays TooLong = (frames : List ScriptFrame) × (places : List Place) × Wrote frames places × TookAll frames
+    Plays status = ⊥
 
   -- a run that opened no host: nothing is written, and what is kept is as it was
   pub record RanNot (status : Status) : Type 0 where

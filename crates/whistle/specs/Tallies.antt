@@ -8,7 +8,7 @@ use Rattle.wb_model.specs.Past.{Past}
 use Rattle.wb_model.specs.Pasts.{AllOpened, standing_hosts}
 use Rattle.wb_model.specs.Scripts.{Place, script_replies, past_after}
 use Rattle.whistle.specs.declared.counting.StatusCount.{StatusCount}
-use Rattle.whistle.specs.declared.harbour.TheConstants.{HARBOUR}
+use Rattle.whistle.specs.declared.sample_setup.TheConstants.{HARBOUR}
 use Rattle.wb_start.specs.declared.status.Status.{Status}
 use Rattle.wb_start.specs.declared.status.Status.TheVariants.{Done, WriteFault, NoMemory}
 use Rattle.whistle.specs.Counted.{AreCountsOf}

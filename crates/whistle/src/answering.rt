@@ -5,46 +5,20 @@ ghost use Rattle.wb_base.specs.Outside.{AppendsFront, HasCause};
 ghost use Rattle.wb_model.specs.Past.{Past};
 ghost use Rattle.wb_model.specs.Pasts.{AllOpened};
 ghost use Rattle.wb_model.specs.Playing.{written};
-ghost use Rattle.wb_model.specs.Replies.{fault_told, fault_allow as listed_path};
 ghost use Rattle.wb_model.specs.Rows.{rows};
 ghost use Rattle.wb_model.specs.Scripts.{Place};
 ghost use Rattle.wb_rows.specs.Judged.{judged};
 ghost use Rattle.wb_rows.specs.Left.{left};
 ghost use Rattle.wb_tables.specs.Standing.{hosts_of};
 ghost use Rattle.wb_desk.specs.Turns.{StandsFor};
-ghost use Rattle.whistle.specs.Answered.{reply_of, IsAnswer};
+ghost use Rattle.wb_wire.specs.Responses.{reply_of};
+ghost use Rattle.whistle.specs.Answered.{IsAnswer};
 
 use std::alloc::Global;
 use wb_base::{Failed, Keeper, Sink};
 use wb_desk::Desk;
-use wb_model::{Body, Told};
 use wb_promise::a_desk_leaves_rows_that_are_read;
-use wb_wire::{
-    PathNo, Routes, ScriptFrame, WireNo, fault_allow, fault_body, fault_status, read_request,
-    reply_head, reply_line,
-};
-
-/// A reply: what is told, the path whose methods it lists, and whether the connection closes after it.
-#[derive(Drop)]
-pub struct Answer {
-    pub told: Told,
-    pub allow: Option<PathNo>,
-    pub close: bool,
-}
-
-// The reply to a request that is not read. It takes no memory.
-fn refusal(no: &WireNo) -> Answer
-    ensures { reply_of result ≡ record { told = fault_told no.now.fault; allow = listed_path no.now.fault; close = no.now.close } }
-{
-    Answer {
-        told: Told {
-            status: fault_status(&no.fault),
-            body: Body::short(fault_body(&no.fault)),
-        },
-        allow: fault_allow(&no.fault),
-        close: no.close,
-    }
-}
+use wb_wire::{Response, Routes, ScriptFrame, read_request, refusal, reply_head, reply_line};
 
 /// Answers one frame, which is a turn of the host where it is read.
 pub fn answer_frame<K: Keeper>(
@@ -53,7 +27,7 @@ pub fn answer_frame<K: Keeper>(
     desk: &mut Desk,
     keeper: &mut K,
     frame: &ScriptFrame,
-) -> Answer
+) -> Response
     requires { desk.old.turns < 1_000_000_000_000_000 }
     ensures answer { (past : Past AllOpened) → StandsFor (hosts_of desk.old) past → (place : Place) × IsAnswer (K.honest keeper.new) (K.holds keeper.old) (K.holds keeper.new) past frame.now result (hosts_of desk.new) (K.count keeper.old) (K.count keeper.new) place }
     // The rows of what the host holds then are refused by no rule, and are read as that.
@@ -66,7 +40,7 @@ pub fn answer_frame<K: Keeper>(
         Ok(asked) => {
             let told = desk.step(keeper, &asked, frame.moment, &frame.words);
             desk.stands();
-            Answer {
+            Response {
                 told,
                 allow: None,
                 close: asked.close,
@@ -79,15 +53,15 @@ pub fn answer_frame<K: Keeper>(
     }
 }
 
-/// Writes what the output has of an answer. It takes no memory.
-pub fn write_answer<W: Sink>(sink: &mut W, answer: &Answer) -> Result<(), Failed>
-    ensures ok { OnOk result (Appends (W.held sink.old) (W.held sink.new) (written (reply_of answer.now))) }
-    ensures err { OnErr result (AppendsFront (W.held sink.old) (W.held sink.new) (written (reply_of answer.now))) }
+/// Writes what the output has of a response. It takes no memory.
+pub fn write_response<W: Sink>(sink: &mut W, response: &Response) -> Result<(), Failed>
+    ensures ok { OnOk result (Appends (W.held sink.old) (W.held sink.new) (written (reply_of response.now))) }
+    ensures err { OnErr result (AppendsFront (W.held sink.old) (W.held sink.new) (written (reply_of response.now))) }
     ensures cause { HasCause (W.count sink.old) (W.count sink.new) result }
 {
-    let told = &answer.told;
+    let told = &response.told;
     let body = told.body.as_bytes();
-    let head = reply_head(told.status, answer.allow, body.len(), answer.close);
+    let head = reply_head(told.status, response.allow, body.len(), response.close);
     let line = reply_line(told.status, head.as_bytes().len() + body.len());
     match sink.write_all(line.as_bytes()) {
         Ok(()) => {}

@@ -9,7 +9,7 @@ ghost use Rattle.wb_model.specs.FrameTexts.{word_text, frame_line, frame_text, I
 ghost use Rattle.wb_wire.specs.SetupText.{setup_line, setup_text};
 ghost use Rattle.whistle.specs.Generated as made;
 
-use crate::harbour::HARBOUR;
+use crate::sample_setup::HARBOUR;
 use itoa::Buffer;
 use std::alloc::Global;
 use wb_access::secret;

@@ -26,6 +26,7 @@ use std::sync::Wait;
 use std::thread::Threads;
 use wb_base::{Keeper, MemKeeper, StdSink, StdSource, Text};
 use wb_cli::{Plan, PlanFault, plan};
+use wb_notice::notify;
 pub use wb_serve::serve;
 use wb_sqlite::PathKeeper;
 pub use wb_start::{Status, exit_line};
@@ -58,6 +59,18 @@ fn run_over<K: Keeper>(rt: &HostRuntime, words: &[Text], keeper: &mut K) -> u8 {
     run_to_end(alloc, words, &mut source, &mut sink, keeper, &mut errors)
 }
 
+// Does what the words of `notices` ask, over standard output and error.
+fn notify_over<K: Keeper, B: Keeper>(
+    rt: &HostRuntime,
+    words: &[Text],
+    keeper: &mut K,
+    outbox: &mut B,
+) -> u8 {
+    let mut sink = StdSink::new(rt.stdout());
+    let status = notify(rt.alloc(), words, keeper, outbox, &mut sink);
+    end(&status, &mut StdSink::new(rt.stderr()))
+}
+
 // Does what the words ask. Rows are kept in the file that they name, or else in memory. Where there is no memory to read the words,
 // nothing is done: rows that were to be kept in a file would be lost.
 fn run_words<R: Threads + Wait + Net<Listener = TcpListener, Stream = TcpStream> + Sync>(
@@ -88,8 +101,20 @@ fn run_words<R: Threads + Wait + Net<Listener = TcpListener, Stream = TcpStream>
                 }
             }
         }
-        Ok(Plan::Play { store: Some(path) }) => {
-            run_over(rt, words, &mut PathKeeper::new(rt, path))
+        Ok(
+            Plan::Play { store: Some(path) }
+            | Plan::Register {
+                store: Some(path),
+                ..
+            }
+            | Plan::Forecast {
+                store: Some(path),
+                ..
+            },
+        ) => run_over(rt, words, &mut PathKeeper::new(rt, path)),
+        Ok(Plan::Notices { store, outbox, .. }) => {
+            let mut keeper = PathKeeper::new(rt, store);
+            notify_over(rt, words, &mut keeper, &mut PathKeeper::new(rt, outbox))
         }
         Err(PlanFault::Memory) => end(&Status::NoMemory, &mut StdSink::new(rt.stderr())),
         _ => run_over(rt, words, &mut rows_in_memory(rt.alloc())),
@@ -104,30 +129,8 @@ fn main(rt: HostRuntime) -> ExitCode {
 }
 
 #[cfg(test)]
-mod ending_tests;
-#[cfg(test)]
-mod format_tests;
-#[cfg(test)]
-mod generated_tests;
-#[cfg(test)]
-mod handling_tests;
-#[cfg(test)]
-mod hostile_tests;
-#[cfg(test)]
-mod keeping_tests;
-#[cfg(test)]
-mod office_tests;
-#[cfg(test)]
-mod reporting_tests;
-#[cfg(test)]
 mod serving_tests;
-#[cfg(test)]
-mod setup_text;
-#[cfg(test)]
-mod sql_tests;
 #[cfg(test)]
 mod tally_tests;
 #[cfg(test)]
 mod tests;
-#[cfg(test)]
-mod wire_tests;

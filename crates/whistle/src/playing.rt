@@ -12,7 +12,7 @@ ghost use Rattle.wb_setup.specs.Setups.{setup as lists_in};
 ghost use Rattle.wb_wire.specs.SetupText.{IsSetup};
 ghost use Rattle.whistle.specs.Runs.{Ran, script_text};
 
-use crate::answering::{answer_frame, write_answer};
+use crate::answering::{answer_frame, write_response};
 use std::alloc::Global;
 use wb_base::{Keeper, Memory, Sink, Source};
 use wb_promise::{a_desk_leaves_rows_that_are_read, each_script_is_as_promised};
@@ -45,7 +45,7 @@ fn play<S: Source, W: Sink, K: Keeper>(
         match reader.next(alloc, source) {
             Ok(Some(frame)) => {
                 let answer = answer_frame(alloc, routes, &mut desk, keeper, &frame);
-                match write_answer(sink, &answer) {
+                match write_response(sink, &answer) {
                     Ok(()) => {}
                     Err(_) => return Status::WriteFault,
                 }

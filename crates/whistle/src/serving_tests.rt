@@ -1,5 +1,5 @@
-use crate::harbour::HARBOUR;
 use crate::run_words;
+use crate::sample_setup::HARBOUR;
 use std::alloc::Global;
 use std::fs;
 use std::net::{Net, TcpListener, TcpStream};

@@ -6,7 +6,7 @@ ghost use Rattle.whistle.specs.Tallies.{PlayedTurns, IsTallyOf, Stopped, Tallied
 use crate::answering::answer_frame;
 use crate::counting::{StatusCount, count_reply};
 use crate::generated::script_frame;
-use crate::harbour::HARBOUR;
+use crate::sample_setup::HARBOUR;
 use crate::tally_lines::write_tally;
 use std::alloc::Global;
 use wb_base::{Keeper, Memory, Sink};

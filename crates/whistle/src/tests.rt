@@ -1,445 +1,301 @@
+//! What a run writes and keeps where what it reads, what it writes or what keeps its rows fails at one of its calls.
 ghost use Rattle.std.specs.Prelude.{◌<◌};
 
-use super::*;
-use crate::rows_in_memory;
-use crate::setup_text::sample_setup;
+use crate::generated::make;
+use crate::sample_setup::HARBOUR;
+use crate::{Status, exit_line, rows_in_memory, run};
 use std::alloc::Global;
 use std::test::Fail;
-use wb_base::{Keeper, MemKeeper, MemSink, MemSource, Text};
+use wb_base::{Keeper, Key, MemKeeper, MemSink, MemSource, Text};
+use wb_rows::RowFault;
 
-pub(crate) const BRIBE: &str = "{\"context\":1,\"answers\":{\"what\":\"Bribe\",\"name\":\"Eve\"}}";
-
-pub(crate) const LONGER: &str =
-    "{\"context\":1,\"answers\":{\"what\":\"Bribe\",\"name\":\"Evelyn Archer-Stone\"}}";
-
+/// How many bytes a sink takes.
 pub(crate) const ROOM: usize = 100_000;
 
-// What a run is given: the sizes of the pieces that are read, the reads and the writes that fail, and the output's room.
-#[derive(Clone, Copy)]
-pub(crate) struct Ends<'a> {
-    pub size: usize,
-    pub reads: &'a [u64],
-    pub writes: &'a [u64],
-}
+// What is asked: seconds after the start of 2025 in UTC; the turn whose login made the session, or 0 for no session; method and path; and
+// the body. Turn k has the words 0, k, 0, k.
+type Asked = (u32, u64, &'static str, &'static str);
 
-// A reply: its status and phrase, its body, and the lines that its head has besides.
-pub(crate) type Reply<'a> = (u16, &'a str, &'a str, &'a str);
+// What is told: the status and the body of the reply.
+type Told = (u16, &'static str);
 
-// One request of a script, and the reply that it gets. Without fields of its own it has a length where it is a `POST`, and
-// else the session of a login at the first turn.
-#[derive(Clone, Copy)]
-pub(crate) struct Row<'a> {
-    pub moment: u64,
-    pub method: &'a str,
-    pub path: &'a str,
-    pub fields: &'a str,
-    pub body: &'a str,
-    pub reply: Reply<'a>,
-}
+// 2025-01-01 00:00 in UTC.
+const NEW_YEAR: u64 = 1_735_689_600;
 
-pub(crate) fn push(text: &mut Vec<u8>, bytes: &[u8]) -> Result<(), Fail> {
+const SUBMITTED: &str = r#"{"context":2,"answers":{"what":"x","name":"Eve"}}"#;
+
+const PLAIN: &str = r#"{"context":1,"answers":{"what":"x"}}"#;
+
+const RECEIPT: &str = r#"{"receipt":"0000000000000002"}"#;
+
+// Two reports come, the reporter of the second one comes back, and comments twice. The first report is due to go by the first of the
+// comments.
+const ASKED: &[Asked] = &[
+    (0, 0, "POST /t/1/reports", SUBMITTED),
+    (863_000, 0, "POST /t/1/reports", PLAIN),
+    (863_100, 0, "POST /t/1/sessions", RECEIPT),
+    (
+        864_000,
+        3,
+        "POST /t/1/report/comments",
+        r#"{"text":"More"}"#,
+    ),
+    (
+        864_001,
+        3,
+        "POST /t/1/report/comments",
+        r#"{"text":"More"}"#,
+    ),
+];
+
+const FIRST: Told = (201, r#"{"number":1,"receipt":"0000000000000001"}"#);
+
+const SECOND: Told = (201, r#"{"number":2,"receipt":"0000000000000002"}"#);
+
+const SECOND_AS_FIRST: Told = (201, r#"{"number":1,"receipt":"0000000000000002"}"#);
+
+const RETURNED: Told = (
+    201,
+    r#"{"role":"reporter","session":"3-00000000000000000000000000000003"}"#,
+);
+
+const NO_RECEIPT: Told = (401, r#"{"code":"bad_login"}"#);
+
+const NO_SESSION: Told = (401, r#"{"code":"no_session"}"#);
+
+const MADE: Told = (201, r#"{"done":true}"#);
+
+const LOST: Told = (503, r#"{"code":"keeper"}"#);
+
+const ALL_MADE: &[Told] = &[FIRST, SECOND, RETURNED, MADE, MADE];
+
+fn push(text: &mut Vec<u8>, bytes: &[u8]) -> Result<(), Fail> {
     text.extend_from_slice(bytes)?;
     Ok(())
 }
 
-// A script that begins with a setup's bytes as a frame.
-pub(crate) fn begun_with(alloc: Global, setup: &[u8]) -> Result<Vec<u8>, Fail> {
+// The bytes of a request.
+fn request(alloc: Global, asked: &Asked) -> Result<String, Fail> {
+    let (_, session, target, body) = *asked;
+    let named = if session == 0 {
+        String::new(alloc)
+    } else {
+        format!(in alloc; "X-Session: {session}-{session:032x}\r\n")?
+    };
+    let size = body.len();
+    Ok(format!(in alloc;
+        "{target} HTTP/1.1\r\nHost: h\r\n{named}Content-Length: {size}\r\n\r\n{body}"
+    )?)
+}
+
+// The script of the setup and of what is asked.
+fn script(alloc: Global) -> Result<Vec<u8>, Fail> {
     let mut script = Vec::new(alloc);
-    let line = format!(in alloc; "@setup {}\n", setup.len())?;
+    let line = format!(in alloc; "@setup {}\n", HARBOUR.len())?;
     push(&mut script, line.as_bytes())?;
-    push(&mut script, setup)?;
+    push(&mut script, HARBOUR.as_bytes())?;
     push(&mut script, b"\n")?;
+    for (at, asked) in ASKED.iter().enumerate() {
+        let bytes = request(alloc, asked)?;
+        let moment = NEW_YEAR + u64::from(asked.0);
+        let word = at as u64 + 1;
+        let size = bytes.len();
+        let line = format!(in alloc;
+            "@{moment} 0000000000000000 {word:016x} 0000000000000000 {word:016x} {size}\n"
+        )?;
+        push(&mut script, line.as_bytes())?;
+        push(&mut script, bytes.as_bytes())?;
+        push(&mut script, b"\n")?;
+    }
     Ok(script)
 }
 
-// A script that begins with the setup of a city.
-pub(crate) fn begun(alloc: Global) -> Result<Vec<u8>, Fail> {
-    begun_with(alloc, harbour(alloc)?.as_bytes())
+// The phrase of a status.
+fn phrase(status: u16) -> &'static str {
+    match status {
+        201 => "Created",
+        401 => "Unauthorized",
+        503 => "Service Unavailable",
+        _ => "",
+    }
 }
 
-pub(crate) const CLOSE: &str = "Connection: close\r\n";
-
-// The bytes of a request.
-pub(crate) fn request(alloc: Global, row: &Row) -> Result<String, Fail> {
-    let (method, path, body) = (row.method, row.path, row.body);
-    let fields = if row.fields != "" {
-        String::from_str(alloc, row.fields)?
-    } else if method == "POST" {
-        format!(in alloc; "Content-Length: {}\r\n", body.len())?
-    } else {
-        format!(in alloc; "X-Session: 1-00000000000000000000000000000000\r\n")?
-    };
-    Ok(format!(in alloc; "{method} {path} HTTP/1.1\r\nHost: h\r\n{fields}\r\n{body}")?)
+// What the output has of these replies: of each the line, the head and the body.
+fn output(alloc: Global, told: &[Told]) -> Result<Vec<u8>, Fail> {
+    let mut output = Vec::new(alloc);
+    for reply in told {
+        let (status, body) = *reply;
+        let size = body.len();
+        let phrase = phrase(status);
+        let text = format!(in alloc;
+            "HTTP/1.1 {status} {phrase}\r\nContent-Type: application/json\r\nCache-Control: no-store\r\nContent-Length: {size}\r\n\r\n{body}"
+        )?;
+        let line = format!(in alloc; "@{status} {}\n", text.len())?;
+        push(&mut output, line.as_bytes())?;
+        push(&mut output, text.as_bytes())?;
+        push(&mut output, b"\n")?;
+    }
+    Ok(output)
 }
 
-// A frame of which these are the second and the fourth word, and the others are 0.
-pub(crate) fn push_frame_of(
-    alloc: Global,
-    script: &mut Vec<u8>,
-    moment: u64,
-    words: (u64, u64),
-    bytes: &[u8],
-) -> Result<(), Fail> {
-    let (second, fourth) = words;
-    let size = bytes.len();
-    let line = format!(in alloc;
-        "@{moment} 0000000000000000 {second:016x} 0000000000000000 {fourth:016x} {size}\n"
-    )?;
-    push(script, line.as_bytes())?;
-    push(script, bytes)?;
-    push(script, b"\n")
-}
-
-// A frame with the words 0, `word`, 0, 0.
-pub(crate) fn push_frame(
-    alloc: Global,
-    script: &mut Vec<u8>,
-    moment: u64,
-    word: u64,
-    bytes: &[u8],
-) -> Result<(), Fail> {
-    push_frame_of(alloc, script, moment, (word, 0), bytes)
-}
-
-// What the output has of a reply: the line, the head and the body.
-pub(crate) fn push_reply(alloc: Global, output: &mut Vec<u8>, reply: Reply) -> Result<(), Fail> {
-    let (status, phrase, body, lines) = reply;
-    let size = body.len();
-    let text = format!(in alloc;
-        "HTTP/1.1 {status} {phrase}\r\nContent-Type: application/json\r\nCache-Control: no-store\r\nContent-Length: {size}\r\n{lines}\r\n{body}"
-    )?;
-    let line = format!(in alloc; "@{status} {}\n", text.len())?;
-    push(output, line.as_bytes())?;
-    push(output, text.as_bytes())?;
-    push(output, b"\n")
-}
-
-// A source of these bytes in pieces of a size, as far as 100,000 pieces go, which fails at these calls.
-pub(crate) fn source(
-    alloc: Global,
-    bytes: &[u8],
-    size: usize,
-    fail: &[u64],
-) -> Result<MemSource, Fail>
+// A source of these bytes in pieces of a size, which fails at these calls.
+fn source(alloc: Global, bytes: &[u8], size: usize, fail: &[u64]) -> Result<MemSource, Fail>
     requires { 0 < size }
 {
-    let pieces = vec![in alloc; size; bytes.len().min(100_000)]?;
+    let pieces = vec![in alloc; size; bytes.len()]?;
     Ok(MemSource::new(bytes.to_vec(alloc)?, pieces, fail.to_vec(alloc)?))
 }
 
-// Runs `play` on a script over rows that are kept in memory, and gives the status and the output.
-pub(crate) fn play(alloc: Global, script: &[u8], ends: &Ends) -> Result<(Status, Vec<u8>), Fail>
-    requires { 0 < ends.now.size }
-{
-    play_over(alloc, script, ends, &mut rows_in_memory(alloc))
-}
-
-// The same over a keeper's rows.
-pub(crate) fn play_over(
+// Plays the script over a keeper, with reads and writes that fail at these calls, and gives the status and the output.
+fn play(
     alloc: Global,
-    script: &[u8],
-    ends: &Ends,
+    reads: &[u64],
+    writes: &[u64],
     keeper: &mut MemKeeper,
-) -> Result<(Status, Vec<u8>), Fail>
-    requires { 0 < ends.now.size }
-{
-    let mut source = source(alloc, script, ends.size, ends.reads)?;
-    let mut sink = MemSink::new(Vec::new(alloc), ROOM, ends.writes.to_vec(alloc)?)?;
+) -> Result<(Status, Vec<u8>), Fail> {
+    let mut source = source(alloc, &script(alloc)?, 1_000, reads)?;
+    let mut sink = MemSink::new(Vec::new(alloc), ROOM, writes.to_vec(alloc)?)?;
     let words = [Text::from_str(alloc, "play")?];
     let status = run(alloc, &words, &mut source, &mut sink, keeper);
     Ok((status, sink.held().to_vec(alloc)?))
 }
 
-pub(crate) const VIEW: &str =
-    "{\"ack_due\":\"2025-01-08\",\"acknowledged\":null,\"answers\":{\"what\":\"Bribe\"},\"context\":1,\"dialogue\":[],\"expires\":\"2025-01-31\",\"feedback_due\":\"2025-04-08\",\"feedback_given\":false,\"form\":1,\"identity\":\"sealed\",\"label\":\"\",\"number\":1,\"readers\":[1],\"received\":\"2025-01-01\",\"requests\":[],\"status\":\"new\",\"version\":1}";
-
-pub(crate) fn post<'a>(body: &'a str, reply: Reply<'a>) -> Row<'a> {
-    Row {
-        moment: 1_735_689_600,
-        method: "POST",
-        path: "/t/1/reports",
-        fields: "",
-        body,
-        reply,
-    }
-}
-
-pub(crate) fn get<'a>(path: &'a str, reply: Reply<'a>) -> Row<'a> {
-    Row {
-        moment: 1_735_689_620,
-        method: "GET",
-        path,
-        fields: "",
-        body: "",
-        reply,
-    }
-}
-
-pub(crate) const NOT_FOUND: Reply = (404, "Not Found", "{\"code\":\"not_found\"}", "");
-
-pub(crate) fn created(body: &str) -> Reply {
-    (201, "Created", body, "")
-}
-
-// The login of the recipient of the context 1, which gives this session.
-fn login(session: &str) -> Row {
-    Row {
-        path: "/t/1/sessions",
-        ..post(
-            "{\"user\":\"ada\",\"password\":\"ada-pass\"}",
-            created(session),
-        )
-    }
-}
-
-const FIRST_SESSION: &str =
-    "{\"role\":\"recipient\",\"session\":\"1-00000000000000000000000000000000\"}";
-
-pub(crate) fn faulty(body: &str) -> Reply {
-    (422, "Unprocessable Entity", body, "")
-}
-
-// The first requests of a host, among them a submission with this body.
-pub(crate) fn rows<'a>(body: &'a str) -> [Row<'a>; 9] {
-    [
-        login(FIRST_SESSION),
-        post(
-            body,
-            created("{\"number\":1,\"receipt\":\"0000000000000043\"}"),
-        ),
-        get("/t/1/reports/1", (200, "OK", VIEW, "")),
-        post(
-            "{\"context\":1,\"answers\":{}}",
-            faulty("{\"code\":\"missing\",\"field\":\"what\"}"),
-        ),
-        post(
-            "{\"context\":1,\"answers\":{\"what\":\"x\",\"phone\":\"5\"}}",
-            faulty("{\"code\":\"missing\",\"field\":\"name\"}"),
-        ),
-        post(
-            "{\"context\":2,\"answers\":{\"what\":\"x\"}}",
-            created("{\"number\":2,\"receipt\":\"0000000000000047\"}"),
-        ),
-        get("/t/1/reports/2?why", NOT_FOUND),
-        get("/t/1/reports/99", NOT_FOUND),
-        get("/health", (200, "OK", "{\"status\":\"ok\"}", "")),
-    ]
-}
-
-// The word of the first frame; each frame has one more than the frame before.
-pub(crate) const WORD: u64 = 42;
-
-// The script of a setup, these rows and `hello`, and the output that it has.
-pub(crate) fn script_of(alloc: Global, rows: &[Row]) -> Result<(Vec<u8>, Vec<u8>), Fail> {
-    let mut script = begun(alloc)?;
-    let mut output = Vec::new(alloc);
-    for (at, row) in rows.iter().enumerate() {
-        push_frame(
-            alloc,
-            &mut script,
-            row.moment,
-            WORD + at as u64,
-            request(alloc, row)?.as_bytes(),
-        )?;
-        push_reply(alloc, &mut output, row.reply)?;
-    }
-    push_frame(alloc, &mut script, 0, 0, b"hello")?;
-    push_reply(
-        alloc,
-        &mut output,
-        (400, "Bad Request", "{\"code\":\"bad_head\"}", CLOSE),
-    )?;
-    Ok((script, output))
-}
-
-#[test]
-fn each_request_gets_its_reply_whatever_the_name_and_the_pieces(
-    rt: HostRuntime,
-) -> Result<(), Fail> {
-    let alloc = rt.alloc();
-    for body in [BRIBE, LONGER] {
-        let (script, output) = script_of(alloc, &rows(body))?;
-        for size in [1, 7, 1_000_000] {
-            let ends = Ends {
-                size,
-                reads: &[],
-                writes: &[],
-            };
-            let (status, held) = play(alloc, &script, &ends)?;
-            assert!(rt; status == Status::Done);
-            assert!(rt; held == output);
-        }
-    }
-    Ok(())
-}
-
-const WHOLE: Ends<'static> = Ends {
-    size: 100_000,
-    reads: &[],
-    writes: &[],
-};
-
-// The row at another moment.
-fn later<'a>(moment: u64, row: Row<'a>) -> Row<'a> {
-    Row { moment, ..row }
-}
-
-// The last second of the day on which a report of the new year's day expires in the context 1.
-const LAST: u64 = 1_738_281_599;
-
-// A keeper of no rows yet that fails at these calls, counted from 1.
+/// A keeper of no rows yet that fails at these calls, counted from 1.
 pub(crate) fn keeper_failing_at(alloc: Global, calls: Vec<u64>) -> MemKeeper {
     MemKeeper::new(Vec::new(alloc), calls)
 }
 
-// The kinds and numbers of the rows of reports that a keeper holds, beside so many of the setup.
-pub(crate) fn kept(
-    alloc: Global,
-    keeper: &MemKeeper,
-    setup: usize,
-) -> Result<Vec<(u8, u32, u32)>, Fail> {
+// The kinds and numbers of the rows of reports that a keeper holds, beside the ten of the setup.
+fn kept(alloc: Global, keeper: &MemKeeper) -> Result<Vec<(u8, u32, u32)>, Fail> {
     let mut keys = Vec::new(alloc);
     for row in keeper.rows() {
         if row.key.kind > 5 {
             keys.push((row.key.kind, row.key.a, row.key.b))?;
         }
     }
-    if keeper.rows().len() != usize::saturating_add(keys.len(), setup) {
+    if keeper.rows().len() != usize::saturating_add(keys.len(), 10) {
         return Err("the rows of the setup".into());
     }
     Ok(keys)
 }
 
-// The last read of the first report, with the session of a login at the second turn.
-fn read(reply: Reply) -> Row {
-    Row {
-        fields: "X-Session: 2-00000000000000000000000000000000\r\n",
-        ..later(LAST, get("/t/1/reports/1", reply))
-    }
-}
+// The keeper's call that fails, what each turn is told, and the kinds and numbers of the rows of reports at the end.
+type Failing = (u64, &'static [Told], &'static [(u8, u32, u32)]);
+
+// Two calls of the keeper open the host. A login has none of its own, and a lost comment leaves the purge to the next turn.
+const FAILING: &[Failing] = &[
+    (
+        3,
+        &[LOST, SECOND_AS_FIRST, RETURNED, MADE, MADE],
+        &[(6, 1, 1), (6, 1, 2), (6, 1, 3)],
+    ),
+    (4, &[FIRST, LOST, NO_RECEIPT, NO_SESSION, NO_SESSION], &[]),
+    (
+        5,
+        &[FIRST, SECOND, RETURNED, LOST, MADE],
+        &[(6, 2, 1), (6, 2, 2)],
+    ),
+    (
+        6,
+        &[FIRST, SECOND, RETURNED, MADE, LOST],
+        &[(6, 2, 1), (6, 2, 2)],
+    ),
+    (7, ALL_MADE, &[(6, 2, 1), (6, 2, 2), (6, 2, 3)]),
+];
 
 #[test]
-fn an_expired_report_is_gone_and_so_are_its_rows(rt: HostRuntime) -> Result<(), Fail> {
+fn a_failing_call_of_the_keeper_loses_its_turn_alone(rt: HostRuntime) -> Result<(), Fail> {
     let alloc = rt.alloc();
-    let health: Reply = (200, "OK", "{\"status\":\"ok\"}", "");
-    let rows = [
-        post(
-            BRIBE,
-            created("{\"number\":1,\"receipt\":\"0000000000000042\"}"),
-        ),
-        later(
-            LAST,
-            login("{\"role\":\"recipient\",\"session\":\"2-00000000000000000000000000000000\"}"),
-        ),
-        read((200, "OK", VIEW, "")),
-        later(LAST + 1, get("/health", health)),
-        read(NOT_FOUND),
-        later(
-            LAST,
-            post(
-                "{\"context\":1,\"answers\":{\"what\":\"x\"}}",
-                created("{\"number\":2,\"receipt\":\"0000000000000047\"}"),
-            ),
-        ),
-    ];
-    let held: [&[(u8, u32, u32)]; 7] = [
-        &[],
-        &[(6, 1, 1), (7, 1, 0)],
-        &[(6, 1, 1), (7, 1, 0)],
-        &[(6, 1, 1), (7, 1, 0)],
-        &[],
-        &[],
-        &[(6, 2, 1)],
-    ];
-    for (turns, wanted) in held.iter().enumerate() {
-        let (script, output) = script_of(alloc, &rows[..turns])?;
-        let mut keeper = rows_in_memory(alloc);
-        let (status, written) = play_over(alloc, &script, &WHOLE, &mut keeper)?;
-        assert!(rt; status == Status::Done && written == output, "{turns}");
-        assert!(rt; kept(alloc, &keeper, 10)?.as_slice() == *wanted, "{turns}");
+    for (call, told, rows) in FAILING {
+        let mut keeper = keeper_failing_at(alloc, [*call].to_vec(alloc)?);
+        let (status, held) = play(alloc, &[], &[], &mut keeper)?;
+        assert!(rt;
+            status == Status::Done && held == output(alloc, told)?,
+            "{call}"
+        );
+        assert!(rt; kept(alloc, &keeper)?.as_slice() == *rows, "{call}");
     }
     Ok(())
 }
 
 #[test]
-fn a_turn_that_the_keeper_fails_is_lost_and_can_be_made_again(rt: HostRuntime) -> Result<(), Fail> {
+fn a_keeper_that_fails_as_the_host_opens_answers_no_request(rt: HostRuntime) -> Result<(), Fail> {
     let alloc = rt.alloc();
-    let lost: Reply = (503, "Service Unavailable", "{\"code\":\"keeper\"}", "");
-    let body = "{\"context\":1,\"answers\":{\"what\":\"x\"}}";
-    let rows = [
-        login(FIRST_SESSION),
-        post(
-            body,
-            created("{\"number\":1,\"receipt\":\"0000000000000043\"}"),
-        ),
-        post(body, lost),
-        get("/t/1/reports/2", NOT_FOUND),
-        post(
-            body,
-            created("{\"number\":2,\"receipt\":\"0000000000000046\"}"),
-        ),
-        // What fell due is purged by the next turn.
-        later(LAST + 1, get("/health", lost)),
-        later(
-            LAST + 1,
-            get("/health", (200, "OK", "{\"status\":\"ok\"}", "")),
-        ),
-    ];
-    let (script, output) = script_of(alloc, &rows)?;
-    // The first two calls open the host.
-    let mut keeper = keeper_failing_at(alloc, [4, 6].to_vec(alloc)?);
-    let (status, written) = play_over(alloc, &script, &WHOLE, &mut keeper)?;
-    assert!(rt; status == Status::Done);
-    assert!(rt; written == output);
-    assert!(rt; kept(alloc, &keeper, 10)?.is_empty());
-    assert!(rt; keeper.faults() == 2);
+    for call in [1, 2] {
+        let mut keeper = keeper_failing_at(alloc, [call].to_vec(alloc)?);
+        let (status, held) = play(alloc, &[], &[], &mut keeper)?;
+        assert!(rt; status == Status::OpenFault && held.is_empty(), "{call}");
+        assert!(rt; keeper.rows().is_empty() && keeper.faults() == 1, "{call}");
+    }
+    Ok(())
+}
+
+// The reads and the writes that fail, the status, and how many replies stand.
+type Ending = (&'static [u64], &'static [u64], Status, usize);
+
+// A line is read byte by byte, so read 150 is in the second frame's line. A reply is four writes.
+const ENDINGS: &[Ending] = &[
+    (&[2], &[], Status::ReadFault, 0),
+    (&[150], &[], Status::ReadFault, 1),
+    (&[], &[1], Status::WriteFault, 0),
+    (&[], &[5], Status::WriteFault, 1),
+];
+
+#[test]
+fn the_replies_before_a_fault_stand(rt: HostRuntime) -> Result<(), Fail> {
+    let alloc = rt.alloc();
+    for (reads, writes, ended, count) in ENDINGS {
+        let (status, held) = play(alloc, reads, writes, &mut rows_in_memory(alloc))?;
+        let told = &ALL_MADE[..(*count).min(ALL_MADE.len())];
+        assert!(rt; status == *ended && held == output(alloc, told)?, "{count}");
+    }
     Ok(())
 }
 
 #[test]
-fn a_day_has_its_quota_and_a_receipt_its_report(rt: HostRuntime) -> Result<(), Fail> {
+fn a_script_is_made_up_to_the_write_that_fails(rt: HostRuntime) -> Result<(), Fail> {
     let alloc = rt.alloc();
-    let body = "{\"context\":1,\"answers\":{\"what\":\"x\"}}";
-    let request = request(alloc, &post(body, (201, "", "", "")))?;
-    let mut script = begun(alloc)?;
-    for word in 1..51 {
-        push_frame(alloc, &mut script, 1_735_689_600, word, request.as_bytes())?;
+    let mut whole = MemSink::new(Vec::new(alloc), ROOM, Vec::new(alloc))?;
+    assert!(rt; make(1, &mut whole).is_ok());
+    // The setup is three writes, and each frame is one.
+    let mut failing = MemSink::new(Vec::new(alloc), ROOM, [5].to_vec(alloc)?)?;
+    assert!(rt; make(8, &mut failing).is_err() && failing.held() == whole.held());
+    Ok(())
+}
+
+// A key with a number at its end.
+const LAST: Key = Key {
+    kind: 7,
+    tenant: 64,
+    a: 4_294_967_295,
+    b: 12,
+};
+
+// Such as no script ends with, and numbers at their ends.
+#[test]
+fn a_status_has_its_line(rt: HostRuntime) -> Result<(), Fail> {
+    let alloc = rt.alloc();
+    let lines = [
+        (Status::NoMemory, 5, "no memory\n"),
+        (
+            Status::BadFrame(18_446_744_073_709_551_615),
+            6,
+            "bad frame 18446744073709551615\n",
+        ),
+        (
+            Status::KeptRows(RowFault::BadSet(10, LAST)),
+            9,
+            "kept rows refused: rule 10 at 7/64/4294967295/12\n",
+        ),
+        (Status::TooLong, 10, "input too long\n"),
+        (Status::ListenFault, 11, "listen fault\n"),
+    ];
+    for (status, number, line) in lines {
+        let mut sink = MemSink::new(Vec::new(alloc), ROOM, Vec::new(alloc))?;
+        assert!(rt; exit_line(&status, &mut sink).is_ok());
+        assert!(rt; sink.held() == line.as_bytes() && status.number() == number);
     }
-    let (status, before) = play(alloc, &script, &WHOLE)?;
-    assert!(rt; status == Status::Done);
-    let mut wanted = before.as_slice().to_vec(alloc)?;
-    for (moment, word, reply) in [
-        (
-            1_735_775_999,
-            51,
-            (
-                429,
-                "Too Many Requests",
-                "{\"code\":\"quota\",\"kept\":50}",
-                "",
-            ),
-        ),
-        (
-            1_735_776_000,
-            50,
-            (
-                409,
-                "Conflict",
-                "{\"code\":\"receipt_taken\",\"kept\":null}",
-                "",
-            ),
-        ),
-        (
-            1_735_776_000,
-            51,
-            created("{\"number\":51,\"receipt\":\"0000000000000051\"}"),
-        ),
-    ] {
-        push_frame(alloc, &mut script, moment, word, request.as_bytes())?;
-        push_reply(alloc, &mut wanted, reply)?;
-    }
-    let (status, held) = play(alloc, &script, &WHOLE)?;
-    assert!(rt; status == Status::Done);
-    assert!(rt; held == wanted);
+    let mut failing = MemSink::new(Vec::new(alloc), ROOM, [1].to_vec(alloc)?)?;
+    assert!(rt; exit_line(&Status::Usage, &mut failing).is_err());
     Ok(())
 }

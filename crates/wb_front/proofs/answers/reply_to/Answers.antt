@@ -1,6 +1,6 @@
 use Rattle.std.proofs.Common.{inl, Some, None, refl, subst}
 use Rattle.wb_model.specs.Requests.{Frame}
-use Rattle.wb_front.specs.Answers.{reply_of}
+use Rattle.wb_wire.specs.Responses.{reply_of}
 use Rattle.wb_front.proofs.Replying.{fatal_of}
 use Rattle.wb_front.proofs.answers.reply_to.Goals as goal
 
@@ -18,8 +18,8 @@ pub returns-in-Err-clause-answered : goal.returns-in-Err-clause-answered
 returns-in-Err-clause-answered g c = (
   None,
   record {
-    replied = (refl, c.in-Err.no.fault, c.in-Err.no.close, (c.in-Err.ensures.refused, λ e. (c.in-Err.ensures.memory e, c.in-Err.ensures.health e)), c.refusal.ensures.reply);
+    replied = (refl, c.in-Err.no.fault, c.in-Err.no.close, (c.in-Err.ensures.refused, λ e. (c.in-Err.ensures.memory e, c.in-Err.ensures.health e)), c.refused.ensures.reply);
     turns = λ xs is. (xs, is, refl);
-    fatal = fatal_of c.refusal.result.fatal c.in-Err.no.fault c.in-Err.no.close (reply_of c.refusal.result) c.refusal.ensures.fatal c.refusal.ensures.reply;
+    fatal = fatal_of c.refused.result.fatal c.in-Err.no.fault c.in-Err.no.close (reply_of c.refused.result.response) c.refused.ensures.fatal c.refused.ensures.reply;
   },
 )

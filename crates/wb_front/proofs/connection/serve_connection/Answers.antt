@@ -4,7 +4,7 @@ use Rattle.wb_base.specs.Outside.{AppendsFront}
 use Rattle.wb_model.specs.declared.body.Told.{Told}
 use Rattle.wb_model.specs.Requests.{Frame}
 use Rattle.wb_front.specs.declared.inbox.Arrived.TheVariants as arrived
-use Rattle.wb_front.specs.Answers.{reply_of}
+use Rattle.wb_wire.specs.Responses.{reply_of}
 use Rattle.wb_front.specs.Arrivals.{HasArrived}
 use Rattle.wb_front.specs.Endings.{IsOpenYet}
 use Rattle.wb_front.specs.Served.{Exchange, Sides}
@@ -59,22 +59,22 @@ returns-in_default-send-clause-ended g c =
     let inv = c.loop-before.invariant.0 in
     let came : HasArrived c.next.new.self (g.L.Link.left c.next.new.link) (arrived.Request c.in-Request.size) = subst (HasArrived c.next.new.self (g.L.Link.left c.next.new.link)) c.in-Request.is c.in-Ok-next.ensures.arrived in
     write_cut (λ own frame told own'. g.G.Gate.ran own frame told own') a (g.L.Link.left c.loop-before.link) (g.L.Link.got c.loop-before.link) (g.T.Ticker.left c.loop-before.ticker) c.loop-before.own inv.0 c.loop-before.inbox inv.1 (omega (arith, inv.2, c.loop-before-test.true)) c.next.new.self (g.L.Link.left c.next.new.link) (g.L.Link.got c.next.new.link) c.in-Ok-next.ensures.flows c.in-Ok-next.ensures.got
-    c.in-Request.size came.1 c.first.result.now c.first.ensures c.in-Ok-reply_to.answer c.in-Ok-reply_to.ensures.answered.0 c.reply_to.new.own (g.T.Ticker.left c.reply_to.new.ticker) c.in-Ok-reply_to.ensures.answered.1 (g.L.Link.left c.send.new.link) (g.L.Link.got c.send.new.link) c.in_default-send.ensures.left (subst (AppendsFront (g.L.Link.got c.next.new.link) (g.L.Link.got c.send.new.link)) (as_said c.in-Ok-reply_to.answer c.closes_after.result c.loop-before.before (length inv.0) c.closes_after.ensures inv.2) c.in_default-send.ensures.err)
+    c.in-Request.size came.1 c.first.result.now c.first.ensures c.in-Ok-reply_to.replied c.in-Ok-reply_to.ensures.answered.0 c.reply_to.new.own (g.T.Ticker.left c.reply_to.new.ticker) c.in-Ok-reply_to.ensures.answered.1 (g.L.Link.left c.send.new.link) (g.L.Link.got c.send.new.link) c.in_default-send.ensures.left (subst (AppendsFront (g.L.Link.got c.next.new.link) (g.L.Link.got c.send.new.link)) (as_said c.in-Ok-reply_to.replied.response c.closes_after.result c.loop-before.before (length inv.0) c.closes_after.ensures inv.2) c.in_default-send.ensures.err)
 
-pub returns-then-answer-clause-ended : goal.returns-then-answer-clause-ended
-returns-then-answer-clause-ended g c =
+pub returns-then-replied-clause-ended : goal.returns-then-replied-clause-ended
+returns-then-replied-clause-ended g c =
     let a : Sides _ = record { left = g.L.Link.left c.args.link.now; got = g.L.Link.got c.args.link.now; moments = g.T.Ticker.left c.args.ticker.now; own = c.args.own.now } in
     let inv = c.loop-before.invariant.0 in
     let came : HasArrived c.next.new.self (g.L.Link.left c.next.new.link) (arrived.Request c.in-Request.size) = subst (HasArrived c.next.new.self (g.L.Link.left c.next.new.link)) c.in-Request.is c.in-Ok-next.ensures.arrived in
     closed (λ own frame told own'. g.G.Gate.ran own frame told own') a (g.L.Link.left c.loop-before.link) (g.L.Link.got c.loop-before.link) (g.T.Ticker.left c.loop-before.ticker) c.loop-before.own inv.0 c.loop-before.inbox inv.1 (omega (arith, inv.2, c.loop-before-test.true)) c.next.new.self (g.L.Link.left c.next.new.link) (g.L.Link.got c.next.new.link) c.in-Ok-next.ensures.flows c.in-Ok-next.ensures.got
-    c.in-Request.size came.1 c.first.result.now c.first.ensures c.in-Ok-reply_to.answer c.in-Ok-reply_to.ensures.answered.0 c.reply_to.new.own (g.T.Ticker.left c.reply_to.new.ticker) c.in-Ok-reply_to.ensures.answered.1 (g.L.Link.left c.send.new.link) (g.L.Link.got c.send.new.link) c.in-Ok-send.ensures.left (subst (Appends (g.L.Link.got c.next.new.link) (g.L.Link.got c.send.new.link)) (as_said c.in-Ok-reply_to.answer c.closes_after.result c.loop-before.before (length inv.0) c.closes_after.ensures inv.2) c.in-Ok-send.ensures.ok) c.closed.result c.if-answer.true c.closed.ensures.some c.closed.ensures.none
+    c.in-Request.size came.1 c.first.result.now c.first.ensures c.in-Ok-reply_to.replied c.in-Ok-reply_to.ensures.answered.0 c.reply_to.new.own (g.T.Ticker.left c.reply_to.new.ticker) c.in-Ok-reply_to.ensures.answered.1 (g.L.Link.left c.send.new.link) (g.L.Link.got c.send.new.link) c.in-Ok-send.ensures.left (subst (Appends (g.L.Link.got c.next.new.link) (g.L.Link.got c.send.new.link)) (as_said c.in-Ok-reply_to.replied.response c.closes_after.result c.loop-before.before (length inv.0) c.closes_after.ensures inv.2) c.in-Ok-send.ensures.ok) c.closed.result c.if-replied.true c.closed.ensures.some c.closed.ensures.none
 
 pub loop-before-preserved : goal.loop-before-preserved
 loop-before-preserved g c =
     let a : Sides _ = record { left = g.L.Link.left c.args.link.now; got = g.L.Link.got c.args.link.now; moments = g.T.Ticker.left c.args.ticker.now; own = c.args.own.now } in
     let inv = c.loop-before.invariant.0 in
     let came : HasArrived c.next.new.self (g.L.Link.left c.next.new.link) (arrived.Request c.in-Request.size) = subst (HasArrived c.next.new.self (g.L.Link.left c.next.new.link)) c.in-Request.is c.in-Ok-next.ensures.arrived in
-    let x : Exchange = record { request = take c.in-Request.size c.next.new.self; reply = reply_of c.in-Ok-reply_to.answer; tick = c.in-Ok-reply_to.ensures.answered.0 } in
+    let x : Exchange = record { request = take c.in-Request.size c.next.new.self; reply = reply_of c.in-Ok-reply_to.replied.response; tick = c.in-Ok-reply_to.ensures.answered.0 } in
     let yet = more (λ own frame told own'. g.G.Gate.ran own frame told own') a (g.L.Link.left c.loop-before.link) (g.L.Link.got c.loop-before.link) (g.T.Ticker.left c.loop-before.ticker) c.loop-before.own inv.0 c.loop-before.inbox inv.1 (omega (arith, inv.2, c.loop-before-test.true)) c.next.new.self (g.L.Link.left c.next.new.link) (g.L.Link.got c.next.new.link) c.in-Ok-next.ensures.flows c.in-Ok-next.ensures.got
-    c.in-Request.size came.1 c.first.result.now c.first.ensures c.in-Ok-reply_to.answer c.in-Ok-reply_to.ensures.answered.0 c.reply_to.new.own (g.T.Ticker.left c.reply_to.new.ticker) c.in-Ok-reply_to.ensures.answered.1 (g.L.Link.left c.send.new.link) (g.L.Link.got c.send.new.link) c.in-Ok-send.ensures.left (subst (Appends (g.L.Link.got c.next.new.link) (g.L.Link.got c.send.new.link)) (as_said c.in-Ok-reply_to.answer c.closes_after.result c.loop-before.before (length inv.0) c.closes_after.ensures inv.2) c.in-Ok-send.ensures.ok) c.if-answer.false in
+    c.in-Request.size came.1 c.first.result.now c.first.ensures c.in-Ok-reply_to.replied c.in-Ok-reply_to.ensures.answered.0 c.reply_to.new.own (g.T.Ticker.left c.reply_to.new.ticker) c.in-Ok-reply_to.ensures.answered.1 (g.L.Link.left c.send.new.link) (g.L.Link.got c.send.new.link) c.in-Ok-send.ensures.left (subst (Appends (g.L.Link.got c.next.new.link) (g.L.Link.got c.send.new.link)) (as_said c.in-Ok-reply_to.replied.response c.closes_after.result c.loop-before.before (length inv.0) c.closes_after.ensures inv.2) c.in-Ok-send.ensures.ok) c.if-replied.false in
     ((inv.0 ++ x ∷ [], subst (IsOpenYet (λ own frame told own'. g.G.Gate.ran own frame told own') a _ (inv.0 ++ x ∷ [])) (sym c.drop_first.ensures) yet, length_more inv.0 x ∙ ap (λ n. n + 1) inv.2), c.reply_to.ensures.parts ∙ c.loop-before.invariant.1, c.reply_to.ensures.of, c.in-Ok-send.ensures.cause.stayed ∙ (c.in-Ok-next.ensures.cause.stayed ∙ c.loop-before.invariant.3), c.in-Ok-reply_to.ensures.cause.stayed ∙ c.loop-before.invariant.4)

@@ -1,7 +1,7 @@
 use Rattle.std.proofs.Common.{◌∙◌, subst}
 use Rattle.std.specs.Io.KnownBytes.{Appends}
 use Rattle.wb_base.specs.Outside.{AppendsFront}
-use Rattle.whistle.specs.declared.harbour.TheConstants.{HARBOUR}
+use Rattle.whistle.specs.declared.sample_setup.TheConstants.{HARBOUR}
 use Rattle.whistle.proofs.GeneratedLemmas.{sent_line, sent_bytes, sent_end, sent_all}
 use Rattle.whistle.proofs.generated.write_setup.Goals as goal
 

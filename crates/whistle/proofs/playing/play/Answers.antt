@@ -49,13 +49,13 @@ loop-frame-preserved g c =
         frames = more was.frames frame;
         places = more was.places is.0;
         so_far = advance was.loaded was.setup was.start _ _ _ _ (c.each_script_is_as_promised.ensures was.loaded was.setup was.start was.opened)
-            _ _ _ _ _ _ c.loop-frame.reader was.frames was.places was.so_far _ _ _ _ _ c.answer_frame-answer.ensures.back (hosts_of c.answer_frame-answer.new.desk) frame c.answer_frame-answer.result is.0 took.0 took.1 is.1 c.answer_frame-answer.ensures.read_back c.in-Ok-write_answer.ensures.ok c.next.new.self goes;
+            _ _ _ _ _ _ c.loop-frame.reader was.frames was.places was.so_far _ _ _ _ _ c.answer_frame-answer.ensures.back (hosts_of c.answer_frame-answer.new.desk) frame c.answer_frame-answer.result is.0 took.0 took.1 is.1 c.answer_frame-answer.ensures.read_back c.in-Ok-write_response.ensures.ok c.next.new.self goes;
       };
       few = omega (arith, c.answer_frame-answer.ensures.turns, c.loop-frame.invariant.few, ap (λ (p : Progress). p.taken) goes, some_bytes frame);
       limit = c.next.ensures.limit;
       back = λ h. c.loop-frame.invariant.back (c.answer_frame-answer.ensures.back h);
       read_on = c.in-Ok-Some.ensures.stayed (λ is. absurd cc) ∙ c.loop-frame.invariant.read_on;
-      written_on = c.in-Ok-write_answer.ensures.cause.stayed ∙ c.loop-frame.invariant.written_on;
+      written_on = c.in-Ok-write_response.ensures.cause.stayed ∙ c.loop-frame.invariant.written_on;
     }
 
 pub loop-frame-smaller : goal.loop-frame-smaller
@@ -63,21 +63,21 @@ loop-frame-smaller g c =
     let goes = rw c.in-Ok-Some.field-0-is at c.in-Ok-Some.ensures.goes_on in
     omega (arith, ap (λ (p : Progress). p.taken) goes, some_bytes c.in-Ok-Some.frame, c.next.ensures.limit)
 
-pub returns-in-Err-write_answer-clause-ran : goal.returns-in-Err-write_answer-clause-ran
-returns-in-Err-write_answer-clause-ran g c =
+pub returns-in-Err-write_response-clause-ran : goal.returns-in-Err-write_response-clause-ran
+returns-in-Err-write_response-clause-ran g c =
     let was = c.loop-frame.invariant.in_run in
     let frame = c.in-Ok-Some.frame in
     let is = c.answer_frame-answer.ensures.answer (past_after was.start was.places) was.so_far.stands in
     let took = rw c.in-Ok-Some.field-0-is at c.in-Ok-Some.ensures.ok in
     let both = stuck was.loaded was.setup was.start _ _ _ _ (c.each_script_is_as_promised.ensures was.loaded was.setup was.start was.opened)
-    _ _ _ _ _ _ c.loop-frame.reader was.frames was.places was.so_far _ _ _ _ _ c.answer_frame-answer.ensures.back (hosts_of c.answer_frame-answer.new.desk) frame c.answer_frame-answer.result is.0 took.0 took.1 is.1 c.answer_frame-answer.ensures.read_back c.in-Err-write_answer.ensures.err _ _ _ _ in
+    _ _ _ _ _ _ c.loop-frame.reader was.frames was.places was.so_far _ _ _ _ _ c.answer_frame-answer.ensures.back (hosts_of c.answer_frame-answer.new.desk) frame c.answer_frame-answer.result is.0 took.0 took.1 is.1 c.answer_frame-answer.ensures.read_back c.in-Err-write_response.ensures.err _ _ _ _ in
     inr (record {
       loaded = was.loaded;
       setup = was.setup;
       start = was.start;
       whole = was.whole;
       opened = was.opened;
-      plays = (more was.frames frame, more was.places is.0, both.0, omega (arith, c.loop-frame.invariant.written_on, c.in-Err-write_answer.ensures.cause.failed), both.1, both.2);
+      plays = (more was.frames frame, more was.places is.0, both.0, omega (arith, c.loop-frame.invariant.written_on, c.in-Err-write_response.ensures.cause.failed), both.1, both.2);
     })
 
 pub returns-in-Ok-None-clause-ran : goal.returns-in-Ok-None-clause-ran

@@ -1,0 +1,6 @@
+use Rattle.std.specs.List.Sorted.{IsStrictlySortedBy}
+use Rattle.wb_notice.proofs.tests.empty.Goals as goal
+
+pub new-requires : goal.new-requires
+unfolding IsStrictlySortedBy
+new-requires c = rw c.new-rows.ensures.items tt
