@@ -6,7 +6,7 @@ use Rattle.wb_cli.specs.declared.plans.Lock.{Lock}
 use Rattle.wb_cli.specs.declared.plans.Lock.TheVariants.{Mutex, Ticket}
 use Rattle.wb_cli.specs.declared.plans.Plan.{Plan}
 use Rattle.wb_cli.specs.declared.plans.Plan.TheVariants.{Play, Make, Tally, Serve, Notices, Register, Forecast}
-use Rattle.wb_cli.specs.CommandLine.{Asks, AsksForecast, AsksNotices, AsksPlay, AsksRegister, AsksServe, AsksTurns, SaysDate, SaysLock, SaysMoment, SaysNumber, SaysPath}
+use Rattle.wb_cli.specs.CommandLine.{Asks, AsksForecast, AsksNotices, AsksPlay, AsksRegister, AsksServe, AsksTurns, SaysDate, SaysFile, SaysLock, SaysMoment, SaysNumber, SaysPath}
 
 some_same : {X : Type 0} (a b : X) → Some a ≡ Some b → a ≡ b
 some_same a b e = cc
@@ -31,6 +31,10 @@ one_path : (word : Option (List ℕ)) (p q : List ℕ) → SaysPath word p → S
 one_path None p q a b = absurd a
 one_path (Some word) p q a b = sym a.0 ∙ b.0
 
+one_file : (word : Option (List ℕ)) (p q : List ℕ) → SaysFile word p → SaysFile word q → p ≡ q
+one_file None p q a b = absurd a
+one_file (Some word) p q a b = sym a.0 ∙ b.0
+
 -- the names of locks differ in their first letter
 one_lock : (word : Option (List ℕ)) (l m : Lock) → SaysLock word l → SaysLock word m → l ≡ m
 one_lock None l m a b = a ∙ sym b
@@ -52,8 +56,8 @@ one_serve words setup listen workers lock store setup' listen' workers' lock' st
 one_notices : (words : List (List ℕ)) (m : ℕ) (s o : List ℕ) (m' : ℕ) (s' o' : List ℕ) → AsksNotices words m s o → AsksNotices words m' s' o' → Notices m s o ≡ Notices m' s' o'
 one_notices words m s o m' s' o' a b =
     let at = one_moment _ m m' a.at b.at in
-    let named = one_path _ s s' a.named b.named in
-    let put = one_path _ o o' a.put b.put in
+    let named = one_file _ s s' a.named b.named in
+    let put = one_file _ o o' a.put b.put in
     rw (at, named, put) refl
 
 one_register : (words : List (List ℕ)) (t u m : ℕ) (s : Option (List ℕ)) (t' u' m' : ℕ) (s' : Option (List ℕ)) → AsksRegister words t u m s → AsksRegister words t' u' m' s' → Register t u m s ≡ Register t' u' m' s'

@@ -7,6 +7,7 @@ use Rattle.clap.specs.Faults.{fault_of}
 use Rattle.clap.specs.Kinds.{Kinds}
 use Rattle.clap.specs.declared.builder.action.ArgAction.TheVariants.{Set}
 use Rattle.wb_base.specs.DateTexts.{read_date}
+use Rattle.wb_cli.specs.Places.{IsFile, IsStoreWord}
 use Rattle.wb_cli.specs.declared.plans.Lock.{Lock}
 use Rattle.wb_cli.specs.declared.plans.Lock.TheVariants.{Mutex, Ticket}
 use Rattle.wb_cli.specs.declared.plans.Plan.{Plan}
@@ -61,10 +62,20 @@ takes_words app words = has_none (fault_of app words)
 unfoldable pub value_of : App → Text → List Text → Option Text
 value_of app name words = first_of name (matches_of app words)
 
--- where rows are kept: in memory, or in the file of a path
+-- where rows are kept: in memory, in the file of a path, or in a store of etcd
 abbrev pub IsStore : Option Text → Type 0
 IsStore None = Unit {0}
-IsStore (Some path) = path ≢ []
+IsStore (Some word) = IsStoreWord word
+
+-- where rows are kept that are read: in memory, or in the file of a path
+abbrev pub IsFileStore : Option Text → Type 0
+IsFileStore None = Unit {0}
+IsFileStore (Some path) = IsFile path
+
+-- the path of a file
+abbrev pub SaysFile : Option Text → Text → Type 0
+SaysFile None path = ⊥
+SaysFile (Some word) path = (word ≡ path) × IsFile path
 
 -- a path or an address, which is not empty
 abbrev pub SaysPath : Option Text → Text → Type 0
@@ -121,8 +132,8 @@ pub record AsksServe (words : List Text) (setup listen : Text) (workers : ℕ) (
 pub record AsksNotices (words : List Text) (moment : ℕ) (store outbox : Text) : Type 0 where
   pub taken : takes_words notices_app words ≡ true
   pub at : SaysMoment (value_of notices_app (codes "moment") words) moment
-  pub named : SaysPath (value_of notices_app (codes "store") words) store
-  pub put : SaysPath (value_of notices_app (codes "outbox") words) outbox
+  pub named : SaysFile (value_of notices_app (codes "store") words) store
+  pub put : SaysFile (value_of notices_app (codes "outbox") words) outbox
 
 -- the words after `register`
 pub record AsksRegister (words : List Text) (tenant user moment : ℕ) (store : Option Text) : Type 0 where
@@ -131,7 +142,7 @@ pub record AsksRegister (words : List Text) (tenant user moment : ℕ) (store : 
   pub by : SaysNumber 256 (value_of register_app (codes "user") words) user
   pub at : SaysMoment (value_of register_app (codes "moment") words) moment
   pub named : value_of register_app (codes "store") words ≡ store
-  pub good : IsStore store
+  pub good : IsFileStore store
 
 -- the words after `forecast`
 pub record AsksForecast (words : List Text) (tenant : ℕ) (day : ℤ) (store : Option Text) : Type 0 where
@@ -139,7 +150,7 @@ pub record AsksForecast (words : List Text) (tenant : ℕ) (day : ℤ) (store : 
   pub of : SaysNumber 64 (value_of forecast_app (codes "tenant") words) tenant
   pub by : SaysDate (value_of forecast_app (codes "date") words) day
   pub named : value_of forecast_app (codes "store") words ≡ store
-  pub good : IsStore store
+  pub good : IsFileStore store
 
 -- the words ask this
 abbrev pub Asks : List Text → Plan → Type 0

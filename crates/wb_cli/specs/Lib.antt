@@ -1,1 +1,4 @@
 pub mod CommandLine
+pub mod Places
+pub mod Statuses
+pub mod Loads

@@ -10,7 +10,8 @@ use crate::apps::{
 };
 use crate::plans::{Plan, PlanFault};
 use crate::values::{
-    day_in, is_same, lock_of, moment_in, number_to, path_of, store_at, tenant_in, user_in,
+    day_in, file_at, file_of, is_same, lock_of, moment_in, number_to, path_of, store_at, tenant_in,
+    user_in,
 };
 use std::alloc::Global;
 use wb_base::{Memory, Text};
@@ -71,8 +72,8 @@ fn notices(alloc: Global, words: &[&str]) -> Result<Plan, PlanFault>
     let Some(moment) = moment_in(matches.get_str("moment")) else {
         return Err(PlanFault::Usage);
     };
-    let store = path_of(alloc, matches.get_str("store"))?;
-    let outbox = path_of(alloc, matches.get_str("outbox"))?;
+    let store = file_of(alloc, matches.get_str("store"))?;
+    let outbox = file_of(alloc, matches.get_str("outbox"))?;
     Ok(Plan::Notices {
         moment,
         store,
@@ -95,7 +96,7 @@ fn register(alloc: Global, words: &[&str]) -> Result<Plan, PlanFault>
     let Some(moment) = moment_in(matches.get_str("moment")) else {
         return Err(PlanFault::Usage);
     };
-    let store = store_at(alloc, matches.get_str("store"))?;
+    let store = file_at(alloc, matches.get_str("store"))?;
     Ok(Plan::Register {
         tenant,
         user,
@@ -116,7 +117,7 @@ fn forecast(alloc: Global, words: &[&str]) -> Result<Plan, PlanFault>
     let Some(day) = day_in(matches.get_str("date")) else {
         return Err(PlanFault::Usage);
     };
-    let store = store_at(alloc, matches.get_str("store"))?;
+    let store = file_at(alloc, matches.get_str("store"))?;
     Ok(Plan::Forecast { tenant, day, store })
 }
 

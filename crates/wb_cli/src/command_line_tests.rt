@@ -1,5 +1,7 @@
 use crate::command_line::plan;
+use crate::places::Place;
 use crate::plans::{Lock, Plan, PlanFault};
+use crate::store_word::StoreWord;
 use std::alloc::Global;
 use std::test::Fail;
 use wb_base::Text;
@@ -170,6 +172,46 @@ const SERVE_NO_FORMS: &[&str] = &[
     "serve -setup s --listen l --workers 1",
 ];
 
+// Words over a store of etcd, with a space between each two, and what they ask.
+const ETCD_FORMS: &[(&str, &str)] = &[
+    (
+        "play --store etcd://10.0.0.1:2379/whistle",
+        "play over 1 endpoints, first 10.0.0.1:2379, under whistle",
+    ),
+    (
+        "play --store=etcd://a:1,[::1]:2379,c.d-e:3/city_1.b",
+        "play over 3 endpoints, first a:1, under city_1.b",
+    ),
+    (
+        "serve --setup s --listen l --workers 2 --store etcd://a:1,b:2/w --lock ticket",
+        "serve s at l by 2 with tickets over 2 endpoints, first a:1, under w",
+    ),
+    ("play --store etcd:/a:1/w", "play over etcd:/a:1/w"),
+    ("play --store ETCD://a:1/w", "play over ETCD://a:1/w"),
+    ("play --store ./etcd://a:1/w", "play over ./etcd://a:1/w"),
+];
+
+// Such words that ask nothing.
+const ETCD_NO_FORMS: &[&str] = &[
+    "play --store etcd://",
+    "play --store etcd:///w",
+    "play --store etcd://a:1",
+    "play --store etcd://a:1/",
+    "play --store etcd://a/w",
+    "play --store etcd://a:1,/w",
+    "play --store etcd://,a:1/w",
+    "play --store etcd://a:1,b/w",
+    "play --store etcd://a:1/w/x",
+    "play --store etcd://a:1/w?x",
+    "play --store etcd://u@a:1/w",
+    "play --store etcd://a:1/w --store f",
+    "serve --setup s --listen l --workers 2 --store etcd://a:1",
+    "register 1 1 1 --store etcd://a:1/w",
+    "forecast 1 2025-01-31 --store etcd://a:1/w",
+    "notices 1 --store etcd://a:1/w --outbox o",
+    "notices 1 --store s --outbox etcd://a:1/w",
+];
+
 // Words of the other calls over kept rows, with a space between each two, and what they ask.
 const KEPT_FORMS: &[(&str, &str)] = &[
     (
@@ -237,6 +279,26 @@ fn told_over(alloc: Global, asked: String, store: &Option<Text>) -> Result<Strin
     }
 }
 
+// What is asked over rows in memory, or where a word says, in short.
+fn told_at(alloc: Global, asked: String, store: Option<StoreWord>) -> Result<String, Fail> {
+    let Some(word) = store else {
+        return Ok(asked);
+    };
+    match word.place() {
+        Place::File(path) => told_over(alloc, asked, &Some(path)),
+        Place::Etcd(store) => {
+            let count = store.endpoints.len();
+            let first = match store.endpoints.as_slice().first() {
+                Some(first) => first.as_str(),
+                None => "",
+            };
+            let prefix = store.prefix.as_str();
+            let asked = asked.as_str();
+            Ok(format!(in alloc; "{asked} over {count} endpoints, first {first}, under {prefix}")?)
+        }
+    }
+}
+
 // What is asked of a host that serves, in short.
 fn told_of_serving(
     alloc: Global,
@@ -244,7 +306,7 @@ fn told_of_serving(
     listen: &Text,
     workers: u32,
     lock: Lock,
-    store: &Option<Text>,
+    store: Option<StoreWord>,
 ) -> Result<String, Fail> {
     let setup = setup.as_str();
     let listen = listen.as_str();
@@ -253,13 +315,13 @@ fn told_of_serving(
         Lock::Ticket => " with tickets",
     };
     let asked = format!(in alloc; "serve {setup} at {listen} by {workers}{lock}")?;
-    told_over(alloc, asked, store)
+    told_at(alloc, asked, store)
 }
 
 // What is asked, in short.
-fn told_of_plan(alloc: Global, plan: &Plan) -> Result<String, Fail> {
+fn told_of_plan(alloc: Global, plan: Plan) -> Result<String, Fail> {
     match plan {
-        Plan::Play { store } => told_over(alloc, String::from_str(alloc, "play")?, store),
+        Plan::Play { store } => told_at(alloc, String::from_str(alloc, "play")?, store),
         Plan::Make(turns) => Ok(format!(in alloc; "make {turns}")?),
         Plan::Tally(turns) => Ok(format!(in alloc; "tally {turns}")?),
         Plan::Serve {
@@ -268,7 +330,7 @@ fn told_of_plan(alloc: Global, plan: &Plan) -> Result<String, Fail> {
             workers,
             lock,
             store,
-        } => told_of_serving(alloc, setup, listen, *workers, *lock, store),
+        } => told_of_serving(alloc, &setup, &listen, workers, lock, store),
         Plan::Notices {
             moment,
             store,
@@ -287,12 +349,12 @@ fn told_of_plan(alloc: Global, plan: &Plan) -> Result<String, Fail> {
             let user = user.id();
             let at = moment.seconds();
             let asked = format!(in alloc; "register of {} by {user} at {at}", tenant.id())?;
-            told_over(alloc, asked, store)
+            told_over(alloc, asked, &store)
         }
         Plan::Forecast { tenant, day, store } => {
             let day = day.days();
             let asked = format!(in alloc; "forecast of {} by {day}", tenant.id())?;
-            told_over(alloc, asked, store)
+            told_over(alloc, asked, &store)
         }
     }
 }
@@ -304,7 +366,7 @@ fn told(alloc: Global, words: &[&str]) -> Result<String, Fail> {
         texts.push(Text::from_str(alloc, word)?)?;
     }
     match plan(alloc, &texts) {
-        Ok(plan) => told_of_plan(alloc, &plan),
+        Ok(plan) => told_of_plan(alloc, plan),
         Err(PlanFault::Usage) => Ok(String::from_str(alloc, "usage")?),
         Err(PlanFault::Memory) => Err("no memory".into()),
     }
@@ -350,6 +412,18 @@ fn each_form_over_kept_rows_is_read_and_all_else_is_none(rt: HostRuntime) -> Res
         assert!(rt; told_of_line(alloc, line)?.as_str() == *wanted, "{line}");
     }
     for line in KEPT_NO_FORMS {
+        assert!(rt; told_of_line(alloc, line)?.as_str() == "usage", "{line}");
+    }
+    Ok(())
+}
+
+#[test]
+fn each_form_over_etcd_is_read_and_all_else_is_none(rt: HostRuntime) -> Result<(), Fail> {
+    let alloc = rt.alloc();
+    for (line, wanted) in ETCD_FORMS {
+        assert!(rt; told_of_line(alloc, line)?.as_str() == *wanted, "{line}");
+    }
+    for line in ETCD_NO_FORMS {
         assert!(rt; told_of_line(alloc, line)?.as_str() == "usage", "{line}");
     }
     Ok(())

@@ -2,6 +2,7 @@
 ghost use Rattle.std.specs.Prelude.{◌≡◌};
 ghost use Rattle.wb_cli.specs.declared.plans.PlanFault.TheVariants.{Memory as NoMemory};
 
+use crate::store_word::StoreWord;
 use std::alloc::AllocError;
 use wb_base::{Day, Memory, Moment, Tenant, Text, UserId};
 
@@ -17,22 +18,22 @@ pub enum Lock {
 /// What the words ask.
 #[derive(Drop)]
 pub enum Plan {
-    /// Plays the script of the input, over rows in memory, or in the file of this path.
+    /// Plays the script of the input, over rows in memory, or where this word says.
     Play {
-        store: Option<Text>,
+        store: Option<StoreWord>,
     },
     /// Writes a script of so many turns.
     Make(u32),
     /// Plays that script, and writes what its replies and its host at the end come to.
     Tally(u32),
     /// Serves a host at an address by so many workers, which take turns by a lock: its setup is in the file of a path, and its rows are in
-    /// memory, or in the file of this path.
+    /// memory, or where this word says.
     Serve {
         setup: Text,
         listen: Text,
         workers: u32,
         lock: Lock,
-        store: Option<Text>,
+        store: Option<StoreWord>,
     },
     /// Writes the notices that are owed at a moment over the rows in the file of a path, and puts them into the outbox in another file.
     Notices {

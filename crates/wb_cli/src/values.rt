@@ -1,9 +1,10 @@
 //! What a word says: a path, a number, a moment, a date, a lock.
 ghost use Rattle.std.specs.Prelude.{◌≡◌, ◌↔◌, ◌<◌, ◌^◌, ℕ, ℤ, List, Option, decimal, Err, IfOk, IfSome, IsTrue, None, Some, option_map};
 ghost use Rattle.wb_cli.specs.declared.plans.Lock.{Lock as LockOf};
-ghost use Rattle.wb_cli.specs.CommandLine.{IsStore, SaysDate, SaysLock, SaysMoment, SaysNumber, SaysPath};
+ghost use Rattle.wb_cli.specs.CommandLine.{IsFileStore, IsStore, SaysDate, SaysFile, SaysLock, SaysMoment, SaysNumber, SaysPath};
 
 use crate::plans::{Lock, PlanFault};
+use crate::store_word::{StoreWord, is_etcd};
 use itoa::Buffer;
 use std::alloc::Global;
 use wb_base::{Day, Moment, Tenant, Text, UserId};
@@ -20,14 +21,41 @@ pub(crate) fn path_of(alloc: Global, word: Option<&str>) -> Result<Text, PlanFau
     }
 }
 
+// The path of a file that a word says.
+#[tactic(auto, using(crate::proofs::PlaceLemmas::file_path, crate::proofs::PlaceLemmas::no_file, crate::proofs::PlaceLemmas::path_file))]
+pub(crate) fn file_of(alloc: Global, word: Option<&str>) -> Result<Text, PlanFault>
+    ensures ok { IfOk result (SaysFile (option_map (λ word. word.now) word.entry)) }
+    ensures usage { result ≡ Err PlanFault.Usage → (path : List ℕ) → SaysFile (option_map (λ word. word.now) word.entry) path → ⊥ }
+{
+    let path = path_of(alloc, word)?;
+    if is_etcd(path.as_str()) {
+        return Err(PlanFault::Usage);
+    }
+    Ok(path)
+}
+
 // The path of a file, where one is named.
-pub(crate) fn store_at(alloc: Global, path: Option<&str>) -> Result<Option<Text>, PlanFault>
-    ensures ok { IfOk result (λ store. (store ≡ option_map (λ path. path.now) path.entry) × IsStore store) }
-    ensures usage { result ≡ Err PlanFault.Usage → IsStore (option_map (λ path. path.now) path.entry) → ⊥ }
+pub(crate) fn file_at(alloc: Global, path: Option<&str>) -> Result<Option<Text>, PlanFault>
+    ensures ok { IfOk result (λ store. (store ≡ option_map (λ path. path.now) path.entry) × IsFileStore store) }
+    ensures usage { result ≡ Err PlanFault.Usage → IsFileStore (option_map (λ path. path.now) path.entry) → ⊥ }
 {
     match path {
         None => Ok(None),
-        Some(path) => Ok(Some(path_of(alloc, Some(path))?)),
+        Some(path) => Ok(Some(file_of(alloc, Some(path))?)),
+    }
+}
+
+// Where rows are kept, where it is named.
+pub(crate) fn store_at(alloc: Global, word: Option<&str>) -> Result<Option<StoreWord>, PlanFault>
+    ensures ok { IfOk result (λ store. (store ≡ option_map (λ word. word.now) word.entry) × IsStore store) }
+    ensures usage { result ≡ Err PlanFault.Usage → IsStore (option_map (λ word. word.now) word.entry) → ⊥ }
+{
+    let Some(word) = word else {
+        return Ok(None);
+    };
+    match StoreWord::read(alloc, word)? {
+        Some(store) => Ok(Some(store)),
+        None => Err(PlanFault::Usage),
     }
 }
 

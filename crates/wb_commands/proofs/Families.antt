@@ -58,10 +58,10 @@ use Rattle.wb_tables.specs.declared.tenancy.Who.TheVariants as kept
 use Rattle.wb_model.proofs.Found.{find_held, held_filter}
 use Rattle.wb_model.specs.Opened.{Apart}
 use Rattle.wb_tables.proofs.Lookups.{find_kept, there-found, kept as kept_by}
-use Rattle.wb_commands.specs.Plans.{IsFit, IsFitAtOnce, IsLogin, IsPlan, PlansSubmission, Gives, change_of}
+use Rattle.wb_commands.specs.Plans.{IsFit, IsFitAtOnce, IsLogin, IsPlan, PlansSubmission, GivesSecret, change_of}
 use Rattle.wb_commands.specs.declared.draft.Asks.{Asks}
 use Rattle.wb_commands.specs.declared.draft.Asks.TheVariants as asked
-use Rattle.wb_commands.specs.Steps.{Alike, Answers, Enters, EntersAs, GivesBy, GivesIdentity, GivesUnder, IsErased, IsFitStep, IsNote, IsProposed, IsSound, IsStep, IsTold, IsWriting, Leaves, WritesDown, WritesIn, doing_of}
+use Rattle.wb_commands.specs.Steps.{Alike, Answers, Enters, EntersAs, GivesBy, GivesIdentity, GivesUnder, IsErased, IsFitStep, IsNote, IsProposed, IsSoundDoing, IsDraftOf, IsTold, IsWriting, Leaves, WritesDown, WritesIn, doing_of}
 use Rattle.wb_commands.specs.declared.plan.TurnPlan.{TurnPlan}
 use Rattle.wb_commands.specs.declared.plan.Mutation.{Mutation}
 use Rattle.wb_commands.specs.declared.plan.Mutation.TheVariants as planned
@@ -94,7 +94,7 @@ pub sealed_there : (time : ℕ) (items : List SealedItem) (x : PlainTenancy) (n 
 sealed_there time items x n case there = (let is : is_there n (live_plain time x.plain).cases ≡ true = there-found n (live_plain time x.plain).cases ∙ ap is_some there in rw is refl)
 
 -- what a reporter is shown of the own report
-pub own_step : (id : ℕ) (t : Tables) (at : TurnContext) (a : Asked) (who : Who) (case : Case) (sealed : Option Answered) (tenant : ℕ) (r : Told) (step : Draft) → a.command ≡ commands.OwnReport tenant → t.sealed case.number ≡ sealed → r ≡ told 200 (reporter_view case sealed) → IsTold r step → IsStep id t at a (On who case) step
+pub own_step : (id : ℕ) (t : Tables) (at : TurnContext) (a : Asked) (who : Who) (case : Case) (sealed : Option Answered) (tenant : ℕ) (r : Told) (step : Draft) → a.command ≡ commands.OwnReport tenant → t.sealed case.number ≡ sealed → r ≡ told 200 (reporter_view case sealed) → IsTold r step → IsDraftOf id t at a (On who case) step
 own_step id t at a who case sealed tenant r step e s is done =
     answered_step id t at a (On who case) (Shows_own case) r step
     (ap (λ c. verdict_by t.plain at who case (outcome t.plain.registry case.trail c) (effect_of at t.plain.registry (Some who) a.session case.trail (outline c))) e)
@@ -102,12 +102,12 @@ own_step id t at a who case sealed tenant r step e s is done =
 
 -- what a user is shown of an identity
 identity_by : (id : ℕ) (t : Tables) (at : TurnContext) (a : Asked) (who : Who) (case : Case) (r : Told) (step : Draft) (b : Bool) → verdict_at t.plain at a (On who case) ≡ judged (refuses_where (not b) not_found) Nothing (Shows_identity case.number)
-    → r ≡ cond b (told 200 (identity_view case.number (unwrap_or (t.sealed case.number) []))) not_found → IsTold r step → IsStep id t at a (On who case) step
+    → r ≡ cond b (told 200 (identity_view case.number (unwrap_or (t.sealed case.number) []))) not_found → IsTold r step → IsDraftOf id t at a (On who case) step
 identity_by id t at a who case r step true v is done = answered_step id t at a (On who case) (Shows_identity case.number) r step v (sym is) done
 identity_by id t at a who case r step false v is done = refused_step id t at a (On who case) r step (v ∙ ap Refused (sym is)) done
 
 pub identity_step : (id : ℕ) (t : Tables) (at : TurnContext) (a : Asked) (u : ℕ) (case : Case) (sealed : Option Answered) (tenant n : ℕ) (r : Told) (step : Draft) → a.command ≡ commands.ReadIdentity tenant n → t.sealed case.number ≡ sealed
-    → r ≡ cond (in_force u (disablings u t.plain.registry.users) at.time case.trail) (told 200 (identity_view case.number (unwrap_or sealed []))) not_found → IsTold r step → IsStep id t at a (On (TheUser u) case) step
+    → r ≡ cond (in_force u (disablings u t.plain.registry.users) at.time case.trail) (told 200 (identity_view case.number (unwrap_or sealed []))) not_found → IsTold r step → IsDraftOf id t at a (On (TheUser u) case) step
 identity_step id t at a u case sealed tenant n r step e s is done =
     identity_by id t at a (TheUser u) case r step (in_force u (disablings u t.plain.registry.users) at.time case.trail)
     (ap (λ c. verdict_by t.plain at (TheUser u) case (outcome t.plain.registry case.trail c) (effect_of at t.plain.registry (Some (TheUser u)) a.session case.trail (outline c))) e)
@@ -132,7 +132,7 @@ unfolding late_fault
 right r answers item e = rw e refl
 
 written_identity : (id : ℕ) (t : Tables) (at : TurnContext) (a : Asked) (r : Report) (tenant : ℕ) (answers : Answered) (item : FormItem) (step : Draft) → a.command ≡ commands.GiveIdentity tenant answers → report r.number t.plain.cases ≡ Some (case_of r) → form_of_trail r.case.items t.plain.registry.forms ≡ Some item
-    → identity_fault item.form (trails.answers r.case.items) answers ≡ None → WritesDown (kept.Reporter r.number) r (doings.Acts acts.Identity) (Some answers) (told 200 done_view) step → IsStep id t at a (On (TheReporter r.number) (case_of r)) step
+    → identity_fault item.form (trails.answers r.case.items) answers ≡ None → WritesDown (kept.Reporter r.number) r (doings.Acts acts.Identity) (Some answers) (told 200 done_view) step → IsDraftOf id t at a (On (TheReporter r.number) (case_of r)) step
 written_identity id t at a r tenant answers item (steps.Done plan) e there f none w = absurd w
 written_identity id t at a r tenant answers item (steps.Sets x) e there f none w = absurd w
 written_identity id t at a r tenant answers item (steps.Writes w) e there f none is = record {
@@ -148,18 +148,18 @@ written_identity id t at a r tenant answers item (steps.Writes w) e there f none
   checked = ap (λ c. outcome_refusal (outcome t.plain.registry r.case.items c)) e ∙ (ap (λ o. outcome_refusal (identity_outcome o r.case.items answers)) f ∙ right r answers item none);
   given = is.given_is ∙ sym (ap (secret_of t.plain.registry) e);
   told = is.told_is;
-  sound = subst (λ x. IsSound (actor_of (who_seen x)) w.doing) (sym is.who_is) (subst (IsSound actors.Reporter) (sym is.doing_is) ((λ trail early. tt), λ calendar trail. refl));
+  sound = subst (λ x. IsSoundDoing (actor_of (who_seen x)) w.doing) (sym is.who_is) (subst (IsSoundDoing actors.Reporter) (sym is.doing_is) ((λ trail early. tt), λ calendar trail. refl));
 }
 
 pub given_step : (id : ℕ) (t : Tables) (at : TurnContext) (a : Asked) (r : Report) (tenant : ℕ) (answers : Answered) (step : Draft) → a.command ≡ commands.GiveIdentity tenant answers → report r.number t.plain.cases ≡ Some (case_of r) → GivesIdentity t.plain.registry r answers step
-    → IsStep id t at a (On (TheReporter r.number) (case_of r)) step
+    → IsDraftOf id t at a (On (TheReporter r.number) (case_of r)) step
 given_step id t at a r tenant answers step e there gives = under (form_of_trail r.case.items t.plain.registry.forms) refl gives
   where
-    by : (item : FormItem) → form_of_trail r.case.items t.plain.registry.forms ≡ Some item → (fault : Option AnswerFault) → identity_fault item.form (trails.answers r.case.items) answers ≡ fault → GivesBy fault r answers step → IsStep id t at a (On (TheReporter r.number) (case_of r)) step
+    by : (item : FormItem) → form_of_trail r.case.items t.plain.registry.forms ≡ Some item → (fault : Option AnswerFault) → identity_fault item.form (trails.answers r.case.items) answers ≡ fault → GivesBy fault r answers step → IsDraftOf id t at a (On (TheReporter r.number) (case_of r)) step
     by item f (Some fault) is g = refused_step id t at a (On (TheReporter r.number) (case_of r)) (faulty fault) step (given_verdict t.plain at a r tenant answers (Some item) e f ∙ faulted t.plain at r answers item fault is) g
     by item f None is g = written_identity id t at a r tenant answers item step e there f is g
 
-    under : (o : Option FormItem) → form_of_trail r.case.items t.plain.registry.forms ≡ o → GivesUnder o r answers step → IsStep id t at a (On (TheReporter r.number) (case_of r)) step
+    under : (o : Option FormItem) → form_of_trail r.case.items t.plain.registry.forms ≡ o → GivesUnder o r answers step → IsDraftOf id t at a (On (TheReporter r.number) (case_of r)) step
     under None f g = refused_step id t at a (On (TheReporter r.number) (case_of r)) not_found step (given_verdict t.plain at a r tenant answers None e f) g
     under (Some item) f g = by item f (identity_fault item.form (trails.answers r.case.items) answers) refl g
 
@@ -169,10 +169,10 @@ erase_plan : (id : ℕ) (g : Registry) (sealed : Sealed) (v : Verdict) (secret :
 erase_plan id g sealed v secret n r plan e t is = subst (λ w. IsPlan id g sealed w secret plan) (sym e) (record {
   reply = sym t;
   change = sym (ap (change_of id g) is);
-  given = subst (λ c. Gives c secret) (sym is) tt;
+  given = subst (λ c. GivesSecret c secret) (sym is) tt;
 })
 
-pub erased_step : (id : ℕ) (t : Tables) (at : TurnContext) (a : Asked) (who : Who) (r : Report) (tenant n : ℕ) (step : Draft) → a.command ≡ commands.Delete tenant n → IsErased r step → IsStep id t at a (On who (case_of r)) step
+pub erased_step : (id : ℕ) (t : Tables) (at : TurnContext) (a : Asked) (who : Who) (r : Report) (tenant n : ℕ) (step : Draft) → a.command ≡ commands.Delete tenant n → IsErased r step → IsDraftOf id t at a (On who (case_of r)) step
 erased_step id t at a who r tenant n (steps.Done plan) e is =
     erase_plan id t.plain.registry t.sealed (verdict_at t.plain at a (On who (case_of r))) (sealed_part t.plain a) r.number (told 200 done_view) plan
     (ap (λ c. verdict_by t.plain at who (case_of r) (outcome t.plain.registry r.case.items c) (effect_of at t.plain.registry (Some who) a.session r.case.items (outline c))) e) is.0 is.1
@@ -197,17 +197,17 @@ login_plan id g sealed v secret s r plan e t is = subst (λ w. IsPlan id g seale
     change (planned.LogsIn l) e = ap LogsIn e
     change _ e = absurd e
 
-    gives : (c : Mutation) → IsLogin c s → Gives c secret
+    gives : (c : Mutation) → IsLogin c s → GivesSecret c secret
     gives (planned.LogsIn l) e = tt
     gives _ e = absurd e
 
-enters_step : (id : ℕ) (t : Tables) (at : TurnContext) (a : Asked) (to : Target) (role : Role) (who : Who) (step : Draft) → verdict_at t.plain at a to ≡ Accepted (LogsIn (new_session at t.plain.registry role who)) (Says (welcome at role)) → Enters at t.plain.registry role who step → IsStep id t at a to step
+enters_step : (id : ℕ) (t : Tables) (at : TurnContext) (a : Asked) (to : Target) (role : Role) (who : Who) (step : Draft) → verdict_at t.plain at a to ≡ Accepted (LogsIn (new_session at t.plain.registry role who)) (Says (welcome at role)) → Enters at t.plain.registry role who step → IsDraftOf id t at a to step
 enters_step id t at a to role who (steps.Done plan) v is = login_plan id t.plain.registry t.sealed (verdict_at t.plain at a to) (sealed_part t.plain a) (new_session at t.plain.registry role who) (welcome at role) plan v is.0 is.1
 enters_step id t at a to role who (steps.Writes w) v is = absurd is
 enters_step id t at a to role who (steps.Sets s) v is = absurd is
 
 -- of a reporter
-pub return_step : (id : ℕ) (t : Tables) (at : TurnContext) (a : Asked) (case : Case) (tenant : ℕ) (receipt : List ℕ) (step : Draft) → a.command ≡ commands.ReceiptLogin tenant receipt → Enters at t.plain.registry roles.Reporter (TheReporter case.number) step → IsStep id t at a (On (TheReporter case.number) case) step
+pub return_step : (id : ℕ) (t : Tables) (at : TurnContext) (a : Asked) (case : Case) (tenant : ℕ) (receipt : List ℕ) (step : Draft) → a.command ≡ commands.ReceiptLogin tenant receipt → Enters at t.plain.registry roles.Reporter (TheReporter case.number) step → IsDraftOf id t at a (On (TheReporter case.number) case) step
 return_step id t at a case tenant receipt step e is = enters_step id t at a (On (TheReporter case.number) case) roles.Reporter (TheReporter case.number) step
     (ap (λ c. verdict_by t.plain at (TheReporter case.number) case (outcome t.plain.registry case.trail c) (effect_of at t.plain.registry (Some (TheReporter case.number)) a.session case.trail (outline c))) e) is
 
@@ -219,13 +219,13 @@ alone_by p at who o e = judged (refusal_alone p.registry (drawing at p) o e) (ch
 abbrev on_user : Plain → TurnContext → ℕ → Option UserItem → Verdict
 on_user p at u o = alone_by p at (Some (TheUser u)) Unchecked (option_map_or (λ (x : UserItem). Comes x.role) o Misses)
 
-pub entry_step : (id : ℕ) (t : Tables) (at : TurnContext) (a : Asked) (u tenant : ℕ) (name password : List ℕ) (step : Draft) → a.command ≡ commands.Login tenant name password → EntersAs at t.plain.registry u (user u t.plain.registry.users) step → IsStep id t at a (Alone (Some (TheUser u))) step
+pub entry_step : (id : ℕ) (t : Tables) (at : TurnContext) (a : Asked) (u tenant : ℕ) (name password : List ℕ) (step : Draft) → a.command ≡ commands.Login tenant name password → EntersAs at t.plain.registry u (user u t.plain.registry.users) step → IsDraftOf id t at a (Alone (Some (TheUser u))) step
 entry_step id t at a u tenant name password step e is = by (user u t.plain.registry.users) refl is
   where
     verdict : (o : Option UserItem) → user u t.plain.registry.users ≡ o → verdict_at t.plain at a (Alone (Some (TheUser u))) ≡ on_user t.plain at u o
     verdict o f = ap (λ c. alone_by t.plain at (Some (TheUser u)) (outcome t.plain.registry [] c) (effect_of at t.plain.registry (Some (TheUser u)) a.session [] (outline c))) e ∙ ap (on_user t.plain at u) f
 
-    by : (o : Option UserItem) → user u t.plain.registry.users ≡ o → EntersAs at t.plain.registry u o step → IsStep id t at a (Alone (Some (TheUser u))) step
+    by : (o : Option UserItem) → user u t.plain.registry.users ≡ o → EntersAs at t.plain.registry u o step → IsDraftOf id t at a (Alone (Some (TheUser u))) step
     by None f g = refused_step id t at a (Alone (Some (TheUser u))) not_found step (verdict None f) g
     by (Some item) f g = enters_step id t at a (Alone (Some (TheUser u))) item.role (TheUser u) step (verdict (Some item) f) g
 
@@ -233,7 +233,7 @@ leave_plan : (id : ℕ) (g : Registry) (sealed : Sealed) (v : Verdict) (secret :
 leave_plan id g sealed v secret turn who r plan e t is = subst (λ w. IsPlan id g sealed w secret plan) (sym e) (record {
   reply = sym t;
   change = sym (ap (change_of id g) is);
-  given = subst (λ c. Gives c secret) (sym is) tt;
+  given = subst (λ c. GivesSecret c secret) (sym is) tt;
 })
 
 -- the verdict on a logout
@@ -242,7 +242,7 @@ leaving (Goes turn) who = Accepted (LogsOut turn who) (Says (told 200 done_view)
 leaving Misses who = Refused not_found
 leaving _ who = Refused not_found
 
-leaves_step : (id : ℕ) (t : Tables) (at : TurnContext) (a : Asked) (to : Target) (who : KeptWho) (s : Presented) (step : Draft) → verdict_at t.plain at a to ≡ leaving (goes s) (who_seen who) → Leaves s who step → IsStep id t at a to step
+leaves_step : (id : ℕ) (t : Tables) (at : TurnContext) (a : Asked) (to : Target) (who : KeptWho) (s : Presented) (step : Draft) → verdict_at t.plain at a to ≡ leaving (goes s) (who_seen who) → Leaves s who step → IsDraftOf id t at a to step
 leaves_step id t at a to who (presented.Token turn secret) (steps.Done plan) v is = leave_plan id t.plain.registry t.sealed (verdict_at t.plain at a to) (sealed_part t.plain a) turn who (told 200 done_view) plan v is.0 is.1
 leaves_step id t at a to who (presented.Token turn secret) (steps.Writes w) v is = absurd is
 leaves_step id t at a to who (presented.Token turn secret) (steps.Sets s) v is = absurd is
@@ -255,7 +255,7 @@ leaving_on p at r (presented.Token turn secret) = refl
 leaving_on p at r presented.None = refl
 leaving_on p at r presented.Bad = refl
 
-pub leave_on_step : (id : ℕ) (t : Tables) (at : TurnContext) (a : Asked) (r : Report) (tenant : ℕ) (step : Draft) → a.command ≡ commands.Logout tenant → Leaves a.session (kept.Reporter r.number) step → IsStep id t at a (On (TheReporter r.number) (case_of r)) step
+pub leave_on_step : (id : ℕ) (t : Tables) (at : TurnContext) (a : Asked) (r : Report) (tenant : ℕ) (step : Draft) → a.command ≡ commands.Logout tenant → Leaves a.session (kept.Reporter r.number) step → IsDraftOf id t at a (On (TheReporter r.number) (case_of r)) step
 leave_on_step id t at a r tenant step e is = leaves_step id t at a (On (TheReporter r.number) (case_of r)) (kept.Reporter r.number) a.session step
     (ap (λ c. verdict_by t.plain at (TheReporter r.number) (case_of r) (outcome t.plain.registry r.case.items c) (effect_of at t.plain.registry (Some (TheReporter r.number)) a.session r.case.items (outline c))) e ∙ leaving_on t.plain at r a.session) is
 
@@ -265,13 +265,13 @@ leaving_alone p at u (presented.Token turn secret) = refl
 leaving_alone p at u presented.None = refl
 leaving_alone p at u presented.Bad = refl
 
-pub leave_alone_step : (id : ℕ) (t : Tables) (at : TurnContext) (a : Asked) (u tenant : ℕ) (step : Draft) → a.command ≡ commands.Logout tenant → Leaves a.session (kept.User u) step → IsStep id t at a (Alone (Some (TheUser u))) step
+pub leave_alone_step : (id : ℕ) (t : Tables) (at : TurnContext) (a : Asked) (u tenant : ℕ) (step : Draft) → a.command ≡ commands.Logout tenant → Leaves a.session (kept.User u) step → IsDraftOf id t at a (Alone (Some (TheUser u))) step
 leave_alone_step id t at a u tenant step e is = leaves_step id t at a (Alone (Some (TheUser u))) (kept.User u) a.session step
     (ap (λ c. alone_by t.plain at (Some (TheUser u)) (outcome t.plain.registry [] c) (effect_of at t.plain.registry (Some (TheUser u)) a.session [] (outline c))) e ∙ leaving_alone t.plain at u a.session) is
 
 -- ---- settings
 
-pub proposed_step : (id : ℕ) (t : Tables) (at : TurnContext) (a : Asked) (u : ℕ) (c : Command) (next : Proposal) (step : Draft) → a.command ≡ c → outline c ≡ c → effect_of at t.plain.registry (Some (TheUser u)) a.session [] c ≡ Sets id next → IsProposed t.plain.registry next step → IsStep id t at a (Alone (Some (TheUser u))) step
+pub proposed_step : (id : ℕ) (t : Tables) (at : TurnContext) (a : Asked) (u : ℕ) (c : Command) (next : Proposal) (step : Draft) → a.command ≡ c → outline c ≡ c → effect_of at t.plain.registry (Some (TheUser u)) a.session [] c ≡ Sets id next → IsProposed t.plain.registry next step → IsDraftOf id t at a (Alone (Some (TheUser u))) step
 proposed_step id t at a u c next (steps.Done plan) e o f is =
     refused_plan id t.plain.registry t.sealed (verdict_at t.plain at a (Alone (Some (TheUser u)))) (sealed_part t.plain a) plan.told plan
     (ap (alone_by t.plain at (Some (TheUser u)) (outcome t.plain.registry [] a.command)) effect

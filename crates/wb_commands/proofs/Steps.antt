@@ -26,7 +26,7 @@ use Rattle.wb_tables.specs.declared.proposal.Proposal.{Proposal as KeptProposal}
 use Rattle.wb_tables.specs.declared.proposal.Proposal.TheVariants as proposals
 use Rattle.wb_tables.specs.declared.tenancy.Report.{Report}
 use Rattle.wb_tables.specs.declared.tenancy.Who.{Who as KeptWho}
-use Rattle.wb_tables.specs.Configured.{IsSound as IsSoundProposal, fault_of, proposal_of, setting_of}
+use Rattle.wb_tables.specs.Configured.{IsSoundProposal, fault_of, proposal_of, setting_of}
 use Rattle.wb_tables.specs.Lives.{case_of}
 use Rattle.wb_tables.specs.Logins.{who_seen}
 use Rattle.wb_commands.specs.declared.plan.TurnPlan.{TurnPlan}
@@ -38,9 +38,9 @@ use Rattle.wb_commands.specs.declared.draft.Setting.{Setting}
 use Rattle.wb_commands.specs.declared.draft.Draft.{Draft}
 use Rattle.wb_commands.specs.declared.draft.Draft.TheVariants as steps
 use Rattle.wb_commands.specs.declared.draft.Writing.{Writing}
-use Rattle.wb_commands.specs.Plans.{IsPlan, Gives, PlansOn, change_of}
+use Rattle.wb_commands.specs.Plans.{IsPlan, GivesSecret, PlansOn, change_of}
 use Rattle.wb_queries.specs.Looks.{IsLook, seen}
-use Rattle.wb_commands.specs.Steps.{Alike, Answers, Bars, DoesLike, IsAsked, IsNote, IsPutIn, IsSetting, IsSound, IsSoundAsk, IsStep, IsTold, IsWriting, SetsIn, WritesDown, WritesIn, barred, doing_of, most_of}
+use Rattle.wb_commands.specs.Steps.{Alike, Answers, Bars, DoesLike, IsAskedOnReport, IsNote, IsPutIn, IsSetting, IsSoundDoing, IsSoundAsk, IsDraftOf, IsTold, IsWriting, SetsIn, WritesDown, WritesIn, barred, doing_of, most_of}
 
 -- ---- plans that only answer
 
@@ -48,33 +48,33 @@ pub answered_plan : (id : ℕ) (g : Registry) (sealed : Sealed) (v : Verdict) (s
 answered_plan id g sealed v secret answer plan e told none = subst (λ w. IsPlan id g sealed w secret plan) (sym e) (record {
   reply = told;
   change = sym (ap (change_of id g) none);
-  given = subst (λ c. Gives c secret) (sym none) tt;
+  given = subst (λ c. GivesSecret c secret) (sym none) tt;
 })
 
 pub refused_plan : (id : ℕ) (g : Registry) (sealed : Sealed) (v : Verdict) (secret : Option Answered) (r : Told) (plan : TurnPlan) → v ≡ Refused r → plan.told ≡ r → plan.change ≡ planned.Nothing → IsPlan id g sealed v secret plan
 refused_plan id g sealed v secret r plan e told none = subst (λ w. IsPlan id g sealed w secret plan) (sym e) (record {
   reply = sym told;
   change = sym (ap (change_of id g) none);
-  given = subst (λ c. Gives c secret) (sym none) tt;
+  given = subst (λ c. GivesSecret c secret) (sym none) tt;
 })
 
 -- the verdict on a request's target
 abbrev pub verdict_at : Plain → TurnContext → Asked → Target → Verdict
 verdict_at p at a to = verdict_on p at (request p.registry (trail_at to) a) to
 
-pub refused_step : (id : ℕ) (t : Tables) (at : TurnContext) (a : Asked) (to : Target) (r : Told) (step : Draft) → verdict_at t.plain at a to ≡ Refused r → IsTold r step → IsStep id t at a to step
+pub refused_step : (id : ℕ) (t : Tables) (at : TurnContext) (a : Asked) (to : Target) (r : Told) (step : Draft) → verdict_at t.plain at a to ≡ Refused r → IsTold r step → IsDraftOf id t at a to step
 refused_step id t at a to r (steps.Done plan) e is = refused_plan id t.plain.registry t.sealed (verdict_at t.plain at a to) (sealed_part t.plain a) r plan e is.0 is.1
 refused_step id t at a to r (steps.Writes w) e is = absurd is
 refused_step id t at a to r (steps.Sets s) e is = absurd is
 
-pub answered_step : (id : ℕ) (t : Tables) (at : TurnContext) (a : Asked) (to : Target) (answer : Answer) (r : Told) (step : Draft) → verdict_at t.plain at a to ≡ Accepted Nothing answer → said answer t.sealed ≡ r → IsTold r step → IsStep id t at a to step
+pub answered_step : (id : ℕ) (t : Tables) (at : TurnContext) (a : Asked) (to : Target) (answer : Answer) (r : Told) (step : Draft) → verdict_at t.plain at a to ≡ Accepted Nothing answer → said answer t.sealed ≡ r → IsTold r step → IsDraftOf id t at a to step
 answered_step id t at a to answer r (steps.Done plan) e told is = answered_plan id t.plain.registry t.sealed (verdict_at t.plain at a to) (sealed_part t.plain a) answer plan e (told ∙ sym is.0) is.1
 answered_step id t at a to answer r (steps.Writes w) e told is = absurd is
 answered_step id t at a to answer r (steps.Sets s) e told is = absurd is
 
 -- ---- looks
 
-pub looks_step : (id : ℕ) (t : Tables) (at : TurnContext) (a : Asked) (who : Option Who) (r : Told) (step : Draft) (e : Effect) → effect_of at t.plain.registry who a.session [] (outline a.command) ≡ e → IsLook e → r ≡ seen at t.plain who e → IsTold r step → IsStep id t at a (Alone who) step
+pub looks_step : (id : ℕ) (t : Tables) (at : TurnContext) (a : Asked) (who : Option Who) (r : Told) (step : Draft) (e : Effect) → effect_of at t.plain.registry who a.session [] (outline a.command) ≡ e → IsLook e → r ≡ seen at t.plain who e → IsTold r step → IsDraftOf id t at a (Alone who) step
 looks_step id t at a who r step (Looks view) is look told done =
     answered_step id t at a (Alone who) (answer_alone at t.plain who (Looks view)) r step (ap (λ x. judged (refusal_alone t.plain.registry (drawing at t.plain) (outcome t.plain.registry [] a.command) x) (change_alone at t.plain.registry who (outcome t.plain.registry [] a.command) x) (answer_alone at t.plain who x)) is) (sym told) done
 looks_step id t at a who r step Misses is look told done =
@@ -98,7 +98,7 @@ alike_self trail d = record { fault = λ user. refl; deed = λ calendar time. re
 
 -- what is asked of a report, and answered, is a step
 pub asked_step : (id : ℕ) (t : Tables) (at : TurnContext) (a : Asked) (who : KeptWho) (r : Report) (asks : Asks) (step : Draft) → IsUnanswered t.plain.registry r.case.items a → report r.number t.plain.cases ≡ Some (case_of r)
-    → IsAsked at t.plain.registry (Some (who_seen who)) a.session r.case.items a.command asks → IsSoundAsk (actor_of (who_seen who)) asks → Answers who r asks step → IsStep id t at a (On (who_seen who) (case_of r)) step
+    → IsAskedOnReport at t.plain.registry (Some (who_seen who)) a.session r.case.items a.command asks → IsSoundAsk (actor_of (who_seen who)) asks → Answers who r asks step → IsDraftOf id t at a (On (who_seen who) (case_of r)) step
 asked_step id t at a who r asks.Misses step u there asked sound told =
     refused_step id t at a (On (who_seen who) (case_of r)) not_found step
     (ap (λ c. verdict_by t.plain at (who_seen who) (case_of r) (outcome t.plain.registry r.case.items a.command) (effect_of at t.plain.registry (Some (who_seen who)) a.session r.case.items c)) u.outline_is
@@ -115,7 +115,7 @@ asked_step id t at a who r (asks.Bars fault) step u there asked sound told =
     bars _ is = absurd is
 asked_step id t at a who r (asks.Does doing) step u there asked sound told = by step told (effect_of at t.plain.registry (Some (who_seen who)) a.session r.case.items a.command) refl asked
   where
-    by : (s : Draft) → WritesDown who r doing None (doing_told r.case.items (doing_of doing)) s → (e : Effect) → effect_of at t.plain.registry (Some (who_seen who)) a.session r.case.items a.command ≡ e → DoesLike r.case.items e (doing_of doing) → IsStep id t at a (On (who_seen who) (case_of r)) s
+    by : (s : Draft) → WritesDown who r doing None (doing_told r.case.items (doing_of doing)) s → (e : Effect) → effect_of at t.plain.registry (Some (who_seen who)) a.session r.case.items a.command ≡ e → DoesLike r.case.items e (doing_of doing) → IsDraftOf id t at a (On (who_seen who) (case_of r)) s
     by (steps.Done plan) w e is like = absurd w
     by (steps.Sets x) w e is like = absurd w
     by (steps.Writes w) is-written (Writes d) is like = record {
@@ -129,7 +129,7 @@ asked_step id t at a who r (asks.Does doing) step u there asked sound told = by 
       checked = ap outcome_refusal u.outcome_is;
       given = is-written.given_is ∙ sym u.secret_is;
       told = is-written.told_is ∙ sym like.told;
-      sound = subst (λ x. IsSound (actor_of (who_seen x)) w.doing) (sym is-written.who_is) (subst (IsSound (actor_of (who_seen who))) (sym is-written.doing_is) sound);
+      sound = subst (λ x. IsSoundDoing (actor_of (who_seen x)) w.doing) (sym is-written.who_is) (subst (IsSoundDoing (actor_of (who_seen who))) (sym is-written.doing_is) sound);
     }
     by (steps.Writes w) is-written _ is like = absurd like
 
@@ -157,7 +157,7 @@ written_plan id t at a to w plan h (inl is) = record {
     noted (planned.Notes n) e = λ i. Notes (e.0 i) (e.1 i)
     noted _ e = absurd e
 
-    gives : (c : Mutation) → IsNote c w.number (doing_entry t.plain.registry.settings.calendar at.time (who_seen w.who) h.case.trail (doing_of w.doing)) w.given → Gives c (sealed_part t.plain a)
+    gives : (c : Mutation) → IsNote c w.number (doing_entry t.plain.registry.settings.calendar at.time (who_seen w.who) h.case.trail (doing_of w.doing)) w.given → GivesSecret c (sealed_part t.plain a)
     gives (planned.Notes n) e = e.2 ∙ h.given
     gives _ e = absurd e
 written_plan id t at a to w plan h (inr is) =
@@ -199,7 +199,7 @@ set_plan id t at a to s plan h (inl is) = record {
     put (planned.Configures c) e = ap (λ x. Configures (setting_of id t.plain.registry x)) e.0
     put _ e = absurd e
 
-    gives : (c : Mutation) → IsPutIn id t.plain.registry s.proposal c → Gives c (sealed_part t.plain a)
+    gives : (c : Mutation) → IsPutIn id t.plain.registry s.proposal c → GivesSecret c (sealed_part t.plain a)
     gives (planned.Configures c) e = tt
     gives _ e = absurd e
 set_plan id t at a to s plan h (inr is) =

@@ -24,7 +24,7 @@ use Rattle.wb_model.specs.Submissions.{Drawing, drawing, submission_entry}
 use Rattle.wb_model.specs.Tables.{Registry, Plain, Who, context, newest_form}
 use Rattle.wb_tables.specs.Places.{AreGoodForms}
 use Rattle.wb_tables.specs.Receipted.{is_submitted}
-use Rattle.wb_commands.specs.Plans.{submission_verdict, drawing_refusal, PlansSubmission, IsPlan, IsBegun, IsFitAtOnce, Gives, begins, change_of, IsAsking}
+use Rattle.wb_commands.specs.Plans.{submission_verdict, drawing_refusal, PlansSubmission, IsPlan, IsBegun, IsFitAtOnce, GivesSecret, begins, change_of, IsAsking}
 use Rattle.wb_commands.specs.declared.plan.Mutation.{Mutation}
 use Rattle.wb_model.specs.declared.entry.Entry.{Entry}
 use Rattle.wb_tables.specs.declared.tenancy.Tenancy.{Tenancy as KeptTenancy}
@@ -33,7 +33,7 @@ use Rattle.wb_commands.specs.declared.plan.Mutation.TheVariants as planned
 
 -- ---- plans of verdicts
 
-pub made_plan : (id : ℕ) (g : Registry) (sealed : Sealed) (v : Verdict) (s : Option Answered) (change : Change) (t : Told) (plan : TurnPlan) → v ≡ Accepted change (Says t) → plan.told ≡ t → change ≡ change_of id g plan.change → Gives plan.change s → IsPlan id g sealed v s plan
+pub made_plan : (id : ℕ) (g : Registry) (sealed : Sealed) (v : Verdict) (s : Option Answered) (change : Change) (t : Told) (plan : TurnPlan) → v ≡ Accepted change (Says t) → plan.told ≡ t → change ≡ change_of id g plan.change → GivesSecret plan.change s → IsPlan id g sealed v s plan
 made_plan id g sealed v s change t plan e told same has = subst (λ w. IsPlan id g sealed w s plan) (sym e) (record {
   reply = sym told;
   change = same;
@@ -99,7 +99,7 @@ begins_it : (id : ℕ) (g : Registry) (c : Mutation) (e : Entry) (given : Option
 begins_it id g (planned.Begins o) e given is = ap begins is.0
 begins_it id g _ e given is = absurd is
 
-gives_it : (c : Mutation) (e : Entry) (given secret : Option Answered) → IsBegun c e given → given ≡ secret → Gives c secret
+gives_it : (c : Mutation) (e : Entry) (given secret : Option Answered) → IsBegun c e given → given ≡ secret → GivesSecret c secret
 gives_it (planned.Begins o) e given secret is same = is.1 ∙ same
 gives_it _ e given secret is same = absurd is
 

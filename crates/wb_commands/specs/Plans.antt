@@ -22,10 +22,10 @@ use Rattle.wb_model.specs.Submissions.{Drawing, drawing}
 use Rattle.wb_model.specs.Tables.{Registry, Plain, Session, Who, context as context_by, newest_form, is_there}
 use Rattle.wb_model.specs.Targets.{Target, trail_at}
 use Rattle.wb_tables.specs.declared.tenancy.Tenancy.{Tenancy as KeptTenancy}
-use Rattle.wb_tables.specs.Configured.{IsReady as IsReadyToSet, row_of, setting_of}
+use Rattle.wb_tables.specs.Configured.{IsReadyToSet, row_of, setting_of}
 use Rattle.wb_tables.specs.Kept.{plain_of, live_plain}
 use Rattle.wb_tables.specs.Logins.{AreEarlier, login_of, session_of, who_seen}
-use Rattle.wb_tables.specs.Noted.{IsReady}
+use Rattle.wb_tables.specs.Noted.{IsReadyNote}
 use Rattle.wb_tables.specs.Receipted.{is_submitted}
 use Rattle.wb_commands.specs.declared.plan.TurnPlan.{TurnPlan}
 use Rattle.wb_commands.specs.declared.plan.Mutation.{Mutation}
@@ -53,10 +53,10 @@ given_of (planned.Notes n) = n.secret
 given_of _ = None
 
 -- a change that takes identity answers has these
-abbrev pub Gives : Mutation → Option Answered → Type 0
-Gives (planned.Begins o) given = o.secret ≡ given
-Gives (planned.Notes n) given = n.secret ≡ given
-Gives _ given = Unit {0}
+abbrev pub GivesSecret : Mutation → Option Answered → Type 0
+GivesSecret (planned.Begins o) given = o.secret ≡ given
+GivesSecret (planned.Notes n) given = n.secret ≡ given
+GivesSecret _ given = Unit {0}
 
 -- a report begins with this entry, and these identity answers
 abbrev pub IsBegun : Mutation → Entry → Option Answered → Type 0
@@ -86,17 +86,17 @@ IsFit time x (planned.Configures c) = c.row ≡ row_of x.configuration.tenant x.
 IsFit time x change = IsFitAtOnce x change
 
 -- so much room for identity answers, and what there is in a tenant's tables, is enough for a change; what only goes needs none
-abbrev pub HasRoom : KeptTenancy → ℕ → Mutation → Type 0
-HasRoom x sealed (planned.Begins o) = (0 < x.cases.spare) × (0 < sealed)
-HasRoom x sealed (planned.Notes n) = IsReady n.number n.entry x.cases.items × (0 < x.cases.spare) × (0 < sealed)
-HasRoom x sealed (planned.LogsIn login) = 0 < x.sessions.spare
-HasRoom x sealed (planned.Configures c) = IsReadyToSet x.configuration c.proposal
-HasRoom x sealed _ = Unit {0}
+abbrev pub HasRoomFor : KeptTenancy → ℕ → Mutation → Type 0
+HasRoomFor x sealed (planned.Begins o) = (0 < x.cases.spare) × (0 < sealed)
+HasRoomFor x sealed (planned.Notes n) = IsReadyNote n.number n.entry x.cases.items × (0 < x.cases.spare) × (0 < sealed)
+HasRoomFor x sealed (planned.LogsIn login) = 0 < x.sessions.spare
+HasRoomFor x sealed (planned.Configures c) = IsReadyToSet x.configuration c.proposal
+HasRoomFor x sealed _ = Unit {0}
 
 -- a tenant's tables, and the identity answers, have all that a change takes
-pub record IsRoomy (time : ℕ) (x : KeptTenancy) (sealed : ℕ) (change : Mutation) : Type 0 where
+pub record IsRoomyFor (time : ℕ) (x : KeptTenancy) (sealed : ℕ) (change : Mutation) : Type 0 where
   pub fit : IsFit time x change
-  pub room : HasRoom x sealed change
+  pub room : HasRoomFor x sealed change
 
 -- ---- plans
 
@@ -105,15 +105,15 @@ pub record IsRoomy (time : ℕ) (x : KeptTenancy) (sealed : ℕ) (change : Mutat
 pub record IsPlan (id : ℕ) (g : Registry) (sealed : Sealed) (v : Verdict) (secret : Option Answered) (plan : TurnPlan) : Type 0 where
   pub reply : reply_by v sealed ≡ plan.told
   pub change : verdict_change v ≡ change_of id g plan.change
-  pub given : Gives plan.change secret
+  pub given : GivesSecret plan.change secret
 
 -- the plan of a request on this target
 abbrev pub PlansOn : ℕ → Tables → TurnContext → Asked → Target → TurnPlan → Type 0
 PlansOn id t at a to plan = IsPlan id t.plain.registry t.sealed (verdict_on t.plain at (request t.plain.registry (trail_at to) a) to) (sealed_part t.plain a) plan
 
 -- the plan of a request over a tenant's purged tables
-abbrev pub Plans : ℕ → Tables → TurnContext → Asked → TurnPlan → Type 0
-Plans id t at a plan = IsPlan id t.plain.registry t.sealed (ruling t at a) (sealed_part t.plain a) plan
+abbrev pub PlansTurn : ℕ → Tables → TurnContext → Asked → TurnPlan → Type 0
+PlansTurn id t at a plan = IsPlan id t.plain.registry t.sealed (ruling t at a) (sealed_part t.plain a) plan
 
 -- a tenant's tables at a time, with these identity answers
 abbrev pub tables_at : ℕ → KeptTenancy → Sealed → Tables

@@ -44,10 +44,10 @@ use Rattle.wb_tables.specs.declared.tenancy.Who.{Who as KeptWho}
 use Rattle.wb_tables.specs.declared.tenancy.Who.TheVariants as kept
 use Rattle.wb_tables.specs.declared.proposal.Proposal.{Proposal as KeptProposal}
 use Rattle.wb_tables.specs.declared.proposal.Proposal.TheVariants as proposals
-use Rattle.wb_tables.specs.Configured.{IsSound as IsSoundProposal, fault_of, proposal_of, row_of}
+use Rattle.wb_tables.specs.Configured.{IsSoundProposal, fault_of, proposal_of, row_of}
 use Rattle.wb_tables.specs.Lives.{HasEarlyDays}
 use Rattle.wb_tables.specs.Logins.{who_seen}
-use Rattle.wb_tables.specs.Noted.{IsReady}
+use Rattle.wb_tables.specs.Noted.{IsReadyNote}
 use Rattle.wb_queries.specs.declared.turn.TurnContext.{TurnContext as KeptAt}
 use Rattle.wb_commands.specs.declared.plan.TurnPlan.{TurnPlan}
 use Rattle.wb_commands.specs.declared.plan.Mutation.{Mutation}
@@ -73,9 +73,9 @@ doing_of (doings.Acts act) = model.Acts act
 doing_of (doings.Moves move) = model.Moves move
 
 -- an act is in its ranges on any trail of early days, and by whom it may be; a move is a user's
-abbrev pub IsSound : Actor → Doing → Type 0
-IsSound by (doings.Acts act) = ((trail : List Entry) → HasEarlyDays trail → IsInRange trail act) × ((calendar : Calendar) (trail : List Entry) → right_actor (act_deed calendar trail act) by ≡ true)
-IsSound by (doings.Moves move) = is_reporter by ≡ false
+abbrev pub IsSoundDoing : Actor → Doing → Type 0
+IsSoundDoing by (doings.Acts act) = ((trail : List Entry) → HasEarlyDays trail → IsInRange trail act) × ((calendar : Calendar) (trail : List Entry) → right_actor (act_deed calendar trail act) by ≡ true)
+IsSoundDoing by (doings.Moves move) = is_reporter by ≡ false
 
 -- two doings are the same on a report of this trail
 pub record Alike (trail : List Entry) (d e : model.Doing) : Type 0 where
@@ -94,13 +94,13 @@ Bars trail fault (effects.Writes (model.Acts act)) = case_fault trail act ≡ So
 Bars trail fault _ = ⊥
 
 -- the command, which has no answers, asks for that on a report of this trail
-abbrev pub IsAsked : TurnContext → Registry → Option Who → Presented → List Entry → Command → Asks → Type 0
-IsAsked at g who s trail command asks.Misses = effect_of at g who s trail command ≡ effects.Misses
-IsAsked at g who s trail command (asks.Bars fault) = Bars trail fault (effect_of at g who s trail command)
-IsAsked at g who s trail command (asks.Does doing) = DoesLike trail (effect_of at g who s trail command) (doing_of doing)
+abbrev pub IsAskedOnReport : TurnContext → Registry → Option Who → Presented → List Entry → Command → Asks → Type 0
+IsAskedOnReport at g who s trail command asks.Misses = effect_of at g who s trail command ≡ effects.Misses
+IsAskedOnReport at g who s trail command (asks.Bars fault) = Bars trail fault (effect_of at g who s trail command)
+IsAskedOnReport at g who s trail command (asks.Does doing) = DoesLike trail (effect_of at g who s trail command) (doing_of doing)
 
 abbrev pub IsSoundAsk : Actor → Asks → Type 0
-IsSoundAsk by (asks.Does doing) = IsSound by doing
+IsSoundAsk by (asks.Does doing) = IsSoundDoing by doing
 IsSoundAsk by asks.Misses = Unit {0}
 IsSoundAsk by (asks.Bars fault) = Unit {0}
 
@@ -122,7 +122,7 @@ pub record IsWriting (p : Plain) (at : TurnContext) (a : Asked) (to : Target) (w
   pub checked : outcome_refusal (outcome p.registry case.trail a.command) ≡ None
   pub given : w.given ≡ sealed_part p a
   pub told : w.told ≡ doing_told case.trail does
-  pub sound : IsSound (actor_of (who_seen w.who)) w.doing
+  pub sound : IsSoundDoing (actor_of (who_seen w.who)) w.doing
 
 -- what is going to be set is what the request sets of its tenant
 pub record IsSetting (id : ℕ) (p : Plain) (at : TurnContext) (a : Asked) (to : Target) (s : Setting) : Type 0 where
@@ -132,14 +132,14 @@ pub record IsSetting (id : ℕ) (p : Plain) (at : TurnContext) (a : Asked) (to :
   pub told : s.told ≡ proposal_told p.registry (proposal_of s.proposal)
   pub sound : IsSoundProposal s.proposal
 
-abbrev pub IsStep : ℕ → Tables → TurnContext → Asked → Target → Draft → Type 0
-IsStep id t at a to (steps.Done plan) = PlansOn id t at a to plan
-IsStep id t at a to (steps.Writes w) = IsWriting t.plain at a to w
-IsStep id t at a to (steps.Sets s) = IsSetting id t.plain at a to s
+abbrev pub IsDraftOf : ℕ → Tables → TurnContext → Asked → Target → Draft → Type 0
+IsDraftOf id t at a to (steps.Done plan) = PlansOn id t at a to plan
+IsDraftOf id t at a to (steps.Writes w) = IsWriting t.plain at a to w
+IsDraftOf id t at a to (steps.Sets s) = IsSetting id t.plain at a to s
 
 -- the step of a request to a tenant, whatever identity answers there are
 abbrev pub StepsTo : KeptTenancy → KeptAt → Asked → Target → Draft → Type 0
-StepsTo x at a to step = (sealed : Sealed) → IsStep x.configuration.tenant (tables_at at.time x sealed) (at_of at) a to step
+StepsTo x at a to step = (sealed : Sealed) → IsDraftOf x.configuration.tenant (tables_at at.time x sealed) (at_of at) a to step
 
 -- a plan that is done is fit
 abbrev pub IsFitStep : KeptTenancy → Draft → Type 0
@@ -230,7 +230,7 @@ IsJudged calendar trail time who doing (judged.Barred why) = doing_fault trail (
 
 -- there is room for the entry on its report
 abbrev pub IsReadyFor : ℕ → List Report → Judged → Type 0
-IsReadyFor n reports (judged.Noted entry) = IsReady n entry reports
+IsReadyFor n reports (judged.Noted entry) = IsReadyNote n entry reports
 IsReadyFor n reports (judged.Barred why) = Unit {0}
 
 -- ---- plans of steps

@@ -11,7 +11,7 @@ ghost use Rattle.wb_model.specs.declared.entry.Actor.TheVariants as actors;
 ghost use Rattle.wb_model.specs.declared.entry.Entry.{Entry};
 ghost use Rattle.wb_model.specs.declared.command.Command.TheVariants as commands;
 ghost use Rattle.wb_queries.specs.Looks.{at_of};
-ghost use Rattle.wb_commands.specs.Steps.{IsAsked, IsSoundAsk, IsRetention};
+ghost use Rattle.wb_commands.specs.Steps.{IsAskedOnReport, IsSoundAsk, IsRetention};
 ghost use Rattle.wb_queries.specs.Suited.{is_act};
 ghost use Rattle.wb_tables.specs.Kept.{case_of, plain_of, lives_on};
 ghost use Rattle.wb_tables.specs.Places.{IsLookedUp};
@@ -33,7 +33,7 @@ fn does(act: Act) -> Asks
 
 /// What a reporter's comment on the own report is.
 pub fn commenting(text: &Text) -> Result<Asks, Memory>
-    ensures asked { IfOk result (λ asks. (at : Turn) (g : Registry) (n t : ℕ) (s : Presented) (trail : List Entry) → IsAsked at g (Some (TheReporter n)) s trail (commands.OwnComment t text.now) asks) }
+    ensures asked { IfOk result (λ asks. (at : Turn) (g : Registry) (n t : ℕ) (s : Presented) (trail : List Entry) → IsAskedOnReport at g (Some (TheReporter n)) s trail (commands.OwnComment t text.now) asks) }
     ensures sound { IfOk result (IsSoundAsk actors.Reporter) }
 {
     Ok(does(Act::Comment {
@@ -53,7 +53,7 @@ fn today(tenancy: &Tenancy, at: &TurnContext) -> Day
 
 // The act that a user's share is: the user must be an enabled recipient.
 fn share(tenancy: &Tenancy, reader: UserId) -> Asks
-    ensures asked { (at : Turn) (user : ℕ) (s : Presented) (trail : List Entry) (t n : ℕ) → IsAsked at tenancy.now.configuration.registry (Some (TheUser user)) s trail (commands.Share t n reader) result }
+    ensures asked { (at : Turn) (user : ℕ) (s : Presented) (trail : List Entry) (t n : ℕ) → IsAskedOnReport at tenancy.now.configuration.registry (Some (TheUser user)) s trail (commands.Share t n reader) result }
     ensures sound { (user : ℕ) → IsSoundAsk (actors.User user) result }
 {
     match tenancy.configuration.user(reader) {
@@ -81,7 +81,7 @@ fn reader_of(readers: &[UserId], u: u32) -> Option<UserId>
 
 // The act that the removal of a reader is: who does not read the report is no reader, whatever the number.
 fn unshare(report: &Report, u: u32) -> Asks
-    ensures asked { (at : Turn) (g : Registry) (user : ℕ) (s : Presented) (t n : ℕ) → IsAsked at g (Some (TheUser user)) s report.now.case.items (commands.Unshare t n u) result }
+    ensures asked { (at : Turn) (g : Registry) (user : ℕ) (s : Presented) (t n : ℕ) → IsAskedOnReport at g (Some (TheUser user)) s report.now.case.items (commands.Unshare t n u) result }
     ensures sound { (user : ℕ) → IsSoundAsk (actors.User user) result }
 {
     match reader_of(report.case.summary().readers.as_slice(), u) {
@@ -93,7 +93,7 @@ fn unshare(report: &Report, u: u32) -> Asks
 // The act that a transfer is: the context must be there.
 fn transfer(tenancy: &Tenancy, context: u32) -> Result<Asks, Memory>
     requires place { IsLookedUp (plain_of tenancy.now) }
-    ensures asked { IfOk result (λ asks. (at : Turn) (user : ℕ) (s : Presented) (trail : List Entry) (t n : ℕ) → IsAsked at tenancy.now.configuration.registry (Some (TheUser user)) s trail (commands.Transfer t n context) asks) }
+    ensures asked { IfOk result (λ asks. (at : Turn) (user : ℕ) (s : Presented) (trail : List Entry) (t n : ℕ) → IsAskedOnReport at tenancy.now.configuration.registry (Some (TheUser user)) s trail (commands.Transfer t n context) asks) }
     ensures sound { IfOk result (λ asks. (user : ℕ) → IsSoundAsk (actors.User user) asks) }
 {
     match tenancy.configuration.context(context) {
@@ -127,7 +127,7 @@ fn retention(tenancy: &Tenancy, report: &Report) -> u16
 fn postpone(tenancy: &Tenancy, at: &TurnContext, report: &Report) -> Asks
     requires place { IsLookedUp (plain_of tenancy.now) }
     requires live { lives_on (day_at at.now.time tenancy.now.configuration.registry.settings.offset) (case_of report.now) ≡ true }
-    ensures asked { (user : ℕ) (s : Presented) (t n : ℕ) → IsAsked (at_of at.now) tenancy.now.configuration.registry (Some (TheUser user)) s report.now.case.items (commands.Postpone t n) result }
+    ensures asked { (user : ℕ) (s : Presented) (t n : ℕ) → IsAskedOnReport (at_of at.now) tenancy.now.configuration.registry (Some (TheUser user)) s report.now.case.items (commands.Postpone t n) result }
     ensures sound { (user : ℕ) → IsSoundAsk (actors.User user) result }
 {
     does(Act::Postpone {
@@ -138,7 +138,7 @@ fn postpone(tenancy: &Tenancy, at: &TurnContext, report: &Report) -> Asks
 
 // The act that an extension is: the tenant is an external channel or not.
 fn extend(tenancy: &Tenancy, reason: &Text) -> Result<Asks, Memory>
-    ensures asked { IfOk result (λ asks. (at : Turn) (user : ℕ) (s : Presented) (trail : List Entry) (t n : ℕ) → IsAsked at tenancy.now.configuration.registry (Some (TheUser user)) s trail (commands.Extend t n reason.now) asks) }
+    ensures asked { IfOk result (λ asks. (at : Turn) (user : ℕ) (s : Presented) (trail : List Entry) (t n : ℕ) → IsAskedOnReport at tenancy.now.configuration.registry (Some (TheUser user)) s trail (commands.Extend t n reason.now) asks) }
     ensures sound { IfOk result (λ asks. (user : ℕ) → IsSoundAsk (actors.User user) asks) }
 {
     let reason = reason.try_clone()?;
@@ -158,7 +158,7 @@ pub fn acting(
     requires place { IsLookedUp (plain_of tenancy.now) }
     requires live { lives_on (day_at at.now.time tenancy.now.configuration.registry.settings.offset) (case_of report.now) ≡ true }
     requires acts { is_act command.now ≡ true }
-    ensures asked { IfOk result (λ asks. (user : ℕ) (s : Presented) → IsAsked (at_of at.now) tenancy.now.configuration.registry (Some (TheUser user)) s report.now.case.items command.now asks) }
+    ensures asked { IfOk result (λ asks. (user : ℕ) (s : Presented) → IsAskedOnReport (at_of at.now) tenancy.now.configuration.registry (Some (TheUser user)) s report.now.case.items command.now asks) }
     ensures sound { IfOk result (λ asks. (user : ℕ) → IsSoundAsk (actors.User user) asks) }
 {
     match command {

@@ -9,7 +9,7 @@ ghost use Rattle.wb_model.specs.Tables.{TheUser};
 ghost use Rattle.wb_model.specs.declared.command.Command.TheVariants as commands;
 ghost use Rattle.wb_model.specs.declared.entry.Actor.TheVariants as actors;
 ghost use Rattle.wb_model.specs.declared.entry.Entry.{Entry};
-ghost use Rattle.wb_commands.specs.Steps.{IsAsked, IsSoundAsk};
+ghost use Rattle.wb_commands.specs.Steps.{IsAskedOnReport, IsSoundAsk};
 
 use crate::draft::{Asks, Doing};
 use wb_base::{Memory, Text, UserId};
@@ -29,7 +29,7 @@ fn copy_text(text: &Option<Text>) -> Result<Option<Text>, Memory>
 
 /// The move that a user's ask for an identity is, stamped with how often the user was disabled by now.
 pub fn asking(tenancy: &Tenancy, user: UserId, reason: &Text) -> Result<Asks, Memory>
-    ensures asked { IfOk result (λ asks. (at : Turn) (s : Shown) (trail : List Entry) (t n : ℕ) → IsAsked at tenancy.now.configuration.registry (Some (TheUser user)) s trail (commands.Ask t n reason.now) asks) }
+    ensures asked { IfOk result (λ asks. (at : Turn) (s : Shown) (trail : List Entry) (t n : ℕ) → IsAskedOnReport at tenancy.now.configuration.registry (Some (TheUser user)) s trail (commands.Ask t n reason.now) asks) }
     ensures sound { IfOk result (IsSoundAsk (actors.User user)) }
 {
     Ok(Asks::Does(Doing::Moves(Move::Ask {
@@ -95,7 +95,7 @@ pub fn deciding(
     withhold: &Option<Text>,
 ) -> Result<Asks, Memory>
     requires custodied { report.now.desk.items ≡ requests report.now.case.items }
-    ensures asked { IfOk result (λ asks. (at : Turn) (user : ℕ) (s : Shown) (t n : ℕ) → IsAsked at tenancy.now.configuration.registry (Some (TheUser user)) s report.now.case.items (commands.Decide t n k decision reason.now withhold.now) asks) }
+    ensures asked { IfOk result (λ asks. (at : Turn) (user : ℕ) (s : Shown) (t n : ℕ) → IsAskedOnReport at tenancy.now.configuration.registry (Some (TheUser user)) s report.now.case.items (commands.Decide t n k decision reason.now withhold.now) asks) }
     ensures sound { IfOk result (λ asks. (user : ℕ) → IsSoundAsk (actors.User user) asks) }
 {
     match request_of(report, k) {

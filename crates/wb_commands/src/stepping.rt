@@ -9,7 +9,7 @@ ghost use Rattle.wb_model.specs.Requests.{outline};
 ghost use Rattle.wb_model.specs.Tables.{TheUser, TheReporter, user as user_by, report as report_by};
 ghost use Rattle.wb_model.specs.Targets as targets;
 ghost use Rattle.wb_queries.specs.Looks.{at_of};
-ghost use Rattle.wb_commands.specs.Steps.{EntersAs, IsFitStep, IsStep, Leaves, StepsTo};
+ghost use Rattle.wb_commands.specs.Steps.{EntersAs, IsFitStep, IsDraftOf, Leaves, StepsTo};
 ghost use Rattle.wb_queries.specs.Suited.{suits};
 ghost use Rattle.wb_tables.specs.Indexed.{AreFewRequests};
 ghost use Rattle.wb_tables.specs.Kept.{case_of, live_plain, lives_on, place_of, plain_of, tables_of};
@@ -126,7 +126,7 @@ fn by_reporter(
     requires few { length report.now.desk.items ≤ 100 }
     requires there { report_by report.now.number (live_plain at.now.time (plain_of tenancy.now)).cases ≡ Some (case_of report.now) }
     requires suits { suits (targets.On (TheReporter report.now.number) (case_of report.now)) asked.now.command ≡ true }
-    ensures step { IfOk result (IsStep tenancy.now.configuration.tenant (purged at.now.time (tables_of sealed.now.items (place_of tenancy.now))) (at_of at.now) asked.now (targets.On (TheReporter report.now.number) (case_of report.now))) }
+    ensures step { IfOk result (IsDraftOf tenancy.now.configuration.tenant (purged at.now.time (tables_of sealed.now.items (place_of tenancy.now))) (at_of at.now) asked.now (targets.On (TheReporter report.now.number) (case_of report.now))) }
     ensures fit { IfOk result (IsFitStep tenancy.now) }
 {
     let who = Who::Reporter(report.number);
@@ -162,7 +162,7 @@ fn by_reader(
     requires live { lives_on (day_at at.now.time tenancy.now.configuration.registry.settings.offset) (case_of report.now) ≡ true }
     requires there { report_by report.now.number (live_plain at.now.time (plain_of tenancy.now)).cases ≡ Some (case_of report.now) }
     requires suits { suits (targets.On (TheUser user) (case_of report.now)) asked.now.command ≡ true }
-    ensures step { IfOk result (IsStep tenancy.now.configuration.tenant (purged at.now.time (tables_of sealed.now.items (place_of tenancy.now))) (at_of at.now) asked.now (targets.On (TheUser user) (case_of report.now))) }
+    ensures step { IfOk result (IsDraftOf tenancy.now.configuration.tenant (purged at.now.time (tables_of sealed.now.items (place_of tenancy.now))) (at_of at.now) asked.now (targets.On (TheUser user) (case_of report.now))) }
     ensures fit { IfOk result (IsFitStep tenancy.now) }
 {
     let who = Who::User(user);
@@ -229,7 +229,7 @@ fn on(
     requires earlier { AreEarlier at.now.turn (map session_of tenancy.now.sessions.items) }
     requires custodied { report.now.desk.items ≡ requests report.now.case.items }
     requires target { targets.target (live_plain at.now.time (plain_of tenancy.now)) asked.now.session (outline asked.now.command) ≡ targets.On (who_seen who) (case_of report.now) }
-    ensures step { IfOk result (IsStep tenancy.now.configuration.tenant (purged at.now.time (tables_of sealed.now.items (place_of tenancy.now))) (at_of at.now) asked.now (targets.On (who_seen who) (case_of report.now))) }
+    ensures step { IfOk result (IsDraftOf tenancy.now.configuration.tenant (purged at.now.time (tables_of sealed.now.items (place_of tenancy.now))) (at_of at.now) asked.now (targets.On (who_seen who) (case_of report.now))) }
     ensures fit { IfOk result (IsFitStep tenancy.now) }
 {
     match who {
@@ -251,7 +251,7 @@ pub fn step_of(
     requires earlier { AreEarlier at.now.turn (map session_of tenancy.now.sessions.items) }
     requires named { tenancy.now.configuration.tenant ≡ tenant_of_command asked.now.command }
     requires fits { fits asked.now ≡ true }
-    ensures step { IfOk result (IsStep tenancy.now.configuration.tenant (purged at.now.time (tables_of sealed.now.items (place_of tenancy.now))) (at_of at.now) asked.now (targets.target (live_plain at.now.time (plain_of tenancy.now)) asked.now.session (outline asked.now.command))) }
+    ensures step { IfOk result (IsDraftOf tenancy.now.configuration.tenant (purged at.now.time (tables_of sealed.now.items (place_of tenancy.now))) (at_of at.now) asked.now (targets.target (live_plain at.now.time (plain_of tenancy.now)) asked.now.session (outline asked.now.command))) }
     ensures fit { IfOk result (IsFitStep tenancy.now) }
 {
     match find_target(tenancy, at.time, &asked.session, &asked.command) {

@@ -1,8 +1,9 @@
 //! Submissions: a report begins under the next number.
+ghost use Rattle.std.specs.Str.{IsUtf8};
 ghost use Rattle.std.specs.Prelude.{◌≡◌, ◌≢◌, ◌≤◌, ◌<◌, ◌+◌, ◌∷◌, [], ℕ, Some, None, if◌then◌else◌, MatchOption, IfOk, OnOk, option_map};
 ghost use Rattle.wb_base.specs.Days.{IsOffset, day_of as day_at};
 ghost use Rattle.wb_base.specs.AnswerList.{Answered};
-ghost use Rattle.wb_base.specs.Secrets.{receipt_text};
+ghost use Rattle.wb_base.specs.Secrets.{digest as digest_of, receipt_text};
 ghost use Rattle.wb_model.specs.Json.{told};
 ghost use Rattle.wb_model.specs.Refusals.{faulty as faulty_told};
 ghost use Rattle.wb_model.specs.Requests.{Checked, open_form};
@@ -19,7 +20,7 @@ use crate::identity::faulty;
 use crate::plan::{Mutation, Opening, TurnPlan, answering, refused};
 use std::alloc::Global;
 use wb_access::{digest, draw};
-use wb_base::{Answers, Memory, Moment, Words};
+use wb_base::{Answers, Digest, Memory, Moment, Words};
 use wb_case::Case;
 use wb_list::TryClone;
 use wb_model::{Actor, Body, ContextItem, Deed, Entry, FormItem, Numbering, TenantItem, Told};
@@ -63,23 +64,38 @@ fn drawn_today(settings: &TenantItem, numbering: Numbering, time: Moment) -> u32
     }
 }
 
-// Whether a live report has the receipt that is drawn.
-fn is_taken(tenancy: &Tenancy, at: &TurnContext) -> bool
+/// A receipt that is drawn, and its digest under the tenant's salt.
+#[derive(Clone, Copy)]
+struct Drawn {
+    receipt: [u8; 16],
+    digest: Digest,
+}
+
+// What a submission draws of a turn's words.
+fn draw_receipt(tenancy: &Tenancy, words: &Words) -> Drawn
+    ensures receipt { result.receipt ≡ receipt_text words.now }
+    ensures digest { result.digest ≡ digest_of tenancy.now.configuration.registry.settings.salt (receipt_text words.now) }
+{
+    let receipt = draw(words);
+    Drawn {
+        receipt,
+        digest: digest(&tenancy.configuration.settings().salt, receipt.as_slice()),
+    }
+}
+
+// Whether a live report has the receipt of this digest, which is drawn.
+fn is_taken(tenancy: &Tenancy, at: &TurnContext, digest: &Digest) -> bool
     requires place { IsLookedUp (plain_of tenancy.now) }
+    requires drawn { digest.now ≡ digest_of tenancy.now.configuration.registry.settings.salt (receipt_text at.now.words) }
     ensures { result ≡ (drawing (at_of at.now) (live_plain at.now.time (plain_of tenancy.now))).taken }
 {
-    let receipt = draw(&at.words);
-    report_of_receipt(
-        tenancy,
-        at.time,
-        &digest(&tenancy.configuration.settings().salt, receipt.as_slice()),
-    )
-    .is_some()
+    report_of_receipt(tenancy, at.time, digest).is_some()
 }
 
 // What stands in the way of a draw: the last number is drawn, the day's quota, or a live report's receipt.
-fn hindrance(tenancy: &Tenancy, at: &TurnContext) -> Option<Refusal>
+fn hindrance(tenancy: &Tenancy, at: &TurnContext, digest: &Digest) -> Option<Refusal>
     requires place { IsLookedUp (plain_of tenancy.now) }
+    requires drawn { digest.now ≡ digest_of tenancy.now.configuration.registry.settings.salt (receipt_text at.now.words) }
     ensures { option_map told_of result ≡ drawing_refusal tenancy.now.configuration.registry.settings.quota (drawing (at_of at.now) (live_plain at.now.time (plain_of tenancy.now))) }
 {
     let settings = tenancy.configuration.settings();
@@ -88,7 +104,7 @@ fn hindrance(tenancy: &Tenancy, at: &TurnContext) -> Option<Refusal>
         Some(Refusal::NumbersSpent)
     } else if drawn_today(settings, tenancy.numbering, at.time) >= quota {
         Some(Refusal::QuotaSpent(quota))
-    } else if is_taken(tenancy, at) {
+    } else if is_taken(tenancy, at, digest) {
         Some(Refusal::ReceiptTaken)
     } else {
         None
@@ -104,15 +120,16 @@ fn first_entry(
     item: &FormItem,
     public: Answers,
     mark: bool,
+    digest: Digest,
 ) -> Result<Entry, Memory>
     requires place { IsLookedUp (plain_of tenancy.now) }
+    requires drawn { digest ≡ digest_of tenancy.now.configuration.registry.settings.salt (receipt_text at.now.words) }
     requires low { 1 ≤ context.now.retention }
     requires high { context.now.retention ≤ 3_650 }
     ensures { IfOk result (λ entry. entry ≡ submission_entry (at_of at.now) (tenancy.now.configuration.registry) (Checked None public mark) context.now item.now) }
 {
     let settings = tenancy.configuration.settings();
     let received = day_of(at.time, settings.offset);
-    let receipt = draw(&at.words);
     Ok(Entry {
         at: at.time,
         by: Actor::Reporter,
@@ -125,7 +142,7 @@ fn first_entry(
             form: item.id,
             mark,
             readers: context.recipients.try_clone()?,
-            receipt: digest(&settings.salt, receipt.as_slice()),
+            receipt: digest,
             received,
             version: item.version,
         },
@@ -133,13 +150,13 @@ fn first_entry(
 }
 
 // The reply to a submission that draws a number.
-fn submitted(alloc: Global, number: u32, words: &Words) -> Result<Told, Memory>
-    ensures { IfOk result (λ t. t ≡ told 201 (submission_data number (receipt_text words.now))) }
+fn submitted(alloc: Global, number: u32, receipt: &[u8; 16]) -> Result<Told, Memory>
+    requires { IsUtf8 receipt.now }
+    ensures { IfOk result (λ t. t ≡ told 201 (submission_data number receipt.now)) }
 {
-    let receipt = draw(words);
     Ok(Told {
         status: 201,
-        body: Body::of(submission_view(alloc, number, &receipt)?),
+        body: Body::of(submission_view(alloc, number, receipt)?),
     })
 }
 
@@ -167,21 +184,32 @@ fn begin(
     at: &TurnContext,
     asking: &Asking<'_>,
     split: Split,
+    drawn: &Drawn,
 ) -> Result<TurnPlan, Memory>
     requires place { IsLookedUp (plain_of tenancy.now) }
+    requires receipt { drawn.now.receipt ≡ receipt_text at.now.words }
+    requires digest { drawn.now.digest ≡ digest_of tenancy.now.configuration.registry.settings.salt (receipt_text at.now.words) }
     requires number { tenancy.now.numbering.last < 4_294_967_295 }
     requires low { 1 ≤ asking.now.context.now.retention }
     requires high { asking.now.context.now.retention ≤ 3_650 }
     ensures told { IfOk result (λ plan. plan.told ≡ told 201 (submission_data (tenancy.now.numbering.last + 1) (receipt_text at.now.words))) }
     ensures change { IfOk result (λ plan. IsBegun plan.change (submission_entry (at_of at.now) (tenancy.now.configuration.registry) (Checked None split.public split.mark) asking.now.context.now asking.now.item.now) (if split.mark then Some split.sealed else None)) }
 {
-    let told = submitted(alloc, tenancy.numbering.last + 1, &at.words)?;
+    let told = submitted(alloc, tenancy.numbering.last + 1, &drawn.receipt)?;
     let Split {
         public,
         sealed,
         mark,
     } = split;
-    let entry = first_entry(tenancy, at, asking.context, asking.item, public, mark)?;
+    let entry = first_entry(
+        tenancy,
+        at,
+        asking.context,
+        asking.item,
+        public,
+        mark,
+        drawn.digest,
+    )?;
     let case = started(alloc, entry)?;
     Ok(TurnPlan {
         told,
@@ -205,9 +233,10 @@ fn plan_draw(
     ensures plan { IfOk result (λ plan. (id : ℕ) (answers : Answered) → IsAsking (tenancy.now.configuration.registry) id asking.now.context.now asking.now.item.now → IsSplit asking.now.item.now.form answers split → PlansSubmission tenancy.now.configuration.tenant (live_plain at.now.time (plain_of tenancy.now)) (at_of at.now) id answers plan) }
     ensures fit { IfOk result (λ plan. IsFitAtOnce tenancy.now plan.change) }
 {
-    match hindrance(tenancy, at) {
+    let drawn = draw_receipt(tenancy, &at.words);
+    match hindrance(tenancy, at, &drawn.digest) {
         Some(why) => refused(alloc, why),
-        None => begin(alloc, tenancy, at, asking, split),
+        None => begin(alloc, tenancy, at, asking, split, &drawn),
     }
 }
 

@@ -8,9 +8,9 @@ ghost use Rattle.wb_model.specs.Host.{purged};
 ghost use Rattle.wb_model.specs.Tables.{is_there, report as report_by};
 ghost use Rattle.wb_model.specs.declared.entry.Entry.{Entry as EntryValue};
 ghost use Rattle.wb_queries.specs.Looks.{at_of};
-ghost use Rattle.wb_commands.specs.Plans.{HasRoom, IsFit, IsFitAtOnce, IsRoomy, Plans};
-ghost use Rattle.wb_commands.specs.Steps.{IsJudged, IsReadyFor, IsSound, SetsIn, WritesIn, most_of};
-ghost use Rattle.wb_tables.specs.Configured.{IsSound as IsSoundProposal};
+ghost use Rattle.wb_commands.specs.Plans.{HasRoomFor, IsFit, IsFitAtOnce, IsRoomyFor, PlansTurn};
+ghost use Rattle.wb_commands.specs.Steps.{IsJudged, IsReadyFor, IsSoundDoing, SetsIn, WritesIn, most_of};
+ghost use Rattle.wb_tables.specs.Configured.{IsSoundProposal};
 ghost use Rattle.wb_tables.specs.Indexed.{AreFewRequests};
 ghost use Rattle.wb_tables.specs.Kept.{case_of, place_of, plain_of, tables_of};
 ghost use Rattle.wb_tables.specs.Lives.{AreEarly};
@@ -37,7 +37,7 @@ fn make_room(
     requires fit { IsFitAtOnce tenancy.old change.now }
     ensures place { place_of tenancy.new ≡ place_of tenancy.old }
     ensures sealed { sealed.new.items ≡ sealed.old.items }
-    ensures roomy { OnOk result (IsRoomy time tenancy.new sealed.new.spare change.now) }
+    ensures roomy { OnOk result (IsRoomyFor time tenancy.new sealed.new.spare change.now) }
 {
     match change {
         Mutation::Begins(_) => {
@@ -71,7 +71,7 @@ fn judge_act(
 ) -> Result<Judged, Memory>
     requires there { is_there number (map case_of cases.old.items) ≡ true }
     requires early { AreEarly (map case_of cases.old.items) }
-    requires sound { IsSound (actor_of (who_seen who)) (Doing.Acts act) }
+    requires sound { IsSoundDoing (actor_of (who_seen who)) (Doing.Acts act) }
     ensures tenant { cases.new.tenant ≡ cases.old.tenant }
     ensures cases { map case_of cases.new.items ≡ map case_of cases.old.items }
     ensures judged { IfOk result (λ judged. (trail : List EntryValue) → report_by number (map case_of cases.old.items) ≡ Some (record { number = number; trail = trail }) → IsJudged calendar.now trail time (who_seen who) (Doing.Acts act) judged) }
@@ -94,7 +94,7 @@ fn judge_move(
 ) -> Result<Judged, Memory>
     requires there { is_there number (map case_of cases.old.items) ≡ true }
     requires few { AreFewRequests (map case_of cases.old.items) }
-    requires sound { IsSound (actor_of (who_seen who)) (Doing.Moves move_) }
+    requires sound { IsSoundDoing (actor_of (who_seen who)) (Doing.Moves move_) }
     ensures tenant { cases.new.tenant ≡ cases.old.tenant }
     ensures cases { map case_of cases.new.items ≡ map case_of cases.old.items }
     ensures judged { IfOk result (λ judged. (calendar : CalendarValue) (trail : List EntryValue) → report_by number (map case_of cases.old.items) ≡ Some (record { number = number; trail = trail }) → IsJudged calendar trail time (who_seen who) (Doing.Moves move_) judged) }
@@ -119,7 +119,7 @@ fn judge(
     requires there { is_there number (map case_of cases.old.items) ≡ true }
     requires few { AreFewRequests (map case_of cases.old.items) }
     requires early { AreEarly (map case_of cases.old.items) }
-    requires sound { IsSound (actor_of (who_seen who)) doing }
+    requires sound { IsSoundDoing (actor_of (who_seen who)) doing }
     ensures tenant { cases.new.tenant ≡ cases.old.tenant }
     ensures cases { map case_of cases.new.items ≡ map case_of cases.old.items }
     ensures judged { IfOk result (λ judged. (trail : List EntryValue) → report_by number (map case_of cases.old.items) ≡ Some (record { number = number; trail = trail }) → IsJudged calendar.now trail time (who_seen who) doing judged) }
@@ -143,9 +143,9 @@ fn write_in(
     requires few { AreFewRequests (map case_of tenancy.old.cases.items) }
     requires early { AreEarly (map case_of tenancy.old.cases.items) }
     requires there { is_there writing.number (map case_of tenancy.old.cases.items) ≡ true }
-    requires sound { IsSound (actor_of (who_seen writing.who)) writing.doing }
+    requires sound { IsSoundDoing (actor_of (who_seen writing.who)) writing.doing }
     ensures plan { IfOk result (λ plan. (trail : List EntryValue) → report_by writing.number (map case_of tenancy.old.cases.items) ≡ Some (record { number = writing.number; trail = trail }) → WritesIn tenancy.old.configuration.registry.settings.calendar trail time writing plan) }
-    ensures roomy { IfOk result (λ plan. (trail : List EntryValue) → report_by writing.number (map case_of tenancy.old.cases.items) ≡ Some (record { number = writing.number; trail = trail }) → HasRoom tenancy.new sealed.new.spare plan.change) }
+    ensures roomy { IfOk result (λ plan. (trail : List EntryValue) → report_by writing.number (map case_of tenancy.old.cases.items) ≡ Some (record { number = writing.number; trail = trail }) → HasRoomFor tenancy.new sealed.new.spare plan.change) }
     ensures place { place_of tenancy.new ≡ place_of tenancy.old }
     ensures sealed { sealed.new.items ≡ sealed.old.items }
 {
@@ -188,7 +188,7 @@ fn set_in(alloc: Global, tenancy: &mut Tenancy, setting: Setting) -> Result<Turn
     requires sound { IsSoundProposal setting.proposal }
     ensures plan { IfOk result (SetsIn tenancy.old.configuration.tenant tenancy.old.configuration.registry setting) }
     ensures fit { IfOk result (λ plan. (time : ℕ) → IsFit time tenancy.new plan.change) }
-    ensures room { IfOk result (λ plan. (sealed : ℕ) → HasRoom tenancy.new sealed plan.change) }
+    ensures room { IfOk result (λ plan. (sealed : ℕ) → HasRoomFor tenancy.new sealed plan.change) }
     ensures place { place_of tenancy.new ≡ place_of tenancy.old }
 {
     let Setting { proposal, told } = setting;
@@ -217,8 +217,8 @@ pub fn plan_turn(
     requires earlier { AreEarlier at.now.turn (map session_of tenancy.old.sessions.items) }
     requires named { tenancy.old.configuration.tenant ≡ tenant_of_command asked.now.command }
     requires fits { fits asked.now ≡ true }
-    ensures plan { IfOk result (Plans tenancy.old.configuration.tenant (purged at.now.time (tables_of sealed.old.items (place_of tenancy.old))) (at_of at.now) asked.now) }
-    ensures roomy { IfOk result (λ plan. IsRoomy at.now.time tenancy.new sealed.new.spare plan.change) }
+    ensures plan { IfOk result (PlansTurn tenancy.old.configuration.tenant (purged at.now.time (tables_of sealed.old.items (place_of tenancy.old))) (at_of at.now) asked.now) }
+    ensures roomy { IfOk result (λ plan. IsRoomyFor at.now.time tenancy.new sealed.new.spare plan.change) }
     ensures place { place_of tenancy.new ≡ place_of tenancy.old }
     ensures sealed { sealed.new.items ≡ sealed.old.items }
 {

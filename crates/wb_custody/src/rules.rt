@@ -26,16 +26,6 @@ pub(crate) fn id_of(actor: &Actor) -> u16
     }
 }
 
-// The first of two refusals.
-fn first(refusal: Option<CustodyFault>, other: Option<CustodyFault>) -> Option<CustodyFault>
-    ensures { result ≡ option_or refusal other }
-{
-    match refusal {
-        Some(fault) => Some(fault),
-        None => other,
-    }
-}
-
 // No identity answer was given.
 fn no_identity(mark: bool) -> Option<CustodyFault>
     ensures { result ≡ refuses_where (not mark) faults.NoIdentity }
@@ -138,13 +128,9 @@ fn ask_fault(
     requires { length requests.now ≤ 100 }
     ensures { result ≡ option_or (refuses_where (not mark) faults.NoIdentity) (option_or (moves.pending user stamp requests.now) (option_or (moves.desk_full requests.now) (moves.full trail))) }
 {
-    first(
-        no_identity(mark),
-        first(
-            pending(requests, user, stamp),
-            first(desk_full(requests), trail_full(trail)),
-        ),
-    )
+    no_identity(mark).or(pending(requests, user, stamp).or(desk_full(requests).or(trail_full(
+        trail,
+    ))))
 }
 
 impl AccessDesk {
@@ -163,7 +149,7 @@ impl AccessDesk {
         match move_ {
             Move::Ask { stamp, .. } => ask_fault(requests, trail, mark, user, *stamp),
             Move::Grant { request, stamp, .. } => {
-                first(decided(requests, *request, *stamp), trail_full(trail))
+                decided(requests, *request, *stamp).or(trail_full(trail))
             }
             Move::Deny { request, stamp, .. } => decided(requests, *request, *stamp),
             Move::Revoke { request, stamp, .. } => not_granted(requests, *request, *stamp),

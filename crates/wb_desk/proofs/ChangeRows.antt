@@ -26,7 +26,7 @@ use Rattle.wb_model.proofs.PastLaw.{there_before}
 use Rattle.wb_model.proofs.TurnRows.{opened_rows}
 use Rattle.wb_commands.specs.declared.plan.Mutation.{Mutation}
 use Rattle.wb_commands.specs.declared.plan.Mutation.TheVariants as planned
-use Rattle.wb_commands.specs.Plans.{IsFit, IsRoomy, begins, change_of, given_of}
+use Rattle.wb_commands.specs.Plans.{IsFit, IsRoomyFor, begins, change_of, given_of}
 use Rattle.wb_rows.specs.Puts.{sealed_put, setting_row, IsVersion}
 use Rattle.wb_rows.proofs.ConfiguredRows.{configured_rows}
 use Rattle.wb_rows.proofs.NotedRows.{noted_rows}
@@ -69,7 +69,7 @@ version_is t g (proposals.ToUser u next) e = tt
 version_is t g (proposals.ToContext c next) e = tt
 version_is t g (proposals.ToForm f form) e = few_versions _ (next_version f g.forms) e
 
-pub puttable : (time spare : ℕ) (x : KeptTenancy) (c : Mutation) → IsRoomy time x spare c → IsPuttable (place_of x) c
+pub puttable : (time spare : ℕ) (x : KeptTenancy) (c : Mutation) → IsRoomyFor time x spare c → IsPuttable (place_of x) c
 puttable time spare x (planned.Notes n) h = there_before (is_live x.configuration.registry.settings time) n.number (place_of x).plain.cases h.fit
 puttable time spare x (planned.Configures c) h = (
   h.fit ∙ setting_is x.configuration.tenant x.configuration.registry c.proposal,

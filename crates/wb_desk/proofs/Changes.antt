@@ -10,15 +10,15 @@ use Rattle.wb_model.specs.Host.{Tables, changed, tables_after, plain_after, seal
 use Rattle.wb_commands.specs.declared.plan.TurnPlan.{TurnPlan}
 use Rattle.wb_commands.specs.declared.plan.Mutation.{Mutation}
 use Rattle.wb_commands.specs.declared.plan.Mutation.TheVariants as planned
-use Rattle.wb_commands.specs.Plans.{Plans, Gives, begins, change_of, given_of}
+use Rattle.wb_commands.specs.Plans.{PlansTurn, GivesSecret, begins, change_of, given_of}
 use Rattle.wb_tables.specs.Kept.{PlainTenancy, tables_of, sealed_of}
 use Rattle.wb_tables.proofs.Purges.{same_tables}
 
 -- what is made of purged tables is what the plan says
-pub planned_tables : (id : ℕ) (t u : Tables) (at : TurnContext) (a : Asked) (plan : TurnPlan) → Plans id t at a plan → u ≡ changed at.time (change_of id t.plain.registry plan.change) (given_of plan.change) t → u ≡ tables_after t at a
+pub planned_tables : (id : ℕ) (t u : Tables) (at : TurnContext) (a : Asked) (plan : TurnPlan) → PlansTurn id t at a plan → u ≡ changed at.time (change_of id t.plain.registry plan.change) (given_of plan.change) t → u ≡ tables_after t at a
 planned_tables id t u at a plan h e = e ∙ (by plan.change h.given ∙ sym (ap (λ (c : Change). changed at.time c (sealed_part t.plain a) t) h.change))
   where
-    by : (c : Mutation) → Gives c (sealed_part t.plain a) → changed at.time (change_of id t.plain.registry c) (given_of c) t ≡ changed at.time (change_of id t.plain.registry c) (sealed_part t.plain a) t
+    by : (c : Mutation) → GivesSecret c (sealed_part t.plain a) → changed at.time (change_of id t.plain.registry c) (given_of c) t ≡ changed at.time (change_of id t.plain.registry c) (sealed_part t.plain a) t
     by (planned.Begins o) is = ap (λ s. changed at.time (begins o.case.items) s t) is
     by (planned.Notes n) is = ap (λ s. changed at.time (Notes n.number n.entry) s t) is
     by _ is = refl

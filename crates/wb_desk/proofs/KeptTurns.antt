@@ -25,7 +25,7 @@ use Rattle.wb_commands.specs.declared.plan.TurnPlan.{TurnPlan}
 use Rattle.wb_commands.specs.declared.plan.Mutation.{Mutation}
 use Rattle.wb_commands.specs.declared.plan.Mutation.TheVariants as planned
 use Rattle.wb_queries.specs.Looks.{at_of}
-use Rattle.wb_commands.specs.Plans.{Plans, begins, change_of}
+use Rattle.wb_commands.specs.Plans.{PlansTurn, begins, change_of}
 use Rattle.wb_tables.specs.Dead.{any_dead}
 use Rattle.wb_tables.specs.Kept.{PlainTenancy, place_of, tables_of, tenancy_of, sessions_at}
 use Rattle.wb_tables.specs.Places.{ArePlaces, IsAt}
@@ -33,7 +33,7 @@ use Rattle.wb_tables.specs.Standing.{hosts_of}
 use Rattle.wb_tables.specs.declared.tenancy.Tenancy.{Tenancy as KeptTenancy}
 use Rattle.wb_desk.specs.Puts.{first_puts, puts_of, IsBatch}
 use Rattle.wb_recovery.specs.SetUp.{AreSetUpRight}
-use Rattle.wb_desk.specs.Turns.{HasToKeep, KeepsAt, IsLeft, IsTurn, IsTurnAt, IsFrameAt, standing}
+use Rattle.wb_desk.specs.Turns.{HasToKeep, KeepsAt, IsLeft, IsTurnOfHosts, IsTurnAt, IsFrameAt, standing}
 use Rattle.wb_desk.specs.declared.batch.Lost.{Lost}
 use Rattle.wb_desk.specs.declared.batch.Lost.TheVariants as lost
 use Rattle.wb_desk.proofs.KeptChanges.{IsKept, sessions_unkept}
@@ -100,7 +100,7 @@ kept_keeps f at asked turns now t p kept = (
 
 -- a change is something to keep
 change_keeps : (upto t i : ℕ) (at : KeptAt) (asked : Asked) (items : List SealedItem) (ks : List KeptTenancy) (d : KeptTenancy) (plan : TurnPlan) → ArePlaces upto 0 items (map place_of ks) → IsAt t ks i → t ≡ tenant_of asked.command
-    → Plans (get_or ks i d).configuration.tenant (purged at.time (tables_of items (place_of (get_or ks i d)))) (at_of at) asked plan → puts_of at.time (place_of (get_or ks i d)) plan.change ≢ [] → KeepsAt (map place_of ks) items at asked
+    → PlansTurn (get_or ks i d).configuration.tenant (purged at.time (tables_of items (place_of (get_or ks i d)))) (at_of at) asked plan → puts_of at.time (place_of (get_or ks i d)) plan.change ≢ [] → KeepsAt (map place_of ks) items at asked
 change_keeps upto t i at asked items ks d plan all is named h put = λ turns now f p.
     let x = get_or ks i d in
     let kept = kept_keeps f at asked turns now (tables_of items (place_of x)) p (subst IsKept (sym h.change) (kept_puts at.time x.configuration.tenant x.configuration.registry (place_of x) plan.change put)) in
@@ -112,7 +112,7 @@ change_keeps upto t i at asked items ks d plan all is named h put = λ turns now
     })
 
 pub keeps_at : (upto t i : ℕ) (at : KeptAt) (asked : Asked) (items : List SealedItem) (ks : List KeptTenancy) (d : KeptTenancy) (plan : TurnPlan) (batch : List RowChange) → ArePlaces upto 0 items (map place_of ks) → IsAt t ks i → t ≡ tenant_of asked.command
-    → Plans (get_or ks i d).configuration.tenant (purged at.time (tables_of items (place_of (get_or ks i d)))) (at_of at) asked plan → IsBatch at.time (map place_of ks) (puts_of at.time (place_of (get_or ks i d)) plan.change) batch → batch ≢ [] → KeepsAt (map place_of ks) items at asked
+    → PlansTurn (get_or ks i d).configuration.tenant (purged at.time (tables_of items (place_of (get_or ks i d)))) (at_of at) asked plan → IsBatch at.time (map place_of ks) (puts_of at.time (place_of (get_or ks i d)) plan.change) batch → batch ≢ [] → KeepsAt (map place_of ks) items at asked
 keeps_at upto t i at asked items ks d plan batch all is named h b some = by (batch_some at.time (map place_of ks) (puts_of at.time (place_of (get_or ks i d)) plan.change) batch b some)
   where
     by : (any_dead at.time (map place_of ks) ≡ true) ⊎ (puts_of at.time (place_of (get_or ks i d)) plan.change ≢ []) → KeepsAt (map place_of ks) items at asked
@@ -144,7 +144,7 @@ left_hosts xs ys items new left = ap (λ l. map (tenancy_of l) ys) left.sealed �
 
 -- the turn of a frame
 pub turned_of : (turns now : ℕ) (xs : List PlainTenancy) (items : List SealedItem) (f : Frame) (at : KeptAt) (asked : Asked) (result : Result Told Lost) (ys : List PlainTenancy) (new : List SealedItem) → IsFrameAt turns now f at asked → IsTurnAt xs items at asked result ys new
-    → IsTurn (hosts_of (standing turns now xs items)) f result (hosts_of (standing (turns + 1) (max now f.moment) ys new))
+    → IsTurnOfHosts (hosts_of (standing turns now xs items)) f result (hosts_of (standing (turns + 1) (max now f.moment) ys new))
 turned_of turns now xs items f at asked (Ok told) ys new p turn = (turn.reply turns now f p, same_hosts (turns + 1) (max now f.moment) (map (tenancy_of new) ys) (hosts_after (hosts_of (standing turns now xs items)) f).list (turn.hosts turns now f p))
 turned_of turns now xs items f at asked (Err lost.Keeper) ys new p turn = (same_hosts (turns + 1) (max now f.moment) (map (tenancy_of new) ys) (map (tenancy_of items) xs) (left_hosts xs ys items new turn.0), turn.1 turns now f p)
 turned_of turns now xs items f at asked (Err lost.Memory) ys new p turn =

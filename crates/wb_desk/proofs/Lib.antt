@@ -13,3 +13,8 @@ pub mod StandingPlaces
 pub mod Tenants
 pub mod TurnRows
 pub mod Whole
+pub mod Numbers
+pub mod MoreTurns
+pub mod Steps
+pub mod Wholes
+pub mod FirstTurns

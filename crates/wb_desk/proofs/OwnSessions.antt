@@ -33,14 +33,14 @@ use Rattle.wb_commands.specs.declared.plan.TurnPlan.{TurnPlan}
 use Rattle.wb_commands.specs.declared.plan.Mutation.{Mutation}
 use Rattle.wb_commands.specs.declared.plan.Mutation.TheVariants as planned
 use Rattle.wb_queries.specs.Looks.{at_of}
-use Rattle.wb_commands.specs.Plans.{IsFit, Plans, begins, change_of as planned_change_of}
+use Rattle.wb_commands.specs.Plans.{IsFit, PlansTurn, begins, change_of as planned_change_of}
 use Rattle.wb_tables.specs.Kept.{PlainTenancy, place_of, plain_of, tables_of, live_place, live_plain}
 use Rattle.wb_tables.specs.Logins.{who_seen}
 use Rattle.wb_tables.specs.Places.{ArePlaces}
 use Rattle.wb_tables.specs.Receipted.{HasOwnReceipt}
 use Rattle.wb_tables.specs.declared.tenancy.Tenancy.{Tenancy as KeptTenancy}
 use Rattle.wb_tables.proofs.PlacesAt.{place_at}
-use Rattle.wb_desk.specs.Ready.{AreBy, IsOwn}
+use Rattle.wb_desk.specs.Ready.{AreBy, IsOwnMutation}
 use Rattle.wb_desk.proofs.Whole.{live_at}
 
 -- ---- the session of a turn
@@ -171,16 +171,16 @@ own_begun p at q trail e one is =
 
 -- ---- what is planned
 
-planned_own : (p : Plain) (at : TurnContext) (q : Request) (t : ℕ) (g : Registry) (time : ℕ) (x : KeptTenancy) (c : Mutation) → Apart has_turn p.sessions → IsFit time x c → change_of (verdict p at q) ≡ planned_change_of t g c → IsOwn p c
+planned_own : (p : Plain) (at : TurnContext) (q : Request) (t : ℕ) (g : Registry) (time : ℕ) (x : KeptTenancy) (c : Mutation) → Apart has_turn p.sessions → IsFit time x c → change_of (verdict p at q) ≡ planned_change_of t g c → IsOwnMutation p c
 planned_own p at q t g time x (planned.LogsOut turn who) apart fit e = own_logout p at q turn (who_seen who) apart e
 planned_own p at q t g time x (planned.Begins o) apart fit e = own_begun p at q o.case.items fit.1.0 fit.1.1 e
 planned_own p at q t g time x _ apart fit e = tt
 
 -- over the tables of a tenant at a place, once they are purged
 pub own_at : (turns i : ℕ) (at : KeptAt) (asked : Asked) (plan : TurnPlan) (items : List SealedItem) (ks ls : List KeptTenancy) (d y : KeptTenancy) → ArePlaces turns 0 items (map place_of ks) → map place_of ls ≡ map (live_place at.time) (map place_of ks) → i < length ks → IsFit at.time y plan.change
-    → Plans (get_or ks i d).configuration.tenant (purged at.time (tables_of items (place_of (get_or ks i d)))) (at_of at) asked plan → IsOwn (plain_of (get_or ls i d)) plan.change
+    → PlansTurn (get_or ks i d).configuration.tenant (purged at.time (tables_of items (place_of (get_or ks i d)))) (at_of at) asked plan → IsOwnMutation (plain_of (get_or ls i d)) plan.change
 own_at turns i at asked plan items ks ls d y all e lt fit h =
     let x = get_or ks i d in
     let p : Plain = live_plain at.time (plain_of x) in
-    subst (λ (z : PlainTenancy). IsOwn z.plain plan.change) (sym ((live_at at.time i ks ls e lt).place d))
+    subst (λ (z : PlainTenancy). IsOwnMutation z.plain plan.change) (sym ((live_at at.time i ks ls e lt).place d))
     (planned_own p (at_of at) (plain_part p asked) x.configuration.tenant p.registry at.time y plan.change (apart_filter has_turn (lasts at.time (live_cases (plain_of x) at.time)) (plain_of x).sessions (place_at turns 0 i items ks d all lt).plain.logins) fit h.change)

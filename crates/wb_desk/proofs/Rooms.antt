@@ -11,8 +11,8 @@ use Rattle.wb_model.proofs.Leaving.{some_filter}
 use Rattle.wb_custody.specs.declared.sealed.SealedItem.{SealedItem}
 use Rattle.wb_commands.specs.declared.plan.Mutation.{Mutation}
 use Rattle.wb_commands.specs.declared.plan.Mutation.TheVariants as planned
-use Rattle.wb_commands.specs.Plans.{IsRoomy}
-use Rattle.wb_tables.specs.Configured.{Configured, IsReady as IsReadyToSet, row_of}
+use Rattle.wb_commands.specs.Plans.{IsRoomyFor}
+use Rattle.wb_tables.specs.Configured.{Configured, IsReadyToSet, row_of}
 use Rattle.wb_tables.specs.Kept.{PlainTenancy, case_of, place_of, plain_of, live_place, live_plain}
 use Rattle.wb_tables.specs.Logins.{AreEarlier}
 use Rattle.wb_tables.specs.Places.{ArePlaces, IsPurged, ArePurged}
@@ -64,7 +64,7 @@ purged_at time i (x ∷ ks) [] d h lt = absurd h
 purged_at time zero (x ∷ ks) (y ∷ ls) d h lt = h.0
 purged_at time (suc i) (x ∷ ks) (y ∷ ls) d h lt = purged_at time i ks ls d h.1 (omega arith)
 
-room_in : (time spare more : ℕ) (x y : KeptTenancy) (c : Mutation) → Apart has_number (plain_of x).cases → IsPurged time x y → plain_of y ≡ live_plain time (plain_of x) → spare ≤ more → IsRoomy time x spare c → IsRoomy time y more c
+room_in : (time spare more : ℕ) (x y : KeptTenancy) (c : Mutation) → Apart has_number (plain_of x).cases → IsPurged time x y → plain_of y ≡ live_plain time (plain_of x) → spare ≤ more → IsRoomyFor time x spare c → IsRoomyFor time y more c
 room_in time spare more x y (planned.Begins o) apart purged is le h =
     let last : y.numbering.last ≡ x.numbering.last = ap (λ (p : Plain). p.numbering.last) is in
     let wide = purged.room in
@@ -97,12 +97,12 @@ room_in time spare more x y (planned.Configures c) apart purged is le h = record
 room_in time spare more x y _ apart purged is le h = record { fit = tt; room = tt }
 
 room_left : (turns time i spare more : ℕ) (items : List SealedItem) (ks ls : List KeptTenancy) (c : Mutation) → ArePlaces turns 0 items (map place_of ks) → ArePurged time ks ls → map place_of ls ≡ map (live_place time) (map place_of ks) → i < length ks → spare ≤ more
-    → ((d : KeptTenancy) → IsRoomy time (get_or ks i d) spare c) → (d : KeptTenancy) → IsRoomy time (get_or ls i d) more c
+    → ((d : KeptTenancy) → IsRoomyFor time (get_or ks i d) spare c) → (d : KeptTenancy) → IsRoomyFor time (get_or ls i d) more c
 room_left turns time i spare more items ks ls c all purged e lt le h d =
     let at : IsLiveAt time i ks ls = live_at time i ks ls e lt in
     room_in time spare more (get_or ks i d) (get_or ls i d) c (place_at turns 0 i items ks d all lt).plain.cases (purged_at time i ks ls d purged lt) (ap (λ (x : PlainTenancy). x.plain) (at.place d)) le (h d)
 
 -- after the tables were made ready, which leaves all but the room, and purged
 pub room_made : (turns time i spare more : ℕ) (items : List SealedItem) (hs ks ls : List KeptTenancy) (c : Mutation) → ArePlaces turns 0 items (map place_of hs) → map place_of ks ≡ map place_of hs → ArePurged time ks ls → map place_of ls ≡ map (live_place time) (map place_of ks) → i < length hs → spare ≤ more
-    → ((d : KeptTenancy) → IsRoomy time (get_or ks i d) spare c) → (d : KeptTenancy) → IsRoomy time (get_or ls i d) more c
+    → ((d : KeptTenancy) → IsRoomyFor time (get_or ks i d) spare c) → (d : KeptTenancy) → IsRoomyFor time (get_or ls i d) more c
 room_made turns time i spare more items hs ks ls c all same purged e lt le h = room_left turns time i spare more items ks ls c (subst (ArePlaces turns 0 items) (sym same) all) purged e (length_same i hs ks same lt) le h

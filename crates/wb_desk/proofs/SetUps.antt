@@ -13,8 +13,8 @@ use Rattle.wb_model.specs.Settings.{configured, form_key, form_item}
 use Rattle.wb_model.specs.Tables.{Registry}
 use Rattle.wb_commands.specs.declared.plan.Mutation.{Mutation}
 use Rattle.wb_commands.specs.declared.plan.Mutation.TheVariants as planned
-use Rattle.wb_commands.specs.Plans.{IsRoomy, begins}
-use Rattle.wb_tables.specs.Configured.{IsSound, setting_of}
+use Rattle.wb_commands.specs.Plans.{IsRoomyFor, begins}
+use Rattle.wb_tables.specs.Configured.{IsSoundProposal, setting_of}
 use Rattle.wb_tables.specs.Kept.{PlainTenancy, place_of, live_place}
 use Rattle.wb_tables.specs.Places.{AreGoodForms}
 use Rattle.wb_tables.specs.declared.proposal.Proposal.{Proposal}
@@ -41,17 +41,17 @@ good_put (y ∷ ys) x all good = by (nat_cmp (form_key y) (form_key x)) (good_pu
     by Equal rest = (good, all.1)
     by Greater rest = (good, all)
 
-right_set : (t : ℕ) (x y : PlainTenancy) (next : Proposal) → IsSound next → y.id ≡ x.id → y.plain.registry ≡ configured (setting_of t x.plain.registry next) x.plain.registry → IsSetUpRight x → IsSetUpRight y
+right_set : (t : ℕ) (x y : PlainTenancy) (next : Proposal) → IsSoundProposal next → y.id ≡ x.id → y.plain.registry ≡ configured (setting_of t x.plain.registry next) x.plain.registry → IsSetUpRight x → IsSetUpRight y
 right_set t x y next sound id registry right = right_same (record { id = x.id; plain = record x.plain { registry = configured (setting_of t x.plain.registry next) x.plain.registry } }) y id registry (by next sound)
   where
-    by : (p : Proposal) → IsSound p → IsSetUpRight (record { id = x.id; plain = record x.plain { registry = configured (setting_of t x.plain.registry p) x.plain.registry } })
+    by : (p : Proposal) → IsSoundProposal p → IsSetUpRight (record { id = x.id; plain = record x.plain { registry = configured (setting_of t x.plain.registry p) x.plain.registry } })
     by (proposals.ToTenant next) sound = record { id = right.id; offset = right.offset; forms = right.forms }
     by (proposals.ToUser u next) sound = record { id = right.id; offset = right.offset; forms = right.forms }
     by (proposals.ToContext c next) sound = record { id = right.id; offset = right.offset; forms = right.forms }
     by (proposals.ToForm f form) sound = record { id = right.id; offset = right.offset; forms = good_put x.plain.registry.forms (form_item t f x.plain.registry.forms form) right.forms sound }
 
 -- a planned change
-pub right_planned : (time spare : ℕ) (x : KeptTenancy) (y : PlainTenancy) (c : Mutation) → IsRoomy time x spare c → y.id ≡ x.configuration.tenant → y.plain.registry ≡ registry_after (planned_change x c) x.configuration.registry → IsSetUpRight (place_of x) → IsSetUpRight y
+pub right_planned : (time spare : ℕ) (x : KeptTenancy) (y : PlainTenancy) (c : Mutation) → IsRoomyFor time x spare c → y.id ≡ x.configuration.tenant → y.plain.registry ≡ registry_after (planned_change x c) x.configuration.registry → IsSetUpRight (place_of x) → IsSetUpRight y
 right_planned time spare x y (planned.Begins o) h id registry right = right_same (place_of x) y id (registry ∙ by o.case.items) right
   where
     by : (es : List Entry) → registry_after (begins es) x.configuration.registry ≡ x.configuration.registry

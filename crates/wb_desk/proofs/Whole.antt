@@ -12,7 +12,7 @@ use Rattle.wb_queries.specs.declared.turn.TurnContext.{TurnContext as KeptAt}
 use Rattle.wb_commands.specs.declared.plan.TurnPlan.{TurnPlan}
 use Rattle.wb_tables.specs.declared.tenancy.Tenancy.{Tenancy as KeptTenancy}
 use Rattle.wb_queries.specs.Looks.{at_of}
-use Rattle.wb_commands.specs.Plans.{Plans}
+use Rattle.wb_commands.specs.Plans.{PlansTurn}
 use Rattle.wb_tables.specs.Places.{ArePlaces, IsAt, is_tenant}
 use Rattle.wb_desk.specs.Ready.{IsMadeAt}
 use Rattle.wb_recovery.specs.SetUp.{AreSetUpRight}
@@ -77,7 +77,7 @@ live_tables time (suc i) items mid (x ∷ ks) (y ∷ ls) d e lt =
 
 -- the turn of the tenant at a place
 pub turn_over : (upto t i : ℕ) (at : KeptAt) (asked : Asked) (plan : TurnPlan) (items mid new : List SealedItem) (ks ls ms : List KeptTenancy) → ArePlaces upto 0 items (map place_of ks) → IsAt t ks i → t ≡ tenant_of asked.command
-    → ((d : KeptTenancy) → Plans (get_or ks i d).configuration.tenant (purged at.time (tables_of items (place_of (get_or ks i d)))) (at_of at) asked plan) → IsPurge at.time (map place_of ks) items (map place_of ls) mid → IsMadeAt i at.time plan.change mid new ls ms
+    → ((d : KeptTenancy) → PlansTurn (get_or ks i d).configuration.tenant (purged at.time (tables_of items (place_of (get_or ks i d)))) (at_of at) asked plan) → IsPurge at.time (map place_of ks) items (map place_of ls) mid → IsMadeAt i at.time plan.change mid new ls ms
     → (AreSetUpRight 0 (map place_of ls) → AreSetUpRight 0 (map place_of ms)) → sessions_at (map place_of ms) ≤ sessions_at (map place_of ls) + 1
     → IsTurnOver (map place_of ks) items at asked plan.told (map place_of ms) new
 turn_over upto t i at asked plan items mid new ks ls ms all is named planned_at purge made right sessions = record {
@@ -99,8 +99,8 @@ turn_over upto t i at asked plan items mid new ks ls ms all is named planned_at 
 
     whole : tables_of new (place_of made.tenancy) ≡ tables_after (tables_of mid (place_of (get_or ls i made.tenancy))) (at_of at) asked
     whole = planned_tables (get_or ls i made.tenancy).configuration.tenant (tables_of mid (place_of (get_or ls i made.tenancy))) (tables_of new (place_of made.tenancy)) (at_of at) asked plan
-        (subst (λ n. Plans n (tables_of mid (place_of (get_or ls i made.tenancy))) (at_of at) asked plan) (sym (ap (λ (x : PlainTenancy). x.id) (live.place made.tenancy)))
-        (subst (λ q. Plans (get_or ks i made.tenancy).configuration.tenant q (at_of at) asked plan) (sym tables_here) (planned_at made.tenancy))) (made.tables made.tenancy)
+        (subst (λ n. PlansTurn n (tables_of mid (place_of (get_or ls i made.tenancy))) (at_of at) asked plan) (sym (ap (λ (x : PlainTenancy). x.id) (live.place made.tenancy)))
+        (subst (λ q. PlansTurn (get_or ks i made.tenancy).configuration.tenant q (at_of at) asked plan) (sym tables_here) (planned_at made.tenancy))) (made.tables made.tenancy)
 
 pub none_live : (time t : ℕ) (zs : List PlainTenancy) → find (is_tenant t) zs ≡ None → find (is_tenant t) (map (live_place time) zs) ≡ None
 none_live time t [] e = refl

@@ -4,3 +4,7 @@ pub mod Openings
 pub mod Puts
 pub mod Ready
 pub mod Turns
+pub mod GoneOn
+pub mod Hosted
+pub mod Turned
+pub mod Whole

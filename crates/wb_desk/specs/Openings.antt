@@ -2,16 +2,17 @@
 use Rattle.std.specs.Prelude.{◌≡◌, ℕ, List, Ok}
 use Rattle.wb_base.specs.declared.rows.Row.{Row}
 use Rattle.wb_model.specs.declared.registry.Lists.{Lists}
-use Rattle.wb_model.specs.Past.{Opening}
+use Rattle.wb_model.specs.Past.{Past, Opening}
 use Rattle.wb_model.specs.Pasts.{AllOpened}
 use Rattle.wb_model.specs.SetUps.{tenant_ids}
 use Rattle.wb_model.specs.Tenants.{Hosts}
-use Rattle.wb_row_rules.specs.declared.faults.RowFault.{RowFault}
-use Rattle.wb_row_rules.specs.declared.faults.RowFault.TheVariants.{BadRow, BadSet, Memory}
+use Rattle.wb_rows.specs.declared.faults.RowFault.{RowFault}
+use Rattle.wb_rows.specs.declared.faults.RowFault.TheVariants.{BadRow, BadSet, Memory}
 use Rattle.wb_rows.specs.Held.{Held}
 use Rattle.wb_rows.specs.Judged.{judged}
 use Rattle.wb_rows.specs.Openings.{tables_of, time_of, with_setup}
 use Rattle.wb_setup.specs.Joined.{joined}
+use Rattle.wb_setup.specs.Setups.{setup as lists_in}
 use Rattle.wb_desk.specs.declared.batch.Lost.{Lost}
 use Rattle.wb_desk.specs.declared.batch.Lost.TheVariants as lost
 use Rattle.wb_desk.specs.declared.open.OpenFault.{OpenFault}
@@ -35,9 +36,15 @@ pub record IsOpenedOver (rows : List Row) (setup : Lists) (hosts : Hosts) : Type
   pub over : IsOpeningOver setup held opening
   pub stands : StandsFor hosts (Opening opening)
 
--- rows that were loaded are those that the keeper held, where it is honest
-abbrev pub AreLoaded : Type 0 → (List Row → Type 0) → List Row → Type 0
-AreLoaded honest holds rows = honest → (before : List Row) → holds before → before ≡ rows
+-- the past that loaded rows and a setup's bytes open: both are read, and the host is before its first turn
+pub record IsOpenedBy (loaded : List Row) (setup : List ℕ) (start : Past AllOpened) : Type 0 where
+  pub lists : Lists
+  pub reads : lists_in setup ≡ Ok lists
+  pub held : Held
+  pub kept : judged loaded ≡ Ok held
+  pub opening : AllOpened
+  pub over : IsOpeningOver lists held opening
+  pub opens : start ≡ Opening opening
 
 -- ---- faults
 

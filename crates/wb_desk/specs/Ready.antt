@@ -19,10 +19,10 @@ AreBy turn who [] = Unit {0}
 AreBy turn who (s ∷ ss) = ((s.turn == turn) ≡ true → same_who s.who who ≡ true) × AreBy turn who ss
 
 -- who logs out ends an own session, and a report that begins has a receipt of its own
-abbrev pub IsOwn : Plain → Mutation → Type 0
-IsOwn p (planned.LogsOut turn who) = AreBy turn (who_seen who) p.sessions
-IsOwn p (planned.Begins o) = HasOwnReceipt o.case.items p.cases
-IsOwn p _ = Unit {0}
+abbrev pub IsOwnMutation : Plain → Mutation → Type 0
+IsOwnMutation p (planned.LogsOut turn who) = AreBy turn (who_seen who) p.sessions
+IsOwnMutation p (planned.Begins o) = HasOwnReceipt o.case.items p.cases
+IsOwnMutation p _ = Unit {0}
 
 -- what a plan changes of a tenant
 abbrev pub planned_change : KeptTenancy → Mutation → Change

@@ -9,7 +9,7 @@ ghost use Rattle.wb_model.specs.Tables.{Who as WhoValue};
 ghost use Rattle.wb_model.specs.declared.entry.Entry.{Entry as EntryValue};
 ghost use Rattle.wb_tables.specs.Kept.{plain_of, place_of, sealed_of};
 ghost use Rattle.wb_tables.specs.Logins.{AreEarlier, login_of, session_of};
-ghost use Rattle.wb_tables.specs.Noted.{IsReady};
+ghost use Rattle.wb_tables.specs.Noted.{IsReadyNote};
 ghost use Rattle.wb_tables.specs.Places.{IsPlace};
 ghost use Rattle.wb_tables.specs.Receipted.{HasOwnReceipt, is_submitted};
 ghost use Rattle.wb_desk.specs.Ready.{AreBy};
@@ -53,7 +53,7 @@ fn put_secret(sealed: &mut SealedTable, tenant: Tenant, number: Number, secret: 
 
 /// A report gets an entry, and the identity answers that come with it are put, into room that was made.
 pub fn note_entry(tenancy: &mut Tenancy, sealed: &mut SealedTable, noted: Noted)
-    requires ready { IsReady noted.number noted.entry tenancy.old.cases.items }
+    requires ready { IsReadyNote noted.number noted.entry tenancy.old.cases.items }
     requires room { 0 < tenancy.old.cases.spare }
     requires sealed_room { 0 < sealed.old.spare }
     ensures id { (place_of tenancy.new).id ≡ (place_of tenancy.old).id }

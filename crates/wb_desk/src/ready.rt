@@ -6,7 +6,7 @@ ghost use Rattle.wb_model.specs.Fits.{fits};
 ghost use Rattle.wb_model.specs.Host.{purged};
 ghost use Rattle.wb_model.specs.Tenants.{without_tenant as told_without};
 ghost use Rattle.wb_queries.specs.Looks.{at_of};
-ghost use Rattle.wb_commands.specs.Plans.{IsFit, IsRoomy, Plans};
+ghost use Rattle.wb_commands.specs.Plans.{IsFit, IsRoomyFor, PlansTurn};
 ghost use Rattle.wb_tables.specs.Dead.{any_dead};
 ghost use Rattle.wb_tables.specs.Kept.{place_of, tables_of};
 ghost use Rattle.wb_tables.specs.Places.{IsPlace, ArePlaces, IsAt};
@@ -47,8 +47,8 @@ fn ready_at(
     requires places { (turns : ℕ) × (turns < at.now.turn) × ArePlaces turns 0 sealed.old.items (map place_of tenancies.old) }
     requires place { IsAt (tenant_of_command asked.now.command) tenancies.old place }
     requires fits { fits asked.now ≡ true }
-    ensures plan { IfOk result (λ plan. (d : KeptTenancy) → Plans (slice_index_or tenancies.old place d).configuration.tenant (purged at.now.time (tables_of sealed.old.items (place_of (slice_index_or tenancies.old place d)))) (at_of at.now) asked.now plan) }
-    ensures room { IfOk result (λ plan. (d : KeptTenancy) → IsRoomy at.now.time (slice_index_or tenancies.new place d) sealed.new.spare plan.change) }
+    ensures plan { IfOk result (λ plan. (d : KeptTenancy) → PlansTurn (slice_index_or tenancies.old place d).configuration.tenant (purged at.now.time (tables_of sealed.old.items (place_of (slice_index_or tenancies.old place d)))) (at_of at.now) asked.now plan) }
+    ensures room { IfOk result (λ plan. (d : KeptTenancy) → IsRoomyFor at.now.time (slice_index_or tenancies.new place d) sealed.new.spare plan.change) }
     ensures tenants_left { map place_of tenancies.new ≡ map place_of tenancies.old }
     ensures sealed_left { sealed.new.items ≡ sealed.old.items }
 {
@@ -87,7 +87,7 @@ fn batch_at(
 ) -> Result<Vec<Change>, Memory>
     requires places { (turns : ℕ) × (items : List SealedItem) × ArePlaces turns 0 items (map place_of tenancies.now) }
     requires within { place < length tenancies.now }
-    requires room { (spare : ℕ) × ((d : KeptTenancy) → IsRoomy time (slice_index_or tenancies.now place d) spare change.now) }
+    requires room { (spare : ℕ) × ((d : KeptTenancy) → IsRoomyFor time (slice_index_or tenancies.now place d) spare change.now) }
     ensures { IfOk result (λ batch. (d : KeptTenancy) → IsBatch time (map place_of tenancies.now) (puts_of time (place_of (slice_index_or tenancies.now place d)) change.now) batch.items) }
 {
     let mut batch = dead_batch(alloc, tenancies, time)?;
@@ -107,8 +107,8 @@ pub fn prepare_at(
     requires places { (turns : ℕ) × (turns < at.now.turn) × ArePlaces turns 0 sealed.old.items (map place_of tenancies.old) }
     requires place { IsAt (tenant_of_command asked.now.command) tenancies.old place }
     requires fits { fits asked.now ≡ true }
-    ensures plan { IfOk result (λ b. (d : KeptTenancy) → Plans (slice_index_or tenancies.old place d).configuration.tenant (purged at.now.time (tables_of sealed.old.items (place_of (slice_index_or tenancies.old place d)))) (at_of at.now) asked.now b.plan) }
-    ensures room { IfOk result (λ b. (d : KeptTenancy) → IsRoomy at.now.time (slice_index_or tenancies.new place d) sealed.new.spare b.plan.change) }
+    ensures plan { IfOk result (λ b. (d : KeptTenancy) → PlansTurn (slice_index_or tenancies.old place d).configuration.tenant (purged at.now.time (tables_of sealed.old.items (place_of (slice_index_or tenancies.old place d)))) (at_of at.now) asked.now b.plan) }
+    ensures room { IfOk result (λ b. (d : KeptTenancy) → IsRoomyFor at.now.time (slice_index_or tenancies.new place d) sealed.new.spare b.plan.change) }
     ensures batch { IfOk result (λ b. (d : KeptTenancy) → IsBatch at.now.time (map place_of tenancies.new) (puts_of at.now.time (place_of (slice_index_or tenancies.new place d)) b.plan.change) b.batch.items) }
     ensures tenants_left { map place_of tenancies.new ≡ map place_of tenancies.old }
     ensures sealed_left { sealed.new.items ≡ sealed.old.items }

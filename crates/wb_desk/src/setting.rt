@@ -4,7 +4,7 @@ ghost use Rattle.std.specs.Option.{option_map_or};
 ghost use Rattle.wb_model.specs.Changes.{Configures};
 ghost use Rattle.wb_model.specs.Host.{is_user, ends_of, plain_after};
 ghost use Rattle.wb_model.specs.Tables.{Registry, Who as WhoValue};
-ghost use Rattle.wb_tables.specs.Configured.{IsReady, setting_of};
+ghost use Rattle.wb_tables.specs.Configured.{IsReadyToSet, setting_of};
 ghost use Rattle.wb_tables.specs.Kept.{place_of, plain_of};
 ghost use Rattle.wb_tables.specs.Logins.{session_of};
 
@@ -39,7 +39,7 @@ fn end_sessions(sessions: &mut Sessions, ended: Option<UserId>)
 
 /// A setting is put in, and the sessions that it ends go.
 pub fn configure(tenancy: &mut Tenancy, next: Proposal)
-    requires ready { IsReady tenancy.old.configuration next }
+    requires ready { IsReadyToSet tenancy.old.configuration next }
     ensures id { (place_of tenancy.new).id ≡ (place_of tenancy.old).id }
     ensures plain { (time : ℕ) → plain_of tenancy.new ≡ plain_after time (Configures (setting_of tenancy.old.configuration.tenant tenancy.old.configuration.registry next)) (plain_of tenancy.old) }
 {

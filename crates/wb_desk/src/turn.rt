@@ -6,11 +6,11 @@ ghost use Rattle.wb_model.specs.Commands.{tenant_of as tenant_of_command};
 ghost use Rattle.wb_model.specs.Fits.{fits};
 ghost use Rattle.wb_model.specs.Host.{changed};
 ghost use Rattle.wb_model.specs.Rows.{rows_of};
-ghost use Rattle.wb_commands.specs.Plans.{IsRoomy, given_of};
+ghost use Rattle.wb_commands.specs.Plans.{IsRoomyFor, given_of};
 ghost use Rattle.wb_tables.specs.Kept.{place_of, plain_of, tables_of, tenancy_of, sessions_at};
 ghost use Rattle.wb_tables.specs.Places.{IsPlace, ArePlaces, is_tenant, IsAt};
 ghost use Rattle.wb_tables.specs.declared.tenancy.Tenancy.{Tenancy as KeptTenancy};
-ghost use Rattle.wb_desk.specs.Ready.{IsOwn, IsMadeAt, planned_change};
+ghost use Rattle.wb_desk.specs.Ready.{IsOwnMutation, IsMadeAt, planned_change};
 ghost use Rattle.wb_recovery.specs.SetUp.{AreSetUpRight};
 ghost use Rattle.wb_desk.specs.Turns.{IsTurnAt};
 
@@ -28,8 +28,8 @@ use wb_tables::{Tenancy, delete_report, place_at, purge_all};
 // Makes the change of a turn that is ready, over purged tables. It takes no memory and cannot fail.
 fn make(tenancy: &mut Tenancy, sealed: &mut SealedTable, time: Moment, change: Mutation)
     requires place { (turns : ℕ) × IsPlace turns sealed.old.items (place_of tenancy.old) }
-    requires room { IsRoomy time tenancy.old sealed.old.spare change }
-    requires own { IsOwn (plain_of tenancy.old) change }
+    requires room { IsRoomyFor time tenancy.old sealed.old.spare change }
+    requires own { IsOwnMutation (plain_of tenancy.old) change }
     ensures tables { tables_of sealed.new.items (place_of tenancy.new) ≡ changed time (planned_change tenancy.old change) (given_of change) (tables_of sealed.old.items (place_of tenancy.old)) }
     ensures id { (place_of tenancy.new).id ≡ (place_of tenancy.old).id }
     ensures others { (t n : ℕ) → t ≢ (place_of tenancy.old).id → answers_of sealed.new.items t n ≡ answers_of sealed.old.items t n }
@@ -55,8 +55,8 @@ fn make_at(
 )
     requires places { (turns : ℕ) × ArePlaces turns 0 sealed.old.items (map place_of tenancies.old) }
     requires within { place < length tenancies.old }
-    requires room { (d : KeptTenancy) → IsRoomy time (slice_index_or tenancies.old place d) sealed.old.spare change }
-    requires own { (d : KeptTenancy) → IsOwn (plain_of (slice_index_or tenancies.old place d)) change }
+    requires room { (d : KeptTenancy) → IsRoomyFor time (slice_index_or tenancies.old place d) sealed.old.spare change }
+    requires own { (d : KeptTenancy) → IsOwnMutation (plain_of (slice_index_or tenancies.old place d)) change }
     ensures made { IsMadeAt place time change sealed.old.items sealed.new.items tenancies.old tenancies.new }
     ensures set_up { AreSetUpRight 0 (map place_of tenancies.old) → AreSetUpRight 0 (map place_of tenancies.new) }
     // A turn makes one session at most.

@@ -4,7 +4,8 @@ use Rattle.serde_json.specs.Data.{Data}
 use Rattle.wb_transport.specs.Lines.{Line}
 use Rattle.wb_etcd.specs.Transactions.{request_text}
 use Rattle.wb_etcd.specs.Answers.{IsAnswer}
-use Rattle.wb_etcd.specs.Exchanges.{Dialed, Connection, given, after_call, first_given, connection, exchanged, after_close, Asks}
+use Rattle.wb_transport.specs.Dials.{Dialed, given, after_call, after_close}
+use Rattle.wb_etcd.specs.Exchanges.{Connection, first_given, connection, exchanged, Asks}
 
 pub asks : (endpoints : List (List ℕ)) (path body request endpoint : List ℕ) (x : Dialed) (line : Line) (answer : Data) → (connection endpoints x).line ≡ Some line → endpoint ≡ (connection endpoints x).endpoint → request ≡ request_text endpoint path body → IsAnswer line.left answer → Asks endpoints path body x (after_close (exchanged request line) (connection endpoints x).after) answer
 asks endpoints path body request endpoint x line answer connects same text is = record {

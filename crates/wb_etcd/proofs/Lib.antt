@@ -3,3 +3,4 @@ pub mod AboveLast
 pub mod Bodies
 pub mod ToldRows
 pub mod Asking
+pub mod Names

@@ -9,7 +9,8 @@ use Rattle.wb_etcd.specs.declared.standing.Standing.TheVariants.{Unloaded, Holds
 use Rattle.wb_etcd.specs.KeyTexts.{Keys, key_text, holder_text, all_rows}
 use Rattle.wb_etcd.specs.Transactions.{operations, batch_text, take_over_text, one_text, range_text}
 use Rattle.wb_etcd.specs.Answers.{is_made, has_more, HasRevision, told_items, WasPutAt, AreRowsOf}
-use Rattle.wb_etcd.specs.Exchanges.{Dialed, Asks}
+use Rattle.wb_transport.specs.Dials.{Dialed}
+use Rattle.wb_etcd.specs.Exchanges.{Asks}
 
 abbrev pub transaction_path : List ℕ
 transaction_path = codes "/v3/kv/txn"
@@ -23,7 +24,7 @@ piece_limit = 16
 
 -- how many operations a transaction may have
 abbrev pub operation_limit : ℕ
-operation_limit = 128
+operation_limit = 32_768
 
 -- ---- taking the rows
 

@@ -4,5 +4,4 @@ pub mod Answers
 pub mod Exchanges
 pub mod Holding
 pub mod Counts
-pub mod MemoryDials
 pub mod StoreNames

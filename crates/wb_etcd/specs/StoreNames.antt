@@ -1,6 +1,6 @@
 -- The name of a store: `etcd://`, its endpoints with commas between, a slash, and the prefix of its keys.
-use Rattle.std.specs.Prelude.{◌≡◌, ℕ, ◌<◌, ◌&&◌, ◌||◌, ◌==◌, nat_le, not, Bool, true, List, [], ◌∷◌, ◌++◌, length, codes, flat_map}
-use Rattle.std.specs.List.{list_all, list_any}
+use Rattle.std.specs.Prelude.{◌≡◌, ℕ, ◌<◌, ◌&&◌, ◌||◌, ◌==◌, nat_le, not, Bool, true, List, ◌++◌, length, codes, Option, Some, None, if◌then◌else◌}
+use Rattle.std.specs.List.{list_all, list_any, slice_split, join_with_byte}
 
 -- a letter or a digit of ASCII
 abbrev pub is_letter_or_digit : ℕ → Bool
@@ -24,8 +24,11 @@ is_prefix text = list_all is_prefix_byte text && not (length text == 0)
 
 -- endpoints with commas between
 abbrev pub listed : List (List ℕ) → List ℕ
-listed [] = []
-listed (endpoint ∷ others) = endpoint ++ flat_map (λ next. codes "," ++ next) others
+listed endpoints = join_with_byte 44 endpoints
+
+-- the endpoints between commas, where all are some
+abbrev pub endpoints_in : List ℕ → Option (List (List ℕ))
+endpoints_in text = let parts = slice_split (λ b. b == 44) text in if list_all is_endpoint parts then Some parts else None
 
 unfoldable pub name_text : List (List ℕ) → List ℕ → List ℕ
 name_text endpoints prefix = codes "etcd://" ++ (listed endpoints ++ (codes "/" ++ prefix))

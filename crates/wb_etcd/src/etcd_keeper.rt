@@ -7,16 +7,17 @@ ghost use Rattle.wb_base.specs.KeptRows.{key_cmp, key_of, IsGoodChange};
 ghost use Rattle.wb_etcd.specs.declared.standing.Standing.TheVariants.{Unloaded as IsUnloaded, Holds as HoldsSince, Ended as HasEnded};
 ghost use Rattle.wb_etcd.specs.Counts.{count_with, count_after};
 ghost use Rattle.wb_etcd.specs.Transactions.{operations};
-ghost use Rattle.wb_etcd.specs.Exchanges.{Dialed, connection};
+ghost use Rattle.wb_transport.specs.Dials.{Dialed};
+ghost use Rattle.wb_etcd.specs.Exchanges.{connection};
 ghost use Rattle.wb_etcd.specs.Holding.{EtcdState, operation_limit, held_since, after_fault, TakesOver, Commits};
 
-use crate::dialing::Dial;
 use crate::standing::{NotKept, Standing};
 use crate::store::Store;
 use crate::taking::{commit, take};
 use std::alloc::Global;
 use std::marker::Model;
 use wb_base::{Change, KeepErr, Keeper, Row};
+use wb_transport::Dial;
 
 /// A keeper of rows in a store of etcd, which one host holds at a time. It promises nothing of its rows, since others may write
 /// them; what it sends and which answers it takes is told by its dialer.

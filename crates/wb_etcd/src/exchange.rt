@@ -5,15 +5,15 @@ ghost use Rattle.serde_json.specs.View.{view};
 ghost use Rattle.wb_transport.specs.Lines.{Line, IsLine};
 ghost use Rattle.wb_etcd.specs.Answers.{IsAnswer};
 ghost use Rattle.wb_etcd.specs.Transactions.{request_text};
-ghost use Rattle.wb_etcd.specs.Exchanges.{Dialed, connection, exchanged, after_close, Asks};
+ghost use Rattle.wb_transport.specs.Dials.{Dialed, after_close};
+ghost use Rattle.wb_etcd.specs.Exchanges.{connection, exchanged, Asks};
 
-use crate::dialing::Dial;
 use crate::requests::request;
 use crate::responses::read_answer;
 use serde_json::Value;
 use std::alloc::Global;
 use wb_base::{Failed, KeepErr, Memory, Text};
-use wb_transport::Link;
+use wb_transport::{Dial, Link};
 
 /// How many bytes an answer may have, its head among them.
 pub const MAX_ANSWER: usize = 64 * 1024 * 1024;

@@ -3,11 +3,9 @@
 
 mod above;
 mod answers;
-mod dialing;
 mod etcd_keeper;
 mod exchange;
 mod keys;
-mod memory_dial;
 mod requests;
 mod responses;
 mod standing;
@@ -16,11 +14,9 @@ mod taking;
 #[cfg(test)]
 mod tests;
 
-pub use dialing::Dial;
 pub use etcd_keeper::EtcdKeeper;
 pub use exchange::MAX_ANSWER;
 pub use keys::key_texts_are_in_order;
-pub use memory_dial::MemDial;
 pub use requests::MAX_TXN_OPS;
 pub use standing::Standing;
 pub use store::Store;

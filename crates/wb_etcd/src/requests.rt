@@ -9,8 +9,8 @@ use base64::engine::general_purpose::STANDARD;
 use std::alloc::Global;
 use wb_base::{Change, Memory, Row};
 
-/// How many operations one transaction may have: etcd's `--max-txn-ops` where it is not set.
-pub const MAX_TXN_OPS: usize = 128;
+/// How many operations one transaction may have. The `--max-txn-ops` of each node has to be as many at least.
+pub const MAX_TXN_OPS: usize = 32_768;
 
 /// The path of transactions.
 pub(crate) const TRANSACTION: &str = "/v3/kv/txn";
@@ -87,9 +87,9 @@ fn operations_of(change: &Change) -> usize
     }
 }
 
-/// How many operations changes take, or more than a transaction may have.
+/// Whether changes take no more operations than a transaction may have.
 pub(crate) fn fits(changes: &[Change]) -> bool
-    ensures { result ≡ nat_le (sum_by operations changes.now) 128 }
+    ensures { result ≡ nat_le (sum_by operations changes.now) 32_768 }
 {
     let mut count = 0;
     for change in changes {

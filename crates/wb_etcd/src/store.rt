@@ -1,8 +1,7 @@
 //! The name of a store.
-ghost use Rattle.std.specs.Prelude.{◌≡◌, ◌<◌, length, IfOk, IfSome, true};
-ghost use Rattle.std.specs.String.{string_bytes};
+ghost use Rattle.std.specs.Prelude.{◌≡◌, ℕ, List, None, Ok, IfOk, IfSome};
 ghost use Rattle.std.specs.List.{list_all};
-ghost use Rattle.wb_etcd.specs.StoreNames.{is_endpoint_byte as is_of_endpoint, is_endpoint as is_endpoint_text, is_prefix_byte as is_of_prefix, is_prefix as is_prefix_text, listed as listed_text, name_text, IsStoreName};
+ghost use Rattle.wb_etcd.specs.StoreNames.{is_endpoint_byte as is_of_endpoint, is_endpoint as is_endpoint_text, is_prefix_byte as is_of_prefix, is_prefix as is_prefix_text, endpoints_in, IsStoreName};
 
 use std::alloc::Global;
 use wb_base::{Memory, Text};
@@ -63,47 +62,29 @@ fn is_prefix(text: &str) -> bool
 
 // The endpoints between commas, where all are some.
 fn read_endpoints(alloc: Global, text: &str) -> Result<Option<Items<Text>>, Memory>
-    ensures { IfOk result (λ read. IfSome read (λ endpoints. list_all is_endpoint_text endpoints ≡ true)) }
+    ensures { IfOk result (λ read. read ≡ endpoints_in text.now) }
 {
     let mut endpoints = Items::new(alloc);
-    for endpoint in text.split(',') {
+    let mut rest = text;
+    while let Some((endpoint, others)) = rest.split_once(',') {
         if !is_endpoint(endpoint) {
             return Ok(None);
         }
         endpoints.push(Text::from_str(alloc, endpoint)?)?;
+        rest = others;
     }
+    if !is_endpoint(rest) {
+        return Ok(None);
+    }
+    endpoints.push(Text::from_str(alloc, rest)?)?;
     Ok(Some(endpoints))
 }
 
-// Endpoints with commas between.
-fn listed(alloc: Global, endpoints: &[Text]) -> Result<String, Memory>
-    ensures { IfOk result (λ text. string_bytes text ≡ listed_text endpoints.now) }
-{
-    let Some((first, rest)) = endpoints.split_first() else {
-        return Ok(String::new(alloc));
-    };
-    let mut text = String::from_str(alloc, first.as_str())?;
-    for endpoint in rest {
-        text.push(',')?;
-        text.push_str(endpoint.as_str())?;
-    }
-    Ok(text)
-}
-
 impl Store {
-    /// Its name.
-    #[tactic(auto, unfolding(crate::specs::StoreNames::name_text))]
-    pub fn name(&self, alloc: Global) -> Result<String, Memory>
-        ensures { IfOk result (λ text. string_bytes text ≡ name_text self.now.endpoints self.now.prefix) }
-    {
-        let endpoints = listed(alloc, self.endpoints.as_slice())?;
-        let prefix = self.prefix.as_str();
-        Ok(format!(in alloc; "etcd://{endpoints}/{prefix}")?)
-    }
-
     /// The store that a text names, `etcd://HOST:PORT[,HOST:PORT..]/PREFIX`.
     pub fn read(alloc: Global, name: &str) -> Result<Option<Store>, Memory>
-        ensures { IfOk result (λ read. IfSome read (λ store. IsStoreName name.now store.endpoints store.prefix)) }
+        ensures found { IfOk result (λ read. IfSome read (λ store. IsStoreName name.now store.endpoints store.prefix)) }
+        ensures none { result ≡ Ok None → (endpoints : List (List ℕ)) (prefix : List ℕ) → IsStoreName name.now endpoints prefix → ⊥ }
     {
         let Some(rest) = name.strip_prefix("etcd://") else {
             return Ok(None);
@@ -111,21 +92,15 @@ impl Store {
         let Some((hosts, prefix)) = rest.split_once('/') else {
             return Ok(None);
         };
+        if !is_prefix(prefix) {
+            return Ok(None);
+        }
         let Some(endpoints) = read_endpoints(alloc, hosts)? else {
             return Ok(None);
         };
-        if !is_prefix(prefix) || endpoints.len() == 0 {
-            return Ok(None);
-        }
-        let store = Store {
+        Ok(Some(Store {
             endpoints,
             prefix: Text::from_str(alloc, prefix)?,
-        };
-        let again = store.name(alloc)?;
-        Ok(if again.as_str() == name {
-            Some(store)
-        } else {
-            None
-        })
+        }))
     }
 }

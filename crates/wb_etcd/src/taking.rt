@@ -7,11 +7,11 @@ ghost use Rattle.wb_base.specs.declared.faults.KeepErr.TheVariants.{Failed as St
 ghost use Rattle.wb_etcd.specs.declared.standing.NotKept.TheVariants.{Unsent as WasUnsent, Sent as WasSent};
 ghost use Rattle.wb_etcd.specs.KeyTexts.{IsRange};
 ghost use Rattle.wb_etcd.specs.Transactions.{operations};
-ghost use Rattle.wb_etcd.specs.Exchanges.{Dialed, connection};
+ghost use Rattle.wb_transport.specs.Dials.{Dialed};
+ghost use Rattle.wb_etcd.specs.Exchanges.{connection};
 ghost use Rattle.wb_etcd.specs.Holding.{keys_after, operation_limit, ReadsAll, TakesOver, Commits};
 
 use crate::answers::{add_rows, has_more, is_made, items, put_at, revision};
-use crate::dialing::Dial;
 use crate::exchange::{ask, connect, exchange};
 use crate::keys::{KeyRange, all_rows, holder_key, key_text};
 use crate::requests::{RANGE, TRANSACTION, batch, fits, one, range, request, take_over};
@@ -19,6 +19,7 @@ use crate::standing::NotKept;
 use std::alloc::Global;
 use wb_base::{Change, KeepErr, Memory, Row, Text};
 use wb_list::Sorted;
+use wb_transport::Dial;
 
 /// How many rows are asked for at once. A row has at most what one request to etcd may have, 1.5 MiB where it is not set.
 pub const PIECE_ROWS: u32 = 16;

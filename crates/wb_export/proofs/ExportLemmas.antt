@@ -4,8 +4,8 @@ use Rattle.std.specs.Io.KnownBytes.{Appends}
 use Rattle.wb_base.specs.declared.rows.Row.{Row}
 use Rattle.wb_base.specs.Outside.{AppendsFront, Rose}
 use Rattle.wb_rows.specs.Held.{Held}
-use Rattle.wb_start.specs.declared.status.Status.{Status}
-use Rattle.wb_start.specs.declared.status.Status.TheVariants.{Done, WriteFault}
+use Rattle.wb_cli.specs.declared.status.Status.{Status}
+use Rattle.wb_cli.specs.declared.status.Status.TheVariants.{Done, WriteFault}
 use Rattle.wb_export.specs.Exports.{Exported, Looked}
 
 module _ (keeper keeper' : ℕ) (honest : Type 0) (holds : List Row → Type 0) (held held' : Option (List ℕ)) (sink sink' : ℕ) (is_there : Held → Bool) (IsText : Held → List ℕ → Type 0) where

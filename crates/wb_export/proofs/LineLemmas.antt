@@ -10,9 +10,9 @@ use Rattle.csv.specs.Writing.{row_text, default_writer, text_written, writer_set
 use Rattle.csv.specs.declared.writer.QuoteStyle.TheVariants as style
 use Rattle.csv.specs.declared.writer.Writer.{Writer}
 use Rattle.csv.specs.declared.writer.WriterBuilder.{WriterBuilder}
-use Rattle.wb_export.specs.Csv.{Line, csv_text, HasWritten}
+use Rattle.wb_export.specs.Csv.{CsvLine, csv_text, HasWritten}
 
-with_line : (lines : List Line) (line : Line) → csv_text (lines ++ line ∷ []) ≡ csv_text lines ++ row_text default_writer line
+with_line : (lines : List CsvLine) (line : CsvLine) → csv_text (lines ++ line ∷ []) ≡ csv_text lines ++ row_text default_writer line
 with_line [] line = append-nil (row_text default_writer line)
 with_line (x ∷ xs) line = ap (λ text. row_text default_writer x ++ text) (with_line xs line) ∙ sym (append_assoc (row_text default_writer x) (csv_text xs) (row_text default_writer line))
 
@@ -26,7 +26,7 @@ of_some xs ys e = ap (λ o. unwrap_or o xs) e
 pub plain : (cfg : WriterBuilder) → cfg ≡ default_writer → cfg.style ≢ style.NonNumeric
 plain cfg e = rw e (λ s. cc s)
 
-pub one_more : {W : Type 0} (contents : W → Option (List ℕ)) (before after : Writer W) (lines : List Line) (line : Line)
+pub one_more : {W : Type 0} (contents : W → Option (List ℕ)) (before after : Writer W) (lines : List CsvLine) (line : CsvLine)
     → HasWritten contents before lines
     → (fields_written before ≡ 0 → has_written before ≡ false → (writer_setup before).style ≢ style.NonNumeric → Appends (text_written contents before) (text_written contents after) (row_text (writer_setup before) line))
     → writer_setup after ≡ writer_setup before → fields_written after ≡ 0 → has_written after ≡ false
@@ -48,8 +48,8 @@ where_ok (Err b) e h = absurd cc
 
 -- ---- lines of items, one after another
 
-pub next_line : {X : Type 0} (line : X → Line) (xs : List X) (i : ℕ) (x : X) → i < length xs → x ≡ get_or xs i x → (map line (take i xs) ++ line x ∷ []) ≡ map line (take (i + 1) xs)
+pub next_line : {X : Type 0} (line : X → CsvLine) (xs : List X) (i : ℕ) (x : X) → i < length xs → x ≡ get_or xs i x → (map line (take i xs) ++ line x ∷ []) ≡ map line (take (i + 1) xs)
 next_line line xs i x within is = sym (map-append line (take i xs) (x ∷ [])) ∙ ap (map line) (sym (take_more xs i x within ∙ ap (λ y. take i xs ++ y ∷ []) (sym is)))
 
-pub all_lines : {X : Type 0} (line : X → Line) (xs : List X) (i : ℕ) → length xs ≤ i → map line (take i xs) ≡ map line xs
+pub all_lines : {X : Type 0} (line : X → CsvLine) (xs : List X) (i : ℕ) → length xs ≤ i → map line (take i xs) ≡ map line xs
 all_lines line xs i over = ap (map line) (take_all i xs over)

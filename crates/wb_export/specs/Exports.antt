@@ -12,9 +12,9 @@ use Rattle.wb_model.specs.Targets.{same_role}
 use Rattle.wb_tenants.specs.Sets.{is_tenant}
 use Rattle.wb_rows.specs.Held.{Held}
 use Rattle.wb_rows.specs.Openings.{cases_of, time_of}
-use Rattle.wb_start.specs.declared.status.Status.{Status}
-use Rattle.wb_start.specs.declared.status.Status.TheVariants.{Done, WriteFault, NotThere}
-use Rattle.wb_start.specs.Starts.{AreRead, ReadsNone}
+use Rattle.wb_cli.specs.declared.status.Status.{Status}
+use Rattle.wb_cli.specs.declared.status.Status.TheVariants.{Done, WriteFault, NotThere}
+use Rattle.wb_cli.specs.Loads.{AreRead, ReadsNone}
 use Rattle.wb_export.specs.declared.forecasts.Expiring.{Expiring}
 use Rattle.wb_export.specs.Forecasts.{IsForecast, forecast_text}
 use Rattle.wb_export.specs.Registers.{register_text}

@@ -10,7 +10,7 @@ use Rattle.wb_model.specs.Past.{Past, Turn}
 use Rattle.wb_model.specs.Requests.{Frame}
 use Rattle.wb_model.specs.Tables.{Case, Plain}
 use Rattle.wb_model.specs.Trails.{expires}
-use Rattle.wb_export.specs.Csv.{Line, csv_text}
+use Rattle.wb_export.specs.Csv.{CsvLine, csv_text}
 use Rattle.wb_export.specs.declared.forecasts.Expiring.{Expiring}
 
 -- the expiry of a report is this day or before
@@ -32,10 +32,10 @@ pub record IsForecast (day : ℤ) (cases : List Case) (found : List Expiring) : 
   pub by_expiry : IsSortedBy expires_before found
   pub of_each_day : (d : ℤ) → filter (expires_on d) found ≡ filter (expires_on d) (map expiring (filter (expires_by day) cases))
 
-abbrev pub forecast_header : Line
+abbrev pub forecast_header : CsvLine
 forecast_header = codes "number" ∷ codes "expires" ∷ []
 
-abbrev pub forecast_line : Expiring → Line
+abbrev pub forecast_line : Expiring → CsvLine
 forecast_line x = decimal x.number ∷ date_text x.expires ∷ []
 
 abbrev pub forecast_text : List Expiring → List ℕ

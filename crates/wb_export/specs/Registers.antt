@@ -5,7 +5,7 @@ use Rattle.wb_model.specs.Names.{status_name}
 use Rattle.wb_model.specs.Tables.{Case, Registry, is_live}
 use Rattle.wb_model.specs.Trails.{context, label, status, received, ack_due, acknowledged, feedback_due, expires, has_identity}
 use Rattle.wb_model.specs.ViewRows.{readable}
-use Rattle.wb_export.specs.Csv.{Line, csv_text}
+use Rattle.wb_export.specs.Csv.{CsvLine, csv_text}
 
 -- a day that may be missing is empty then
 abbrev pub day_field : Option ℤ → List ℕ
@@ -16,10 +16,10 @@ day_field (Some day) = date_text day
 abbrev pub identity_field : Case → List ℕ
 identity_field c = if has_identity c.trail then codes "sealed" else codes "none"
 
-abbrev pub register_header : Line
+abbrev pub register_header : CsvLine
 register_header = codes "number" ∷ codes "context" ∷ codes "label" ∷ codes "status" ∷ codes "received" ∷ codes "ack_due" ∷ codes "acknowledged" ∷ codes "feedback_due" ∷ codes "expires" ∷ codes "identity" ∷ []
 
-abbrev pub register_line : Case → Line
+abbrev pub register_line : Case → CsvLine
 register_line c =
     decimal c.number ∷
     decimal (context c.trail) ∷

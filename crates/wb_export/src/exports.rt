@@ -5,16 +5,16 @@ ghost use Rattle.wb_base.specs.Outside.{AppendsFront, Rose};
 ghost use Rattle.wb_base.specs.declared.rows.Row.{Row};
 ghost use Rattle.wb_rows.specs.Held.{Held, held_by};
 ghost use Rattle.wb_rows.specs.Judged.{judged};
-ghost use Rattle.wb_start.specs.Starts.{KeepsRows};
+ghost use Rattle.wb_rows.specs.Loaded.{KeepsRows};
 ghost use Rattle.wb_export.specs.Exports.{Exported, IsForecastOf, IsRegisterOf, has_recipient, has_tenant as has_tenant_of};
 
 use crate::forecasts::forecast;
 use crate::registers::register;
 use std::alloc::Global;
 use wb_base::{Day, Keeper, Memory, Moment, Role, Sink, Tenant, UserId};
+use wb_cli::{Status, load_tables};
 use wb_recovery::{later, latest_kept};
 use wb_rows::Tables;
-use wb_start::{Status, load_tables};
 
 // Whether a tenant is there.
 fn has_tenant(tables: &Tables, tenant: Tenant) -> bool
@@ -57,7 +57,7 @@ pub fn export_register<W: Sink, K: Keeper>(
     keeper: &mut K,
 ) -> Status
     ensures did { Exported (K.count keeper.old) (K.count keeper.new) (K.honest keeper.new) (K.holds keeper.old) (W.held sink.old) (W.held sink.new) (W.count sink.old) (W.count sink.new) (has_recipient tenant user) (IsRegisterOf tenant user moment) result }
-    ensures rows { KeepsRows (K.count keeper.old) (K.count keeper.new) (K.honest keeper.new) (K.holds keeper.old) (K.holds keeper.new) }
+    ensures rows { KeepsRows (K.honest keeper.new) (K.holds keeper.old) (K.holds keeper.new) }
     ensures back { K.honest keeper.new → K.honest keeper.old }
     ensures written_on { result ≢ Status.WriteFault → W.count sink.new ≡ W.count sink.old }
     // It is written over rows that are read, where the user is there and nothing failed, or there was no memory.
@@ -86,7 +86,7 @@ pub fn export_forecast<W: Sink, K: Keeper>(
     keeper: &mut K,
 ) -> Status
     ensures did { Exported (K.count keeper.old) (K.count keeper.new) (K.honest keeper.new) (K.holds keeper.old) (W.held sink.old) (W.held sink.new) (W.count sink.old) (W.count sink.new) (has_tenant_of tenant) (IsForecastOf tenant day) result }
-    ensures rows { KeepsRows (K.count keeper.old) (K.count keeper.new) (K.honest keeper.new) (K.holds keeper.old) (K.holds keeper.new) }
+    ensures rows { KeepsRows (K.honest keeper.new) (K.holds keeper.old) (K.holds keeper.new) }
     ensures back { K.honest keeper.new → K.honest keeper.old }
     ensures written_on { result ≢ Status.WriteFault → W.count sink.new ≡ W.count sink.old }
     // It is written over rows that are read, where the tenant is there and nothing failed, or there was no memory.

@@ -1,10 +1,10 @@
 //! What expires by a day.
 ghost use Rattle.std.specs.Prelude.{◌≡◌, ◌∷◌, ℤ, filter, map, List, IfOk, OnOk};
 ghost use Rattle.std.specs.List.Sorted.{IsSortedBy};
-ghost use Rattle.wb_export.specs.Csv.{IsLine};
+ghost use Rattle.wb_export.specs.Csv.{IsCsvLine};
 ghost use Rattle.wb_export.specs.Forecasts.{IsForecast, expires_before, expires_by, expires_on, expiring, forecast_header, forecast_line, forecast_text};
 ghost use Rattle.wb_export.specs.declared.forecasts.Expiring.{Expiring as Row};
-ghost use Rattle.wb_row_rules.specs.Reports.{case_report};
+ghost use Rattle.wb_rows.specs.Reports.{case_report};
 ghost use Rattle.wb_rows.specs.Held.{held_by};
 ghost use Rattle.wb_rows.specs.Openings.{cases_of, tables_of};
 
@@ -12,8 +12,7 @@ use crate::lines::{add_day, add_number, begin, end, put};
 use csv::ByteRecord;
 use std::alloc::Global;
 use wb_base::{Day, Memory, Number, Tenant};
-use wb_row_rules::CaseItem;
-use wb_rows::Tables;
+use wb_rows::{CaseItem, Tables};
 
 /// A report that expires, and the day on which it does.
 #[derive(Clone, Copy, Debug, PartialEq, Eq)]
@@ -55,7 +54,7 @@ fn sort(rows: &mut Vec<Expiring>) -> Result<(), Memory>
 
 // The line of a report that expires.
 fn line_of(alloc: Global, row: &Expiring) -> Result<ByteRecord, Memory>
-    ensures { IfOk result (λ line. IsLine line (forecast_line row.now)) }
+    ensures { IfOk result (λ line. IsCsvLine line (forecast_line row.now)) }
 {
     let mut line = ByteRecord::new(alloc);
     add_number(&mut line, row.number.get())?;

@@ -1,7 +1,7 @@
 //! Lines of fields as CSV, written into memory. Each fault of the writer is want of memory, since nothing else is written to.
 ghost use Rattle.std.specs.Prelude.{◌≡◌, ◌++◌, ◌∷◌, [], List, Some, map, decimal, IfOk, OnOk};
 ghost use Rattle.wb_base.specs.DateTexts.{date_text as date_text_of};
-ghost use Rattle.wb_export.specs.Csv.{HasWritten, IsLine, Line, csv_text};
+ghost use Rattle.wb_export.specs.Csv.{HasWritten, IsCsvLine, CsvLine, csv_text};
 
 use csv::{ByteRecord, Writer, WriterBuilder};
 use itoa::Buffer;
@@ -22,7 +22,7 @@ pub(crate) fn begin(alloc: Global, header: &[&[u8]]) -> Result<Writer<Vec<u8>>, 
 
 // Puts a line at the end.
 pub(crate) fn put(lines: &mut Writer<Vec<u8>>, line: &ByteRecord) -> Result<(), Memory>
-    ensures { OnOk result ((before : List Line) (fields : Line) → HasWritten (λ v. Some v.items) lines.old before → IsLine line.now fields → HasWritten (λ v. Some v.items) lines.new (before ++ fields ∷ [])) }
+    ensures { OnOk result ((before : List CsvLine) (fields : CsvLine) → HasWritten (λ v. Some v.items) lines.old before → IsCsvLine line.now fields → HasWritten (λ v. Some v.items) lines.new (before ++ fields ∷ [])) }
 {
     if lines.write_byte_record(line).is_err() {
         return Err(Memory);
@@ -32,7 +32,7 @@ pub(crate) fn put(lines: &mut Writer<Vec<u8>>, line: &ByteRecord) -> Result<(), 
 
 // The text of all lines.
 pub(crate) fn end(lines: Writer<Vec<u8>>) -> Result<Vec<u8>, Memory>
-    ensures { IfOk result (λ text. (all : List Line) → HasWritten (λ v. Some v.items) lines all → text.items ≡ csv_text all) }
+    ensures { IfOk result (λ text. (all : List CsvLine) → HasWritten (λ v. Some v.items) lines all → text.items ≡ csv_text all) }
 {
     match lines.into_inner() {
         Ok(text) => Ok(text),
@@ -42,7 +42,7 @@ pub(crate) fn end(lines: Writer<Vec<u8>>) -> Result<Vec<u8>, Memory>
 
 // Puts a field at the end of a line.
 pub(crate) fn add(line: &mut ByteRecord, field: &[u8]) -> Result<(), Memory>
-    ensures { OnOk result ((before : Line) → IsLine line.old before → IsLine line.new (before ++ field.now ∷ [])) }
+    ensures { OnOk result ((before : CsvLine) → IsCsvLine line.old before → IsCsvLine line.new (before ++ field.now ∷ [])) }
 {
     line.push_field(field)?;
     Ok(())
@@ -50,7 +50,7 @@ pub(crate) fn add(line: &mut ByteRecord, field: &[u8]) -> Result<(), Memory>
 
 // Puts a number at the end of a line, in decimal digits.
 pub(crate) fn add_number(line: &mut ByteRecord, number: u32) -> Result<(), Memory>
-    ensures { OnOk result ((before : Line) → IsLine line.old before → IsLine line.new (before ++ decimal number ∷ [])) }
+    ensures { OnOk result ((before : CsvLine) → IsCsvLine line.old before → IsCsvLine line.new (before ++ decimal number ∷ [])) }
 {
     let mut digits = Buffer::new();
     add(line, digits.format(number).as_bytes())
@@ -58,7 +58,7 @@ pub(crate) fn add_number(line: &mut ByteRecord, number: u32) -> Result<(), Memor
 
 // Puts a day at the end of a line, as YYYY-MM-DD.
 pub(crate) fn add_day(line: &mut ByteRecord, day: Day) -> Result<(), Memory>
-    ensures { OnOk result ((before : Line) → IsLine line.old before → IsLine line.new (before ++ date_text_of day ∷ [])) }
+    ensures { OnOk result ((before : CsvLine) → IsCsvLine line.old before → IsCsvLine line.new (before ++ date_text_of day ∷ [])) }
 {
     add(line, date_text(day).as_slice())
 }

@@ -8,7 +8,7 @@ ghost use Rattle.wb_model.specs.Trails.{expires, reads as reads_by};
 ghost use Rattle.wb_tenants.specs.Sets.{HasTenant};
 ghost use Rattle.wb_rows.specs.Held.{held_by};
 ghost use Rattle.wb_rows.specs.Openings.{tables_of};
-ghost use Rattle.wb_export.specs.Csv.{IsLine, Line};
+ghost use Rattle.wb_export.specs.Csv.{IsCsvLine, CsvLine};
 ghost use Rattle.wb_export.specs.Registers.{day_field, register_line, register_text};
 
 use crate::lines::{add, add_day, add_number, begin, end, put};
@@ -17,8 +17,7 @@ use std::alloc::Global;
 use wb_base::{Day, Memory, Moment, Number, Tenant, UserId};
 use wb_case::Case;
 use wb_json::status_name;
-use wb_row_rules::CaseItem;
-use wb_rows::Tables;
+use wb_rows::{CaseItem, Tables};
 use wb_terms::day_of;
 
 const HEADER: [&[u8]; 10] = [
@@ -36,7 +35,7 @@ const HEADER: [&[u8]; 10] = [
 
 // Puts a day that may be missing at the end of a line.
 fn add_day_or_none(line: &mut ByteRecord, day: Option<Day>) -> Result<(), Memory>
-    ensures { OnOk result ((before : Line) → IsLine line.old before → IsLine line.new (before ++ day_field day ∷ [])) }
+    ensures { OnOk result ((before : CsvLine) → IsCsvLine line.old before → IsCsvLine line.new (before ++ day_field day ∷ [])) }
 {
     match day {
         Some(day) => add_day(line, day),
@@ -53,7 +52,7 @@ fn identity_field(has_identity: bool) -> &'static str
 
 // The line of a report.
 fn line_of(alloc: Global, number: Number, case: &Case) -> Result<ByteRecord, Memory>
-    ensures { IfOk result (λ line. IsLine line (register_line (record { number = number; trail = case.now.items }))) }
+    ensures { IfOk result (λ line. IsCsvLine line (register_line (record { number = number; trail = case.now.items }))) }
 {
     let summary = case.summary();
     let mut line = ByteRecord::new(alloc);

@@ -13,11 +13,11 @@ use Rattle.wb_transport.specs.Lines.{Tick}
 use Rattle.wb_front.specs.declared.answers.Replied.{Replied}
 use Rattle.wb_front.specs.declared.connection.Ended.{Ended}
 use Rattle.wb_front.specs.declared.connection.Ended.TheVariants as ended
-use Rattle.wb_front.specs.Answers.{IsAnswered, IsFatal}
+use Rattle.wb_front.specs.Answers.{IsRepliedTo, IsFatal}
 use Rattle.wb_front.specs.Arrivals.{Flows}
 use Rattle.wb_front.specs.Endings.{IsOpenYet, IsEnded}
 use Rattle.wb_wire.specs.Responses.{refusal, reply_of}
-use Rattle.wb_front.specs.Served.{Exchange, IsExchange, IsReply, replies, reply_bytes, said, Sides, HasServed, HasReplied}
+use Rattle.wb_front.specs.Served.{Exchange, IsExchange, IsReply, replies, reply_bytes, said, Sides, HasExchanged, HasReplied}
 use Rattle.wb_front.proofs.Serving.{read_on, served_more, sent_more, refused_more, stay_more, length_more}
 
 module _ {O : Type 0} (Ran : O → Frame → Told → O → Type 0) (a : Sides O) (left got : Option (List ℕ)) (moments : Option (List Tick)) (own : O) (xs : List Exchange) (held : List ℕ)
@@ -26,7 +26,7 @@ module _ {O : Type 0} (Ran : O → Frame → Told → O → Type 0) (a : Sides O
   abbrev read : Sides O
   read = record { left = left'; got = got'; moments = moments; own = own }
 
-  served : HasServed Ran a read xs held'
+  served : HasExchanged Ran a read xs held'
   served =
       let h = read_on Ran a (record { left = left; got = got; moments = moments; own = own }) xs held held' left' yet.replied.served flows in
       record { exchanges = h.exchanges; bytes = h.bytes; turns = h.turns }
@@ -71,7 +71,7 @@ module _ {O : Type 0} (Ran : O → Frame → Told → O → Type 0) (a : Sides O
 
   -- a request was answered
   module _ (size : ℕ) (cut : IsCut held' (Cuts (take size held') (drop size held'))) (bytes : List ℕ) (is : bytes ≡ take size held') (answer : Replied) (tick : Option Tick) (own' : O) (moments' : Option (List Tick))
-      (told : IsAnswered Ran own own' moments moments' bytes answer tick) (left2 got2 : Option (List ℕ)) (stays : left2 ≡ left') where
+      (told : IsRepliedTo Ran own own' moments moments' bytes answer tick) (left2 got2 : Option (List ℕ)) (stays : left2 ≡ left') where
     abbrev exchange : Exchange
     exchange = record { request = take size held'; reply = reply_of answer.response; tick = tick }
 
@@ -81,9 +81,9 @@ module _ {O : Type 0} (Ran : O → Frame → Told → O → Type 0) (a : Sides O
     one : IsExchange Ran own own' exchange
     one = record { whole = cut.1; replied = subst (λ bs. IsReply Ran own own' bs (reply_of answer.response) tick) is told.replied }
 
-    served_on : HasServed Ran a after (xs ++ exchange ∷ []) (drop size held')
+    served_on : HasExchanged Ran a after (xs ++ exchange ∷ []) (drop size held')
     served_on =
-        subst (λ l. HasServed Ran a (record { left = l; got = got2; moments = moments'; own = own' }) (xs ++ exchange ∷ []) (drop size held')) (sym stays)
+        subst (λ l. HasExchanged Ran a (record { left = l; got = got2; moments = moments'; own = own' }) (xs ++ exchange ∷ []) (drop size held')) (sym stays)
         (served_more Ran a read xs held' (drop size held') exchange got2 moments' own' served cut.0 one told.turns)
 
     more_within : length (xs ++ exchange ∷ []) ≤ 1000

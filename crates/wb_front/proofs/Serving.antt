@@ -7,7 +7,7 @@ use Rattle.wb_model.specs.Requests.{Frame}
 use Rattle.wb_transport.specs.Lines.{Tick}
 use Rattle.wb_front.specs.Arrivals.{Flows}
 use Rattle.wb_front.specs.Endings.{IsOpenYet}
-use Rattle.wb_front.specs.Served.{Exchange, IsExchange, AreExchanges, requests, replies_after, replies, reply_bytes, said, tick_of, ticks, StayOpen, Sides, Loses, HasServed}
+use Rattle.wb_front.specs.Served.{Exchange, IsExchange, AreExchanges, requests, replies_after, replies, reply_bytes, said, tick_of, ticks, StayOpen, Sides, Loses, HasExchanged}
 
 -- ---- lists of exchanges
 
@@ -54,7 +54,7 @@ appends_on (Some xs) (Some ys) (Some zs) front more first then = then ∙ (ap (�
 -- ---- a connection
 
 -- more bytes were read
-pub read_on : {O : Type 0} (Ran : O → Frame → Told → O → Type 0) (a b : Sides O) (xs : List Exchange) (held held' : List ℕ) (left' : Option (List ℕ)) → HasServed Ran a b xs held → Flows held b.left held' left' → HasServed Ran a (record b { left = left' }) xs held'
+pub read_on : {O : Type 0} (Ran : O → Frame → Told → O → Type 0) (a b : Sides O) (xs : List Exchange) (held held' : List ℕ) (left' : Option (List ℕ)) → HasExchanged Ran a b xs held → Flows held b.left held' left' → HasExchanged Ran a (record b { left = left' }) xs held'
 read_on Ran a b xs held held' left' h flows = record {
   exchanges = h.exchanges;
   bytes = λ l is. let one = h.bytes l is in let two = flows one.0 one.1 in
@@ -63,8 +63,8 @@ read_on Ran a b xs held held' left' h flows = record {
 }
 
 -- one more exchange was made
-pub served_more : {O : Type 0} (Ran : O → Frame → Told → O → Type 0) (a b : Sides O) (xs : List Exchange) (held rest : List ℕ) (x : Exchange) (got' : Option (List ℕ)) (moments' : Option (List Tick)) (own' : O) → HasServed Ran a b xs held → held ≡ x.request ++ rest →
-    IsExchange Ran b.own own' x → Loses b.moments moments' (tick_of x.tick) → HasServed Ran a (record { left = b.left; got = got'; moments = moments'; own = own' }) (xs ++ x ∷ []) rest
+pub served_more : {O : Type 0} (Ran : O → Frame → Told → O → Type 0) (a b : Sides O) (xs : List Exchange) (held rest : List ℕ) (x : Exchange) (got' : Option (List ℕ)) (moments' : Option (List Tick)) (own' : O) → HasExchanged Ran a b xs held → held ≡ x.request ++ rest →
+    IsExchange Ran b.own own' x → Loses b.moments moments' (tick_of x.tick) → HasExchanged Ran a (record { left = b.left; got = got'; moments = moments'; own = own' }) (xs ++ x ∷ []) rest
 served_more Ran a b xs held rest x got' moments' own' h parts one loses = record {
   exchanges = exchanges_more Ran a.own b.own own' xs x h.exchanges one;
   bytes = subst (Loses a.left b.left) (ap (λ bs. requests xs ++ bs) parts ∙ (sym (append_assoc (requests xs) x.request rest) ∙ ap (λ bs. bs ++ rest) (sym (requests_more xs x)))) h.bytes;

@@ -11,7 +11,7 @@ use Rattle.wb_front.specs.declared.connection.Ended.{Ended}
 use Rattle.wb_front.specs.declared.connection.Ended.TheVariants as ended
 use Rattle.wb_front.specs.Attended.{Clock, sides_of, IsAttended, AreAttended, HasWorked, RoseOften}
 use Rattle.wb_front.specs.Endings.{EndsSo, IsEnded}
-use Rattle.wb_front.specs.Served.{Exchange, Sides, HasServed}
+use Rattle.wb_front.specs.Served.{Exchange, Sides, HasExchanged}
 
 -- a link that tells goes on telling
 grown : (old new : Option (List ℕ)) (g : List ℕ) (bytes : List ℕ) → old ≡ Some g → Appends old new bytes → (g' : List ℕ) × (new ≡ Some g')
@@ -19,13 +19,13 @@ grown None new g bytes is h = absurd cc
 grown (Some xs) None g bytes is h = absurd h
 grown (Some xs) (Some ys) g bytes is h = (ys, refl)
 
-still_left : {O : Type 0} (Ran : O → Frame → Told → O → Type 0) (a b : Sides O) (xs : List Exchange) (held l : List ℕ) → a.left ≡ Some l → HasServed Ran a b xs held → (l' : List ℕ) × (b.left ≡ Some l')
+still_left : {O : Type 0} (Ran : O → Frame → Told → O → Type 0) (a b : Sides O) (xs : List Exchange) (held l : List ℕ) → a.left ≡ Some l → HasExchanged Ran a b xs held → (l' : List ℕ) × (b.left ≡ Some l')
 still_left Ran a b xs held l is h = let lost = h.bytes l is in (lost.0, lost.1)
 
 abbrev StillTells : {O : Type 0} → Sides O → Type 0
 StillTells b = (l : List ℕ) × (g : List ℕ) × (b.left ≡ Some l) × (b.got ≡ Some g)
 
-tells_by : {O : Type 0} (Ran : O → Frame → Told → O → Type 0) (a b : Sides O) (xs : List Exchange) (held l g bytes : List ℕ) → a.left ≡ Some l → a.got ≡ Some g → HasServed Ran a b xs held → Appends a.got b.got bytes → StillTells b
+tells_by : {O : Type 0} (Ran : O → Frame → Told → O → Type 0) (a b : Sides O) (xs : List Exchange) (held l g bytes : List ℕ) → a.left ≡ Some l → a.got ≡ Some g → HasExchanged Ran a b xs held → Appends a.got b.got bytes → StillTells b
 tells_by Ran a b xs held l g bytes left got h sent = let one = still_left Ran a b xs held l left h in let two = grown a.got b.got g bytes got sent in (one.0, two.0, one.1, two.1)
 
 tells_so : {O : Type 0} (Ran : O → Frame → Told → O → Type 0) (a b : Sides O) (xs : List Exchange) (held l g : List ℕ) (how : Ended) → a.left ≡ Some l → a.got ≡ Some g → EndsSo Ran a b xs held how → StillTells b

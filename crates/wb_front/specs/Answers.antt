@@ -17,7 +17,7 @@ IsFatal None reply tick = (tick ≢ None) ⊎ ((fault : WireFault) × (close : B
 IsFatal (Some fault) reply tick = (closes_always fault ≡ true) × (tick ≡ None) × (reply ≡ refusal fault reply.close)
 
 -- the answer is the reply to these bytes, by a turn at this tick or none, with what is had of the gate and the ticks that are left before and after
-pub record IsAnswered {O : Type 0} (Ran : O → Frame → Told → O → Type 0) (own own' : O) (moments moments' : Option (List Tick)) (bytes : List ℕ) (a : Replied) (tick : Option Tick) : Type 0 where
+pub record IsRepliedTo {O : Type 0} (Ran : O → Frame → Told → O → Type 0) (own own' : O) (moments moments' : Option (List Tick)) (bytes : List ℕ) (a : Replied) (tick : Option Tick) : Type 0 where
   pub replied : IsReply Ran own own' bytes (reply_of a.response) tick
   pub turns : Loses moments moments' (tick_of tick)
   pub fatal : IsFatal a.fatal (reply_of a.response) tick

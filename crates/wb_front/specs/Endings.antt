@@ -8,7 +8,7 @@ use Rattle.wb_model.specs.Requests.{Frame}
 use Rattle.wb_front.specs.Answers.{IsFatal}
 use Rattle.wb_front.specs.Arrivals.{IsUnfinished}
 use Rattle.wb_wire.specs.Responses.{refusal}
-use Rattle.wb_front.specs.Served.{Exchange, Sides, HasServed, HasReplied, StayOpen, ClosesLast, AsksNext, IsSentLast, replies, reply_bytes}
+use Rattle.wb_front.specs.Served.{Exchange, Sides, HasExchanged, HasReplied, StayOpen, ClosesLast, AsksNext, IsSentLast, replies, reply_bytes}
 use Rattle.wb_front.specs.declared.connection.Ended.{Ended}
 use Rattle.wb_front.specs.declared.connection.Ended.TheVariants as ended
 
@@ -27,7 +27,7 @@ IsRefusedLast fault xs = (x : Exchange) × ClosesLast xs x × IsFatal (Some faul
 
 -- the bytes that follow the exchanges are no request, and were refused
 pub record IsRefusedHead {O : Type 0} (Ran : O → Frame → Told → O → Type 0) (a b : Sides O) (fault : WireFault) (xs : List Exchange) (held : List ℕ) : Type 0 where
-  pub served : HasServed Ran a b xs held
+  pub served : HasExchanged Ran a b xs held
   pub stay : StayOpen xs
   pub room : length xs < 1000
   pub cut : IsCut held (Ends fault)
@@ -48,7 +48,7 @@ abbrev pub EndsSo : {O : Type 0} → (O → Frame → Told → O → Type 0) →
 EndsSo Ran a b xs held ended.Closed = (IsOpenYet Ran a b xs held × (held ≡ []) × IsAtEnd b.left) ⊎ (HasReplied Ran a b xs held × IsClosed xs)
 EndsSo Ran a b xs held ended.CutShort = IsOpenYet Ran a b xs held × IsCut held Part × IsAtEnd b.left
 EndsSo Ran a b xs held ended.ReadFault = IsOpenYet Ran a b xs held × IsUnfinished held
-EndsSo Ran a b xs held ended.WriteFault = HasServed Ran a b xs held × IsCutOff a b xs held
+EndsSo Ran a b xs held ended.WriteFault = HasExchanged Ran a b xs held × IsCutOff a b xs held
 EndsSo Ran a b xs held ended.ClockFault = IsOpenYet Ran a b xs held × AsksNext held
 EndsSo Ran a b xs held ended.Spent = IsOpenYet Ran a b xs held × (length xs ≡ 1000)
 EndsSo Ran a b xs held (ended.Refused fault) = IsRefusedHead Ran a b fault xs held ⊎ (HasReplied Ran a b xs held × IsRefusedLast fault xs)

@@ -27,21 +27,21 @@ frame_at tick asked = record { moment = tick.0; words = tick.1; asked = asked }
 -- ---- what a reply is
 
 -- the gate's answer to what the bytes ask: the turn ran, for one who had this of the gate before and that after
-abbrev pub IsTurn : {O : Type 0} → (O → Frame → Told → O → Type 0) → O → O → Tick → List ℕ → Reply → Type 0
-IsTurn Ran own own' tick bytes reply = (asked : Asked) × Reads bytes (Asks asked) × Ran own (frame_at tick asked) reply.told own' × (reply.allow ≡ None) × (reply.close ≡ asked.close)
+abbrev pub IsTurnAt : {O : Type 0} → (O → Frame → Told → O → Type 0) → O → O → Tick → List ℕ → Reply → Type 0
+IsTurnAt Ran own own' tick bytes reply = (asked : Asked) × Reads bytes (Asks asked) × Ran own (frame_at tick asked) reply.told own' × (reply.allow ≡ None) × (reply.close ≡ asked.close)
 
 -- the bytes do not ask for the host's health, which is read without memory
 abbrev pub AsksNoHealth : List ℕ → Type 0
 AsksNoHealth bytes = (asked : Asked) → Reads bytes (Asks asked) → is_health asked.command ≡ false
 
 -- why the bytes ask nothing: a fault of theirs, or want of memory
-abbrev pub IsRefused : List ℕ → WireFault → Bool → Type 0
-IsRefused bytes fault close = (fault ≢ faults.Memory → Reads bytes (Refuses fault close)) × (fault ≡ faults.Memory → Closes bytes close × AsksNoHealth bytes)
+abbrev pub IsRefusedFor : List ℕ → WireFault → Bool → Type 0
+IsRefusedFor bytes fault close = (fault ≢ faults.Memory → Reads bytes (Refuses fault close)) × (fault ≡ faults.Memory → Closes bytes close × AsksNoHealth bytes)
 
 -- a turn, or no turn and the refusal of what asks nothing
 abbrev pub IsReply : {O : Type 0} → (O → Frame → Told → O → Type 0) → O → O → List ℕ → Reply → Option Tick → Type 0
-IsReply Ran own own' bytes reply (Some tick) = IsTurn Ran own own' tick bytes reply
-IsReply Ran own own' bytes reply None = (own' ≡ own) × (fault : WireFault) × (close : Bool) × IsRefused bytes fault close × (reply ≡ refusal fault close)
+IsReply Ran own own' bytes reply (Some tick) = IsTurnAt Ran own own' tick bytes reply
+IsReply Ran own own' bytes reply None = (own' ≡ own) × (fault : WireFault) × (close : Bool) × IsRefusedFor bytes fault close × (reply ≡ refusal fault close)
 
 -- a request is a head with its whole body, and has its reply
 pub record IsExchange {O : Type 0} (Ran : O → Frame → Told → O → Type 0) (own own' : O) (x : Exchange) : Type 0 where
@@ -107,14 +107,14 @@ abbrev pub Loses : {X : Type 0} → Option (List X) → Option (List X) → List
 Loses {X} old new front = (xs : List X) → old ≡ Some xs → (ys : List X) × (new ≡ Some ys) × (xs ≡ front ++ ys)
 
 -- these exchanges were made, and these bytes were read besides
-pub record HasServed {O : Type 0} (Ran : O → Frame → Told → O → Type 0) (a b : Sides O) (xs : List Exchange) (held : List ℕ) : Type 0 where
+pub record HasExchanged {O : Type 0} (Ran : O → Frame → Told → O → Type 0) (a b : Sides O) (xs : List Exchange) (held : List ℕ) : Type 0 where
   pub exchanges : AreExchanges Ran a.own xs b.own
   pub bytes : Loses a.left b.left (requests xs ++ held)
   pub turns : Loses a.moments b.moments (ticks xs)
 
 -- and all their replies were sent
 pub record HasReplied {O : Type 0} (Ran : O → Frame → Told → O → Type 0) (a b : Sides O) (xs : List Exchange) (held : List ℕ) : Type 0 where
-  pub served : HasServed Ran a b xs held
+  pub served : HasExchanged Ran a b xs held
   pub sent : Appends a.got b.got (replies xs)
 
 -- ---- how it ends

@@ -7,14 +7,14 @@ ghost use Rattle.wb_model.specs.Readings.{Asks, Reads, closes_always};
 ghost use Rattle.wb_transport.specs.Lines.{Tick};
 ghost use Rattle.wb_wire.specs.Responses.{refusal as refusal_of, reply_of};
 ghost use Rattle.wb_front.specs.Served.{IsReply, Loses, closing, reply_bytes, tick_of};
-ghost use Rattle.wb_front.specs.Answers.{IsAnswered};
+ghost use Rattle.wb_front.specs.Answers.{IsRepliedTo};
 
 use std::alloc::Global;
 use std::sync::Wait;
 use std::sync::ledger::Ledger;
 use wb_base::{Failed, Keeper};
+use wb_desk::Origin;
 use wb_gate::{Gate, Turn};
-use wb_ledger::Origin;
 use wb_transport::{Link, Ticker};
 use wb_wire::{
     Response, Routes, WireFault, WireNo, Written, fault_closes, read_request, refusal, reply_head,
@@ -54,7 +54,7 @@ pub fn reply_to<R: Wait, K: Keeper, A: Origin, B: Ledger, G: Gate<K, A, B, Turn>
 ) -> Result<Replied, Failed>
     requires of { G.of gate.now own.old }
     ensures of { G.of gate.now own.new }
-    ensures answered { IfOk result (λ a. (tick : Option Tick) × IsAnswered (λ own frame told own'. G.ran own frame told own') own.old own.new (T.left ticker.old) (T.left ticker.new) bytes.now a tick) }
+    ensures answered { IfOk result (λ a. (tick : Option Tick) × IsRepliedTo (λ own frame told own'. G.ran own frame told own') own.old own.new (T.left ticker.old) (T.left ticker.new) bytes.now a tick) }
     ensures failed { OnErr result ((own.new ≡ own.old) × (T.left ticker.new ≡ T.left ticker.old) × ((asked : AskedOf) × Reads bytes.now (Asks asked))) }
     ensures parts { G.parts own.new ≡ G.parts own.old }
     ensures cause { HasCause (T.count ticker.old) (T.count ticker.new) result }

@@ -5,7 +5,7 @@ use crate::job::Job;
 use std::sync::Wait;
 use std::sync::ledger::Ledger;
 use wb_base::Keeper;
-use wb_ledger::Origin;
+use wb_desk::Origin;
 
 /// Lets jobs in to the one host that it stands before.
 pub trait Gate<K: Keeper, A: Origin, B: Ledger, J: Job<K, A, B>> {

@@ -1,14 +1,14 @@
 //! Jobs on a host.
 ghost use Rattle.std.specs.Prelude.{◌≡◌, ◌≤◌, true};
 ghost use Rattle.wb_model.specs.Fits.{fits};
-ghost use Rattle.wb_ledger.specs.Hosted.{Hosted, Hand};
-ghost use Rattle.wb_ledger.specs.Turned.{Turned};
+ghost use Rattle.wb_desk.specs.Hosted.{Hosted, Hand};
+ghost use Rattle.wb_desk.specs.Turned.{Turned};
 ghost use Rattle.wb_gate.specs.Turns.{IsAsked};
 
 use std::marker::Model;
 use std::sync::ledger::Ledger;
 use wb_base::{Keeper, Moment, Words};
-use wb_ledger::{Kept, Origin, Pass};
+use wb_desk::{Kept, Origin, Pass};
 use wb_model::{Asked, Told};
 
 /// What is done with a host, and a pass to it, in one go.

@@ -1,8 +1,8 @@
 //! A gate that is a lock.
 ghost use Rattle.std.specs.Prelude.{◌≡◌, ◌≢◌, ◌+◌, IfOk, IfErr, IsOk};
-ghost use Rattle.wb_ledger.specs.GoneOn.{IsLater};
-ghost use Rattle.wb_ledger.specs.Hosted.{Hosted, parts_of, turns_of, numbers_drawn};
-ghost use Rattle.wb_ledger.specs.Whole.{IsWhole};
+ghost use Rattle.wb_desk.specs.GoneOn.{IsLater};
+ghost use Rattle.wb_desk.specs.Hosted.{Hosted, parts_of, turns_of, numbers_drawn};
+ghost use Rattle.wb_desk.specs.Whole.{IsWholeHost};
 ghost use Rattle.wb_model.specs.Drawn.{numbers_of};
 ghost use Rattle.wb_model.specs.Rows.{rows_of};
 ghost use Rattle.wb_tables.specs.Standing.{hosts_of};
@@ -12,7 +12,7 @@ use crate::job::Job;
 use std::sync::ledger::Ledger;
 use std::sync::{Mutex, Wait};
 use wb_base::Keeper;
-use wb_ledger::{Closed, Kept, KeptBack, Origin, Pass, Tally};
+use wb_desk::{Closed, Kept, KeptBack, Origin, Pass, Tally};
 
 /// A host under a lock: one job at a time is in.
 #[derive(Drop)]
@@ -37,7 +37,7 @@ impl<K: Keeper, A: Origin, B: Ledger, J: Job<K, A, B>> Gate<K, A, B, J> for Lock
 
     ghost parts = { λ pass. pass.parts };
 
-    ghost ran = { λ pass job told pass'. (host : Hosted) × (host' : Hosted) × (host.opened ≡ A.desk) × (host'.opened ≡ A.desk) × IsWhole host × IsWhole host' × J.does job host pass host' pass' told };
+    ghost ran = { λ pass job told pass'. (host : Hosted) × (host' : Hosted) × (host.opened ≡ A.desk) × (host'.opened ≡ A.desk) × IsWholeHost host × IsWholeHost host' × J.does job host pass host' pass' told };
 
     fn enter<R: Wait>(&self, rt: &R, own: &mut Pass<A, B>, job: J) -> J::Told {
         let mut kept = self.host.lock(rt);

@@ -1,2 +1,3 @@
 pub mod DateBytes
 pub mod NoFloats
+pub mod EntryLemmas

@@ -10,8 +10,8 @@ use Rattle.wb_model.specs.declared.registry.Lists.{Lists}
 use Rattle.wb_model.specs.Openings.{registry_of}
 use Rattle.wb_model.specs.SetUps.{has_tenant}
 use Rattle.wb_model.specs.Tables.{Case, is_live, is_there}
-use Rattle.wb_row_rules.specs.declared.cases.CaseItem.{CaseItem}
-use Rattle.wb_row_rules.specs.Reports.{Report, case_report}
+use Rattle.wb_rows.specs.declared.cases.CaseItem.{CaseItem}
+use Rattle.wb_rows.specs.Reports.{Report, case_report}
 use Rattle.wb_rows.specs.Openings.{case_of, cases_of}
 use Rattle.wb_list.specs.Keyed.{has_key}
 use Rattle.wb_notice.specs.declared.live.LiveReport.{LiveReport}

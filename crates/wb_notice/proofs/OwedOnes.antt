@@ -11,8 +11,8 @@ use Rattle.wb_model.specs.Openings.{no_settings, registry_of}
 use Rattle.wb_model.specs.SetUps.{AreSetUp}
 use Rattle.wb_model.specs.Tables.{Case}
 use Rattle.wb_model.proofs.Found.{Held}
-use Rattle.wb_row_rules.specs.declared.cases.CaseItem.{CaseItem}
-use Rattle.wb_row_rules.specs.Reports.{Report, case_report}
+use Rattle.wb_rows.specs.declared.cases.CaseItem.{CaseItem}
+use Rattle.wb_rows.specs.Reports.{Report, case_report}
 use Rattle.wb_rows.specs.Openings.{case_of, cases_of}
 use Rattle.wb_notice.specs.declared.notice.Notice.{Notice}
 use Rattle.wb_notice.specs.Owed.{is_live_on}

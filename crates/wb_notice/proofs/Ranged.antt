@@ -25,7 +25,7 @@ use Rattle.wb_model.specs.Tables.{Case, is_live}
 use Rattle.wb_model.proofs.Found.{Held, find_true, held_filter}
 use Rattle.wb_model.proofs.OpeningsOf.{kept_opened}
 use Rattle.wb_row_codec.specs.Good.{is_dated, is_tenant}
-use Rattle.wb_row_rules.proofs.Fitting.{found-fits, offset-fits}
+use Rattle.wb_rows.proofs.Fitting.{found-fits, offset-fits}
 use Rattle.wb_rows.specs.Held.{Held as Tables}
 use Rattle.wb_rows.specs.Openings.{cases_of, tables_of, time_of}
 use Rattle.wb_notice.specs.declared.notice.Notice.{Notice}

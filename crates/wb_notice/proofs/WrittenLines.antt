@@ -5,7 +5,7 @@ use Rattle.std.specs.List.{flat_map}
 use Rattle.std.specs.Io.KnownBytes.{Appends}
 use Rattle.std.proofs.KnownBytes.{Appends-nil, Appends-trans}
 use Rattle.wb_base.specs.Outside.{AppendsFront}
-use Rattle.wb_start.proofs.SinkLemmas.{front_after, front_more}
+use Rattle.wb_cli.proofs.SinkLemmas.{front_after, front_more}
 use Rattle.wb_notice.specs.declared.notice.Notice.{Notice}
 use Rattle.wb_notice.specs.Notifies.{notice_line}
 use Rattle.wb_notice.proofs.ListFacts.{here}

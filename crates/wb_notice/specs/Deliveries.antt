@@ -16,7 +16,7 @@ use Rattle.wb_notice.specs.Owed.{Unsealed}
 -- ---- the rows of an outbox
 
 -- these rows were loaded, in the order of their keys: those that it held where it is honest
-pub record AreLoaded (honest : Type 0) (holds : List Row → Type 0) (rows : List Row) : Type 0 where
+pub record AreOutboxRows (honest : Type 0) (holds : List Row → Type 0) (rows : List Row) : Type 0 where
   pub held : honest → (before : List Row) → holds before → before ≡ rows
   pub ascending : IsAscending key_cmp key_of rows
 
@@ -31,10 +31,10 @@ pub record IsFirstOther (rows : List Row) (key : Key) : Type 0 where
   pub has : row.key ≡ key
 
 -- a row is no notice's, or there was no memory
-abbrev pub ReadsNone : List Row → NoticeNo → Type 0
-ReadsNone rows Keeper = ⊥
-ReadsNone rows (OutboxRows key) = IsFirstOther rows key
-ReadsNone rows Memory = Unit {0}
+abbrev pub ReadsNoNotices : List Row → NoticeNo → Type 0
+ReadsNoNotices rows Keeper = ⊥
+ReadsNoNotices rows (OutboxRows key) = IsFirstOther rows key
+ReadsNoNotices rows Memory = Unit {0}
 
 -- ---- what is delivered
 
@@ -44,7 +44,7 @@ pub record AreNew (x : Unsealed) (now : ℕ) (rows : List Row) (news : News) : T
   pub added : news.rows.items ≡ new_rows x now rows
 
 -- each row is a notice's, and the changes make of the rows what a delivery is to leave
-pub record Plans (x : Unsealed) (now : ℕ) (rows : List Row) (plan : Plan) : Type 0 where
+pub record PlansDelivery (x : Unsealed) (now : ℕ) (rows : List Row) (plan : Plan) : Type 0 where
   pub notices : All IsNotice rows
   pub news : AreNew x now rows plan.news
   pub changes : all_changed rows plan.batch.items ≡ box x now rows
@@ -53,14 +53,14 @@ pub record Plans (x : Unsealed) (now : ℕ) (rows : List Row) (plan : Plan) : Ty
 -- each row that was loaded is a notice's, and these are the new ones
 pub record Delivers (honest : Type 0) (holds : List Row → Type 0) (x : Unsealed) (now : ℕ) (news : List Row) : Type 0 where
   pub rows : List Row
-  pub loaded : AreLoaded honest holds rows
+  pub loaded : AreOutboxRows honest holds rows
   pub notices : All IsNotice rows
   pub added : news ≡ new_rows x now rows
 
 -- .. and these are their notices
 pub record Sends (honest : Type 0) (holds : List Row → Type 0) (x : Unsealed) (now : ℕ) (sent : News) : Type 0 where
   pub rows : List Row
-  pub loaded : AreLoaded honest holds rows
+  pub loaded : AreOutboxRows honest holds rows
   pub notices : All IsNotice rows
   pub news : AreNew x now rows sent
 
@@ -73,7 +73,7 @@ Fails count count' (OutboxRows key) = ⊥
 Fails count count' Memory = count' ≡ count
 
 -- the outbox failed; or a row that was loaded is no notice's, and this is the least key of such a row; or there was no memory
-abbrev pub Refuses : ℕ → ℕ → Type 0 → (List Row → Type 0) → NoticeNo → Type 0
-Refuses count count' honest holds Keeper = Rose count count'
-Refuses count count' honest holds (OutboxRows key) = ((rows : List Row) × AreLoaded honest holds rows × IsFirstOther rows key) × (count' ≡ count)
-Refuses count count' honest holds Memory = count' ≡ count
+abbrev pub RefusesDelivery : ℕ → ℕ → Type 0 → (List Row → Type 0) → NoticeNo → Type 0
+RefusesDelivery count count' honest holds Keeper = Rose count count'
+RefusesDelivery count count' honest holds (OutboxRows key) = ((rows : List Row) × AreOutboxRows honest holds rows × IsFirstOther rows key) × (count' ≡ count)
+RefusesDelivery count count' honest holds Memory = count' ≡ count

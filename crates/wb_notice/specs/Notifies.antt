@@ -10,11 +10,11 @@ use Rattle.wb_cli.specs.declared.plans.Plan.TheVariants.{Notices}
 use Rattle.wb_cli.specs.CommandLine.{Asks}
 use Rattle.wb_rows.specs.Held.{Held}
 use Rattle.wb_rows.specs.Openings.{time_of}
-use Rattle.wb_start.specs.declared.status.Status.{Status}
-use Rattle.wb_start.specs.declared.status.Status.TheVariants.{Done, Usage, WriteFault, NoMemory, OpenFault, KeptRows, OutboxRows, OutboxFault}
-use Rattle.wb_start.specs.Starts.{AreRead, ReadsNone}
+use Rattle.wb_cli.specs.declared.status.Status.{Status}
+use Rattle.wb_cli.specs.declared.status.Status.TheVariants.{Done, Usage, WriteFault, NoMemory, OpenFault, KeptRows, OutboxRows, OutboxFault}
+use Rattle.wb_cli.specs.Loads.{AreRead, ReadsNone}
 use Rattle.wb_notice.specs.declared.notice.Notice.{Notice}
-use Rattle.wb_notice.specs.Deliveries.{AreLoaded, IsFirstOther}
+use Rattle.wb_notice.specs.Deliveries.{AreOutboxRows, IsFirstOther}
 use Rattle.wb_notice.specs.Notices.{IsNotice, kind_name}
 use Rattle.wb_notice.specs.Outbox.{box, new_notices}
 use Rattle.wb_notice.specs.Owed.{unsealed}
@@ -53,7 +53,7 @@ pub record HasDelivered (honest : Type 0) (holds : List Row → Type 0) (outbox_
   pub kept : Held
   pub read : AreRead honest holds kept
   pub rows : List Row
-  pub loaded : AreLoaded outbox_honest held rows
+  pub loaded : AreOutboxRows outbox_honest held rows
   pub all : All IsNotice rows
   pub added : notices ≡ new_notices (unsealed kept) (time_at moment kept) rows
   pub left : outbox_honest → (before : List Row) → held before → has (box (unsealed kept) (time_at moment kept) before)
@@ -63,7 +63,7 @@ abbrev pub DeliversNone : ℕ → ℕ → Type 0 → (List Row → Type 0) → �
 DeliversNone keeper keeper' honest holds outbox outbox' outbox_honest held OpenFault = ReadsNone keeper keeper' honest holds OpenFault
 DeliversNone keeper keeper' honest holds outbox outbox' outbox_honest held (KeptRows fault) = ReadsNone keeper keeper' honest holds (KeptRows fault)
 DeliversNone keeper keeper' honest holds outbox outbox' outbox_honest held OutboxFault = Rose outbox outbox' × ((kept : Held) × AreRead honest holds kept)
-DeliversNone keeper keeper' honest holds outbox outbox' outbox_honest held (OutboxRows key) = ((rows : List Row) × AreLoaded outbox_honest held rows × IsFirstOther rows key) × ((kept : Held) × AreRead honest holds kept)
+DeliversNone keeper keeper' honest holds outbox outbox' outbox_honest held (OutboxRows key) = ((rows : List Row) × AreOutboxRows outbox_honest held rows × IsFirstOther rows key) × ((kept : Held) × AreRead honest holds kept)
 DeliversNone keeper keeper' honest holds outbox outbox' outbox_honest held NoMemory = Unit {0}
 DeliversNone keeper keeper' honest holds outbox outbox' outbox_honest held status = ⊥
 

@@ -13,7 +13,7 @@ use Rattle.wb_model.specs.SetUps.{tenant_ids}
 use Rattle.wb_model.specs.Tables.{Case, Registry, disablings, is_live}
 use Rattle.wb_model.specs.Targets.{same_role}
 use Rattle.wb_model.specs.Trails.{is_closed, acknowledged, ack_due, feedback_given, feedback_due, expires, reads}
-use Rattle.wb_row_rules.specs.Reports.{Report}
+use Rattle.wb_rows.specs.Reports.{Report}
 use Rattle.wb_rows.specs.Held.{Held}
 use Rattle.wb_rows.specs.Openings.{cases_of}
 use Rattle.wb_notice.specs.declared.notice.Notice.{Notice}

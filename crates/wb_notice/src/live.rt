@@ -4,7 +4,7 @@ ghost use Rattle.std.specs.List.{list_all};
 ghost use Rattle.wb_model.specs.Openings.{registry_of};
 ghost use Rattle.wb_model.specs.SetUps.{has_tenant, is_tenant_item};
 ghost use Rattle.wb_model.specs.Tables as tables;
-ghost use Rattle.wb_row_rules.specs.Reports.{case_report};
+ghost use Rattle.wb_rows.specs.Reports.{case_report};
 ghost use Rattle.wb_rows.specs.Held.{held_by};
 ghost use Rattle.wb_rows.specs.Openings.{case_of};
 ghost use Rattle.wb_notice.specs.Outbox as outbox;
@@ -16,8 +16,7 @@ use std::cmp::Ordering;
 use wb_base::{Day, Memory, Moment, Number, Tenant};
 use wb_case::Case;
 use wb_list::{Keyed, Sorted};
-use wb_row_rules::CaseItem;
-use wb_rows::Tables;
+use wb_rows::{CaseItem, Tables};
 use wb_tenants::Registry;
 use wb_terms::day_of;
 

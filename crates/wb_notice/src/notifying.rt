@@ -4,7 +4,7 @@ ghost use Rattle.wb_base.specs.Outside.{Rose};
 ghost use Rattle.wb_base.specs.declared.rows.Row.{Row};
 ghost use Rattle.wb_rows.specs.Held.{Held};
 ghost use Rattle.wb_rows.specs.Judged.{judged};
-ghost use Rattle.wb_start.specs.Starts.{KeepsRows};
+ghost use Rattle.wb_rows.specs.Loaded.{KeepsRows};
 ghost use Rattle.wb_notice.specs.Notices.{IsNotice};
 ghost use Rattle.wb_notice.specs.Notifies.{AsksAt, DeliversNone, HasDelivered, Notified, NotifiedAt, moment_of as moment_in};
 
@@ -13,9 +13,8 @@ use crate::outbox::send;
 use crate::{Notice, NoticeNo};
 use std::alloc::Global;
 use wb_base::{Keeper, Moment, Sink, Text};
-use wb_cli::{Plan, PlanFault, plan};
+use wb_cli::{Plan, PlanFault, Status, load_tables, plan};
 use wb_recovery::{later, latest_kept};
-use wb_start::{Status, load_tables};
 
 // The notices that one delivery over a keeper's rows makes new, or how the call ends for which there is none.
 fn deliver_kept<K: Keeper, B: Keeper>(
@@ -26,8 +25,8 @@ fn deliver_kept<K: Keeper, B: Keeper>(
 ) -> Result<Vec<Notice>, Status>
     ensures ok { IfOk result (λ notices. HasDelivered (K.honest keeper.new) (K.holds keeper.old) (B.honest outbox.new) (B.holds outbox.old) (B.holds outbox.new) moment notices.items) }
     ensures err { IfErr result (DeliversNone (K.count keeper.old) (K.count keeper.new) (K.honest keeper.new) (K.holds keeper.old) (B.count outbox.old) (B.count outbox.new) (B.honest outbox.new) (B.holds outbox.old)) }
-    ensures rows { KeepsRows (K.count keeper.old) (K.count keeper.new) (K.honest keeper.new) (K.holds keeper.old) (K.holds keeper.new) }
-    ensures outbox { OnErr result (KeepsRows (B.count outbox.old) (B.count outbox.new) (B.honest outbox.new) (B.holds outbox.old) (B.holds outbox.new)) }
+    ensures rows { KeepsRows (K.honest keeper.new) (K.holds keeper.old) (K.holds keeper.new) }
+    ensures outbox { OnErr result (KeepsRows (B.honest outbox.new) (B.holds outbox.old) (B.holds outbox.new)) }
     ensures back { K.honest keeper.new → K.honest keeper.old }
     ensures outbox_back { B.honest outbox.new → B.honest outbox.old }
 {
@@ -53,8 +52,8 @@ fn notify_at<K: Keeper, B: Keeper, W: Sink>(
     sink: &mut W,
 ) -> Status
     ensures did { NotifiedAt (K.count keeper.old) (K.count keeper.new) (B.count outbox.old) (B.count outbox.new) (W.count sink.old) (W.count sink.new) (K.honest keeper.new) (K.holds keeper.old) (B.honest outbox.new) (B.holds outbox.old) (B.holds outbox.new) (W.held sink.old) (W.held sink.new) moment result }
-    ensures rows { KeepsRows (K.count keeper.old) (K.count keeper.new) (K.honest keeper.new) (K.holds keeper.old) (K.holds keeper.new) }
-    ensures outbox { result ≢ Status.Done → result ≢ Status.WriteFault → KeepsRows (B.count outbox.old) (B.count outbox.new) (B.honest outbox.new) (B.holds outbox.old) (B.holds outbox.new) }
+    ensures rows { KeepsRows (K.honest keeper.new) (K.holds keeper.old) (K.holds keeper.new) }
+    ensures outbox { result ≢ Status.Done → result ≢ Status.WriteFault → KeepsRows (B.honest outbox.new) (B.holds outbox.old) (B.holds outbox.new) }
     ensures back { K.honest keeper.new → K.honest keeper.old }
     ensures outbox_back { B.honest outbox.new → B.honest outbox.old }
     ensures written_on { result ≢ Status.WriteFault → W.count sink.new ≡ W.count sink.old }
@@ -90,9 +89,9 @@ pub fn notify<K: Keeper, B: Keeper, W: Sink>(
     sink: &mut W,
 ) -> Status
     ensures did { Notified (K.count keeper.old) (K.count keeper.new) (B.count outbox.old) (B.count outbox.new) (W.count sink.old) (W.count sink.new) (K.honest keeper.new) (K.holds keeper.old) (B.honest outbox.new) (B.holds outbox.old) (B.holds outbox.new) (W.held sink.old) (W.held sink.new) words.now result }
-    ensures rows { KeepsRows (K.count keeper.old) (K.count keeper.new) (K.honest keeper.new) (K.holds keeper.old) (K.holds keeper.new) }
+    ensures rows { KeepsRows (K.honest keeper.new) (K.holds keeper.old) (K.holds keeper.new) }
     // The outbox is as before where it says neither that all was done nor that the sink failed.
-    ensures outbox { result ≢ Status.Done → result ≢ Status.WriteFault → KeepsRows (B.count outbox.old) (B.count outbox.new) (B.honest outbox.new) (B.holds outbox.old) (B.holds outbox.new) }
+    ensures outbox { result ≢ Status.Done → result ≢ Status.WriteFault → KeepsRows (B.honest outbox.new) (B.holds outbox.old) (B.holds outbox.new) }
     ensures back { K.honest keeper.new → K.honest keeper.old }
     ensures outbox_back { B.honest outbox.new → B.honest outbox.old }
     ensures written_on { result ≢ Status.WriteFault → W.count sink.new ≡ W.count sink.old }

@@ -7,7 +7,7 @@ ghost use Rattle.wb_list.specs.Keyed.{IsAscending};
 ghost use Rattle.wb_model.specs.KeptRules.{AreKept};
 ghost use Rattle.wb_rows.specs.Held.{held_by};
 ghost use Rattle.wb_rows.specs.Openings.{tables_of, time_of};
-ghost use Rattle.wb_notice.specs.Deliveries.{AreLoaded, Delivers, Fails, Plans, ReadsNone, Refuses, Sends};
+ghost use Rattle.wb_notice.specs.Deliveries.{AreOutboxRows, Delivers, Fails, PlansDelivery, ReadsNoNotices, RefusesDelivery, Sends};
 ghost use Rattle.wb_notice.specs.LiveReports.{is_among, is_on_last};
 ghost use Rattle.wb_notice.specs.Notices.{notice_row as row_of};
 ghost use Rattle.wb_notice.specs.Outbox as outboxes;
@@ -145,8 +145,8 @@ fn plan_for(
     rows: &Sorted<Row>,
 ) -> Result<Plan, NoticeNo>
     requires { (t : ℕ) → AreKept (time_of (held_by tables.now)) tables.now.registry.lists t (tables_of (held_by tables.now) t) }
-    ensures ok { IfOk result (λ plan. Plans (unsealed (held_by tables.now)) now rows.now.items plan) }
-    ensures err { IfErr result (λ no. ReadsNone rows.now.items no) }
+    ensures ok { IfOk result (λ plan. PlansDelivery (unsealed (held_by tables.now)) now rows.now.items plan) }
+    ensures err { IfErr result (λ no. ReadsNoNotices rows.now.items no) }
 {
     let held = read_notices(alloc, rows.as_slice())?;
     let live = live_reports(alloc, tables, now)?;
@@ -163,7 +163,7 @@ fn plan_for(
 
 // The rows of an outbox.
 fn load<B: Keeper>(outbox: &mut B) -> Result<Sorted<Row>, NoticeNo>
-    ensures loaded { IfOk result (λ rows. AreLoaded (B.honest outbox.new) (B.holds outbox.old) rows.items) }
+    ensures loaded { IfOk result (λ rows. AreOutboxRows (B.honest outbox.new) (B.holds outbox.old) rows.items) }
     ensures same { B.honest outbox.new → (rows : List RowData) → B.holds outbox.old rows → B.holds outbox.new rows }
     ensures back { B.honest outbox.new → B.honest outbox.old }
     ensures stayed { OnOk result (B.count outbox.new ≡ B.count outbox.old) }
@@ -207,7 +207,7 @@ pub(crate) fn send<B: Keeper>(
     ensures ok { IfOk result (λ news. Sends (B.honest outbox.new) (B.holds outbox.old) (unsealed (held_by tables.now)) now news) }
     ensures delivered { B.honest outbox.new → (rows : List RowData) → B.holds outbox.old rows → OnOk result (B.holds outbox.new (outboxes.box (unsealed (held_by tables.now)) now rows)) }
     ensures stayed { OnOk result (B.count outbox.new ≡ B.count outbox.old) }
-    ensures err { IfErr result (Refuses (B.count outbox.old) (B.count outbox.new) (B.honest outbox.new) (B.holds outbox.old)) }
+    ensures err { IfErr result (RefusesDelivery (B.count outbox.old) (B.count outbox.new) (B.honest outbox.new) (B.holds outbox.old)) }
     ensures same { B.honest outbox.new → (rows : List RowData) → B.holds outbox.old rows → OnErr result (B.holds outbox.new rows) }
     ensures back { B.honest outbox.new → B.honest outbox.old }
 {
@@ -234,7 +234,7 @@ pub fn deliver<B: Keeper>(
     ensures delivered { B.honest outbox.new → (rows : List RowData) → B.holds outbox.old rows → OnOk result (B.holds outbox.new (outboxes.box (unsealed (held_by tables.now)) now rows)) }
     ensures stayed { OnOk result (B.count outbox.new ≡ B.count outbox.old) }
     // Why it was not made; the outbox is then as it was.
-    ensures err { IfErr result (Refuses (B.count outbox.old) (B.count outbox.new) (B.honest outbox.new) (B.holds outbox.old)) }
+    ensures err { IfErr result (RefusesDelivery (B.count outbox.old) (B.count outbox.new) (B.honest outbox.new) (B.holds outbox.old)) }
     ensures same { B.honest outbox.new → (rows : List RowData) → B.holds outbox.old rows → OnErr result (B.holds outbox.new rows) }
     // What it tells of its rows can be relied on before where it can be after.
     ensures back { B.honest outbox.new → B.honest outbox.old }

@@ -7,7 +7,7 @@ ghost use Rattle.wb_list.specs.Keyed.{IsAscending};
 ghost use Rattle.wb_model.specs.KeptRules.{AreKept};
 ghost use Rattle.wb_model.specs.Openings.{registry_of};
 ghost use Rattle.wb_model.specs.Tables.{Case as CaseData};
-ghost use Rattle.wb_row_rules.specs.Reports.{case_report};
+ghost use Rattle.wb_rows.specs.Reports.{case_report};
 ghost use Rattle.wb_rows.specs.Held.{held_by};
 ghost use Rattle.wb_rows.specs.Openings.{cases_of, case_of, tables_of, time_of};
 ghost use Rattle.wb_notice.specs.Notices.{notice_row as row_of};
@@ -21,8 +21,7 @@ use crate::{Notice, NoticeKind};
 use std::alloc::Global;
 use wb_base::{Day, Memory, Moment, Row, Tenant};
 use wb_custody::what_legal_trails_say_of_requests;
-use wb_row_rules::CaseItem;
-use wb_rows::Tables;
+use wb_rows::{CaseItem, Tables};
 use wb_tenants::Registry;
 use wb_terms::day_of;
 

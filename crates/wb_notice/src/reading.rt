@@ -4,7 +4,7 @@ ghost use Rattle.std.specs.List.{list_all};
 ghost use Rattle.wb_row_codec.specs.Good.{is_dated};
 ghost use Rattle.wb_row_codec.specs.Shapes.{day_named as day_by};
 ghost use Rattle.wb_notice.specs.declared.notice.Notice.{Notice as NoticeData};
-ghost use Rattle.wb_notice.specs.Deliveries.{ReadsNone};
+ghost use Rattle.wb_notice.specs.Deliveries.{ReadsNoNotices};
 ghost use Rattle.wb_notice.specs.Notices.{IsNotice, is_ranged, kind_code, notice_row as row_of};
 
 use crate::notice::notice_row;
@@ -97,7 +97,7 @@ fn read_notice(alloc: Global, row: &Row) -> Result<Option<Notice>, Memory>
 pub(crate) fn read_notices(alloc: Global, rows: &[Row]) -> Result<Vec<Notice>, NoticeNo>
     ensures notices { IfOk result (λ notices. rows.now ≡ map row_of notices.items) }
     ensures ranged { IfOk result (λ notices. list_all is_ranged notices.items ≡ true) }
-    ensures err { IfErr result (ReadsNone rows.now) }
+    ensures err { IfErr result (ReadsNoNotices rows.now) }
 {
     let mut notices = Vec::new(alloc);
     for row in rows {

@@ -19,9 +19,9 @@ use Rattle.wb_model.specs.OtherOpenings.{OpeningsAlike}
 use Rattle.wb_model.specs.Pasts.{AllOpened}
 use Rattle.wb_model.specs.Rows.{is_sealed_row, rows_but}
 use Rattle.wb_model.specs.SetUps.{tenant_ids}
-use Rattle.wb_row_rules.specs.Reports.{Report}
-use Rattle.wb_row_rules.specs.TrailRule.{reports_of}
-use Rattle.wb_rows.specs.declared.items.Kept.{Kept}
+use Rattle.wb_rows.specs.Reports.{Report}
+use Rattle.wb_rows.specs.TrailRule.{reports_of}
+use Rattle.wb_rows.specs.declared.items.ItemsByKind.{ItemsByKind}
 use Rattle.wb_rows.specs.Held.{Held}
 use Rattle.wb_rows.specs.Judged.{held, judged, with_format}
 use Rattle.wb_rows.specs.KeptItems.{tenant_in, numbering_in, user_in, form_in, context_in, entry_in, sealed_in, kept_of}
@@ -52,7 +52,7 @@ abbrev unsealed : ℕ → ℕ → List Item → List Item
 unsealed t r all = filter (λ i. not (is_sealed_item t r i)) all
 
 -- the items are alike
-record ItemsAlike (t r : ℕ) (k m : Kept) : Type 0 where
+record ItemsAlike (t r : ℕ) (k m : ItemsByKind) : Type 0 where
   lists : k.lists ≡ m.lists
   numberings : k.numberings ≡ m.numberings
   entries : k.entries ≡ m.entries
@@ -133,7 +133,7 @@ pub record HeldAlike (t r : ℕ) (h g : Held) : Type 0 where
   pub reports : h.reports ≡ g.reports
   pub sealed : (u n : ℕ) → ((u ≡ t) × (n ≡ r) → ⊥) → h.sealed u n ≡ g.sealed u n
 
-held_items : (t r : ℕ) (k m : Kept) (rs ss : List Report) → ItemsAlike t r k m → reports_of k.lists k.entries ≡ Ok rs → reports_of m.lists m.entries ≡ Ok ss → HeldAlike t r (held k rs) (held m ss)
+held_items : (t r : ℕ) (k m : ItemsByKind) (rs ss : List Report) → ItemsAlike t r k m → reports_of k.lists k.entries ≡ Ok rs → reports_of m.lists m.entries ≡ Ok ss → HeldAlike t r (held k rs) (held m ss)
 held_items t r k m rs ss a x y = record {
   lists = a.lists;
   numberings = a.numberings;

@@ -13,8 +13,8 @@ use Rattle.wb_model.specs.Readings.{Reading, Asks, Reads}
 use Rattle.wb_model.specs.Rows.{rows, rows_but}
 use Rattle.wb_model.specs.Scripts.{Place, Reply, frame_of, play, script_replies, past_after}
 use Rattle.wb_model.specs.ScriptsAlike.{AskAlike, PlaceAlike, AllPlacesAlike, FollowWhere, PlacesAlike, is_accepted, hidden_replies}
-use Rattle.wb_promise.specs.Headline.{FramesAsk, frame_asking, FrameAlike, AllFramesAlike, FramesFollow, FramesAlike, AreLostAlike, AreAnsweredAlike, KeepsIdentities}
-use Rattle.wb_start.specs.Starts.{IsOpenedBy}
+use Rattle.wb_promise.specs.Headline.{FramesAsk, frame_asking, FrameAlike, AllFramesAlike, FramesFollow, ScriptFramesAlike, AreLostAlike, AreAnsweredAlike, KeepsIdentities}
+use Rattle.wb_desk.specs.Openings.{IsOpenedBy}
 
 -- ---- bytes are read in one way
 module _ (one_reading : (bytes : List ℕ) (a b : Reading) → Reads bytes a → Reads bytes b → a ≡ b) where
@@ -71,7 +71,7 @@ module _ (one_reading : (bytes : List ℕ) (a b : Reading) → Reads bytes a →
   follow_places true t r past fs gs ps qs x y a l = later_places t r past fs gs ps qs x y a l
   follow_places false t r past fs gs ps qs x y a e = same_places fs gs ps qs x y a e
 
-  alike_places : (i t r : ℕ) (past : Past AllOpened) (fs gs : List ScriptFrame) (ps qs : List Place) → ArePlacesOf fs ps → ArePlacesOf gs qs → AreLostAlike ps qs → FramesAlike i t r past fs ps gs → PlacesAlike i t r past ps qs
+  alike_places : (i t r : ℕ) (past : Past AllOpened) (fs gs : List ScriptFrame) (ps qs : List Place) → ArePlacesOf fs ps → ArePlacesOf gs qs → AreLostAlike ps qs → ScriptFramesAlike i t r past fs ps gs → PlacesAlike i t r past ps qs
   alike_places zero t r past (f ∷ fs) (g ∷ gs) (p ∷ ps) (q ∷ qs) x y a l =
       (ask_places (FirstAlike t r (standing_hosts past)) f g p q x.0 y.0 a.0 l.0, follow_places (is_accepted past p p.reading) t r (play past p).past fs gs ps qs x.1 y.1 a.1 l.1)
   alike_places (suc i) t r past (f ∷ fs) (g ∷ gs) (p ∷ ps) (q ∷ qs) x y a l = (of_one f g p q x.0 y.0 a.0 l.0, alike_places i t r (play past p).past fs gs ps qs x.1 y.1 a.1 l.1)

@@ -13,11 +13,11 @@ use Rattle.wb_row_codec.specs.declared.item.Item.{Item}
 use Rattle.wb_row_codec.specs.declared.item.Item.TheVariants as items
 use Rattle.wb_row_codec.specs.Items.{item_of, item_row, is_row, is_key}
 use Rattle.wb_model.specs.Rows.{format_row}
-use Rattle.wb_row_rules.specs.declared.faults.RowFault.{RowFault}
-use Rattle.wb_row_rules.specs.declared.faults.RowFault.TheVariants.{BadRow}
-use Rattle.wb_row_rules.specs.Reports.{Report}
-use Rattle.wb_row_rules.specs.TrailRule.{reports_of}
-use Rattle.wb_rows.specs.declared.items.Kept.{Kept}
+use Rattle.wb_rows.specs.declared.faults.RowFault.{RowFault}
+use Rattle.wb_rows.specs.declared.faults.RowFault.TheVariants.{BadRow}
+use Rattle.wb_rows.specs.Reports.{Report}
+use Rattle.wb_rows.specs.TrailRule.{reports_of}
+use Rattle.wb_rows.specs.declared.items.ItemsByKind.{ItemsByKind}
 use Rattle.wb_rows.specs.Held.{Held}
 use Rattle.wb_rows.specs.Judged.{held, unless, report_fault, judged_reports, judged_items, judged_in, judged, is_format_key, with_format}
 use Rattle.wb_rows.specs.KeptItems.{kept_of}
@@ -55,7 +55,7 @@ unless_ok : (o : Option RowFault) (rest : Result Held RowFault) (h : Held) → u
 unless_ok None rest h e = e
 unless_ok (Some fault) rest h e = absurd (not_ok fault h e)
 
-reports_ok : (k : Kept) (o : Result (List Report) Key) (h : Held) → judged_reports k o ≡ Ok h → (rs : List Report) × ((o ≡ Ok rs) × (h ≡ held k rs))
+reports_ok : (k : ItemsByKind) (o : Result (List Report) Key) (h : Held) → judged_reports k o ≡ Ok h → (rs : List Report) × ((o ≡ Ok rs) × (h ≡ held k rs))
 reports_ok k (Ok rs) h e = (rs, (refl, sym (ok_in (held k rs) h (unless_ok (report_fault k rs) (Ok (held k rs)) h e))))
 reports_ok k (Err key) h e = absurd (not_ok _ h e)
 

@@ -14,7 +14,7 @@ use Rattle.wb_model.specs.Rows.{rows, rows_but}
 use Rattle.wb_model.specs.Scripts.{Place, Reply, script_replies, past_after}
 use Rattle.wb_model.specs.ScriptsAlike.{AllPlacesAlike, hidden_replies}
 use Rattle.wb_model.specs.Tenants.{AllHostsAlike}
-use Rattle.wb_start.specs.Starts.{IsOpenedBy}
+use Rattle.wb_desk.specs.Openings.{IsOpenedBy}
 use Rattle.wb_promise.specs.Headline.{bytes_of}
 use Rattle.wb_promise.specs.OlderReports.{KeepsOlderIdentities, BeginTogether, IsForgottenThere, ForgetsOlderReports}
 use Rattle.wb_promise.proofs.AlikeRows.{held_alike, opened_alike}

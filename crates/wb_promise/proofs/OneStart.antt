@@ -6,7 +6,7 @@ use Rattle.wb_model.specs.declared.registry.Lists.{Lists}
 use Rattle.wb_model.specs.Past.{Past, Opening}
 use Rattle.wb_model.specs.Pasts.{AllOpened}
 use Rattle.wb_rows.specs.Held.{Held}
-use Rattle.wb_start.specs.Starts.{IsOpenedBy}
+use Rattle.wb_desk.specs.Openings.{IsOpenedBy}
 use Rattle.wb_promise.proofs.JudgedRows.{ok_same}
 
 -- an opening is told by its tables

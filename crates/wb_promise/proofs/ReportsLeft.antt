@@ -7,9 +7,9 @@ use Rattle.wb_base.specs.declared.rows.Key.{Key}
 use Rattle.wb_model.specs.declared.registry.Lists.{Lists}
 use Rattle.wb_model.specs.Legal.{is_first, is_next, last_at}
 use Rattle.wb_row_codec.specs.declared.item.EntryItem.{EntryItem}
-use Rattle.wb_row_rules.specs.Places.{entry_key}
-use Rattle.wb_row_rules.specs.Reports.{Report}
-use Rattle.wb_row_rules.specs.TrailRule.{days, begun, continued, is_of, begins, goes_on, with_report, reports_after, reports_of}
+use Rattle.wb_rows.specs.Places.{entry_key}
+use Rattle.wb_rows.specs.Reports.{Report}
+use Rattle.wb_rows.specs.TrailRule.{days, begun, continued, is_of, begins, goes_on, with_report, reports_after, reports_of}
 use Rattle.wb_promise.proofs.JudgedRows.{ok_in, not_ok}
 
 abbrev pub is_entry : ℕ → ℕ → EntryItem → Bool

@@ -22,8 +22,8 @@ use Rattle.wb_model.specs.SetUps.{tenant_ids}
 use Rattle.wb_model.proofs.Found.{decide, same_number, other_number}
 use Rattle.wb_model.proofs.KeptPasts.{latest_first, latest_rest}
 use Rattle.wb_model.proofs.LeftTimes.{latest_both}
-use Rattle.wb_row_rules.specs.Reports.{Report}
-use Rattle.wb_row_rules.specs.TrailRule.{reports_of}
+use Rattle.wb_rows.specs.Reports.{Report}
+use Rattle.wb_rows.specs.TrailRule.{reports_of}
 use Rattle.wb_rows.specs.Held.{Held}
 use Rattle.wb_rows.specs.Judged.{held, judged, with_format}
 use Rattle.wb_rows.specs.KeptItems.{tenant_in, numbering_in, user_in, form_in, context_in, entry_in, sealed_in, kept_of}

@@ -16,7 +16,7 @@ use Rattle.wb_model.specs.Rows.{rows, rows_but}
 use Rattle.wb_model.specs.Absence.{Item, Stands, Skips, BeginsAt, DrawOthersAfter, replies, past_with, replies_after, is_purged_after, holds, NoneIsLost}
 use Rattle.wb_model.specs.Scripts.{Place, Reply, play, script_replies, past_after}
 use Rattle.wb_model.specs.ScriptsAlike.{is_accepted, hidden_replies}
-use Rattle.wb_start.specs.Starts.{IsOpenedBy}
+use Rattle.wb_desk.specs.Openings.{IsOpenedBy}
 
 -- ---- scripts
 
@@ -51,10 +51,10 @@ FramesFollow true t r past fs ps gs = AllFramesAlike t r past fs ps gs
 FramesFollow false t r past fs ps gs = fs ≡ gs
 
 -- the scripts differ in the submission at place i, to tenant t, which draws the number r, and in the identities that r's reporter gives later
-abbrev pub FramesAlike : ℕ → ℕ → ℕ → Past AllOpened → List ScriptFrame → List Place → List ScriptFrame → Type 0
-FramesAlike zero t r past (f ∷ fs) (p ∷ ps) (g ∷ gs) = FramesAsk (FirstAlike t r (standing_hosts past)) f g × FramesFollow (is_accepted past p p.reading) t r (play past p).past fs ps gs
-FramesAlike (suc i) t r past (f ∷ fs) (p ∷ ps) (g ∷ gs) = (f ≡ g) × FramesAlike i t r (play past p).past fs ps gs
-FramesAlike i t r past _ ps _ = ⊥
+abbrev pub ScriptFramesAlike : ℕ → ℕ → ℕ → Past AllOpened → List ScriptFrame → List Place → List ScriptFrame → Type 0
+ScriptFramesAlike zero t r past (f ∷ fs) (p ∷ ps) (g ∷ gs) = FramesAsk (FirstAlike t r (standing_hosts past)) f g × FramesFollow (is_accepted past p p.reading) t r (play past p).past fs ps gs
+ScriptFramesAlike (suc i) t r past (f ∷ fs) (p ∷ ps) (g ∷ gs) = (f ≡ g) × ScriptFramesAlike i t r (play past p).past fs ps gs
+ScriptFramesAlike i t r past _ ps _ = ⊥
 
 -- ---- replies
 
@@ -85,7 +85,7 @@ pub record ArePlayed (loaded : List Row) (setup : List ℕ) (places : List Place
 -- answered alike
 abbrev pub KeepsIdentities : List Row → List ℕ → Past AllOpened → List ScriptFrame → List Place → Type 0
 KeepsIdentities loaded setup start frames places = (i t r : ℕ) (other : Past AllOpened) (others : List ScriptFrame) (theirs : List Place) →
-    ArePlayed loaded setup places other others theirs → FramesAlike i t r start frames places others → AreAnsweredAlike t r start other places theirs
+    ArePlayed loaded setup places other others theirs → ScriptFramesAlike i t r start frames places others → AreAnsweredAlike t r start other places theirs
 
 -- ---- the script in which a submission only drew a number
 

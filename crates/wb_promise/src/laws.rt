@@ -9,7 +9,7 @@ ghost use Rattle.wb_rows.specs.Left.{left};
 ghost use Rattle.wb_tables.specs.Standing.{Standing, hosts_of};
 ghost use Rattle.wb_desk.specs.Desks.{IsDesk};
 ghost use Rattle.wb_desk.specs.Turns.{StandsFor};
-ghost use Rattle.wb_start.specs.Starts.{IsOpenedBy};
+ghost use Rattle.wb_desk.specs.Openings.{IsOpenedBy};
 ghost use Rattle.wb_promise.specs.Promises.{AllAsPromised};
 
 use wb_model::{

@@ -10,10 +10,10 @@ use Rattle.wb_model.specs.Legal.{Reckoning, ascends_from, is_first, is_legal, le
 use Rattle.wb_model.specs.Opened.{Apart, AtMost}
 use Rattle.wb_model.specs.Tables.{Case, has_receipt}
 use Rattle.wb_model.specs.Trails.{submission_in}
-use Rattle.wb_row_rules.specs.Reports.{Report}
+use Rattle.wb_rows.specs.Reports.{Report}
 use Rattle.wb_rows.specs.Held.{Held}
 use Rattle.wb_rows.specs.Openings.{case_of, cases_of}
-use Rattle.wb_row_rules.specs.TrailRule.{is_legal_report, days}
+use Rattle.wb_rows.specs.TrailRule.{is_legal_report, days}
 use Rattle.wb_tables.specs.declared.tenancy.Tenancy.{Tenancy as KeptTenancy}
 use Rattle.wb_tables.specs.Kept.{PlainTenancy, place_of}
 use Rattle.wb_tables.specs.Places.{is_tenant}

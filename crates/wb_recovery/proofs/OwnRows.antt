@@ -17,7 +17,7 @@ use Rattle.wb_model.specs.Openings.{no_settings}
 use Rattle.wb_model.specs.Rows.{row, tenants_rows, settings_data, user_data, context_data}
 use Rattle.wb_model.specs.SetUps.{tenant_ids}
 use Rattle.wb_rows.specs.declared.tables.Tables.{Tables}
-use Rattle.wb_row_rules.specs.Reports.{case_report}
+use Rattle.wb_rows.specs.Reports.{case_report}
 use Rattle.wb_rows.specs.Held.{held_by}
 use Rattle.wb_rows.specs.HeldRows.{settings_row, numbering_row, user_row, form_row, context_row, list_rows, trail_rows, sealed_rows, own_rows as own_held}
 use Rattle.wb_tenants.specs.Owned.{own_lists}

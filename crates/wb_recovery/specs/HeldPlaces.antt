@@ -9,7 +9,7 @@ use Rattle.wb_model.specs.Openings.{registry_of, empty_tables}
 use Rattle.wb_model.specs.SetUps.{has_tenant, tenant_ids}
 use Rattle.wb_model.specs.Tables.{Case, has_receipt}
 use Rattle.wb_model.specs.Tenants.{Tenancy}
-use Rattle.wb_row_rules.specs.Reports.{Report}
+use Rattle.wb_rows.specs.Reports.{Report}
 use Rattle.wb_rows.specs.Held.{Held}
 use Rattle.wb_rows.specs.Openings.{case_of, cases_of, tables_of}
 use Rattle.wb_rows.specs.Puts.{tenant_puts}

@@ -1,7 +1,7 @@
 //! Moments: the later of two, and the greatest that is kept, to which a host is opened.
 ghost use Rattle.std.specs.Prelude.{◌≡◌, ◌≤◌, map, max};
 ghost use Rattle.wb_model.specs.Reopened.{latest};
-ghost use Rattle.wb_row_rules.specs.Reports.{case_report};
+ghost use Rattle.wb_rows.specs.Reports.{case_report};
 ghost use Rattle.wb_rows.specs.Held.{held_by};
 ghost use Rattle.wb_rows.specs.Openings.{report_moments, time_of};
 

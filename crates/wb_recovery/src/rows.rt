@@ -9,9 +9,9 @@ use std::alloc::Global;
 use wb_base::{Format, Memory, Number, Row, Tenant};
 use wb_custody::SealedTable;
 use wb_model::{ContextItem, Entry, FormItem, TenantItem, UserItem};
+use wb_row_codec::{context_row, form_row, settings_row, user_row};
 use wb_rows::{entry_row, format_row, numbering_row, sealed_row};
 use wb_tables::{BoxedReport, Configuration, Tenancy};
-use wb_tenants::{context_row, form_row, settings_row, user_row};
 
 /// What a tenant is set up with several of, each with its row.
 trait Owned {

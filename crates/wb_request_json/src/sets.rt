@@ -1,33 +1,21 @@
 //! What an administrator sets, in the bodies of requests.
 ghost use Rattle.std.specs.Prelude.{◌≡◌, ◌==◌, Some};
 ghost use Rattle.std.specs.List.{list_any};
-ghost use Rattle.serde_json.specs.View.{view, items_view};
-ghost use Rattle.wb_base.specs.FormShape.{all_of};
+ghost use Rattle.serde_json.specs.View.{view};
 ghost use Rattle.wb_model.specs.Fits.{are_distinct as distinct_test};
-ghost use Rattle.wb_model.specs.Bodies.{under, whole, recipients as recipients_of, are_recipients as recipients_test, settings_set as settings_of, user_set as user_of, context_set as context_of, form as form_of, new_form as new_form_of};
-ghost use Rattle.wb_request_json.specs.Gives.{Gives};
+ghost use Rattle.wb_model.specs.Bodies.{under, recipients as recipients_of, are_recipients as recipients_test, settings_set as settings_of, user_set as user_of, context_set as context_of, form as form_of, new_form as new_form_of};
+ghost use Rattle.wb_json.specs.Gives.{Gives};
 
-use crate::json_values::BodyNo;
-use crate::members::{
-    flag_under, read_user, rights_under, role_under, text_if_under, text_under, whole_under,
-};
 use serde_json::Value;
 use std::alloc::Global;
 use wb_base::{Form, FormFault, UserId};
 use wb_form::{FormText, has_only, size};
+use wb_json::{
+    ReadError, flag_under, read_list, rights_under, role_under, text_if_under, text_under,
+    whole_under,
+};
 use wb_list::Items;
 use wb_model::{Command, ContextSet, SettingsSet, UserSet};
-
-// The users of a list of ids.
-fn read_users(alloc: Global, values: &Vec<Value>) -> Result<Items<UserId>, BodyNo>
-    ensures { Gives (all_of (whole 1 256) (items_view values.now.items)) result }
-{
-    let mut users = Items::new(alloc);
-    for value in values {
-        users.push(read_user(value)?)?;
-    }
-    Ok(users)
-}
 
 // Whether a user is one of these.
 fn is_among(users: &[UserId], user: UserId) -> bool
@@ -61,38 +49,33 @@ fn are_recipients(users: &[UserId]) -> bool
 }
 
 // The recipients that a value is.
-fn read_recipients(alloc: Global, value: &Value) -> Result<Items<UserId>, BodyNo>
+fn read_recipients(alloc: Global, value: &Value) -> Result<Items<UserId>, ReadError>
     ensures { Gives (recipients_of (view value.now)) result }
 {
-    match value.as_array() {
-        Some(values) => {
-            let users = read_users(alloc, values)?;
-            if are_recipients(users.as_slice()) {
-                Ok(users)
-            } else {
-                Err(BodyNo::Other)
-            }
-        }
-        None => Err(BodyNo::Other),
+    let users: Items<UserId> = read_list(alloc, value)?;
+    if are_recipients(users.as_slice()) {
+        Ok(users)
+    } else {
+        Err(ReadError::Other)
     }
 }
 
 // The recipients under a key.
-fn recipients_under(alloc: Global, value: &Value, key: &str) -> Result<Items<UserId>, BodyNo>
+fn recipients_under(alloc: Global, value: &Value, key: &str) -> Result<Items<UserId>, ReadError>
     ensures { Gives (under key.now recipients_of (view value.now)) result }
 {
     match value.get(key) {
         Some(found) => read_recipients(alloc, found),
-        None => Err(BodyNo::Other),
+        None => Err(ReadError::Other),
     }
 }
 
 /// `{"name", "notice_days", "quota"}`.
-pub fn settings_set(alloc: Global, value: &Value) -> Result<SettingsSet, BodyNo>
+pub fn settings_set(alloc: Global, value: &Value) -> Result<SettingsSet, ReadError>
     ensures { Gives (settings_of (view value.now)) result }
 {
     if size(value) != 3 {
-        return Err(BodyNo::Other);
+        return Err(ReadError::Other);
     }
     let name = text_under(alloc, value, "name", 1, 128)?;
     let notice_days = whole_under(value, "notice_days", 0, 30)?;
@@ -105,11 +88,11 @@ pub fn settings_set(alloc: Global, value: &Value) -> Result<SettingsSet, BodyNo>
 }
 
 /// `{"name", "role", "enabled", "may", "password"}`, of which `password` may be left out.
-pub fn user_set(alloc: Global, value: &Value) -> Result<UserSet, BodyNo>
+pub fn user_set(alloc: Global, value: &Value) -> Result<UserSet, ReadError>
     ensures { Gives (user_of (view value.now)) result }
 {
     if !has_only(value, &["enabled", "may", "name", "password", "role"]) {
-        return Err(BodyNo::Other);
+        return Err(ReadError::Other);
     }
     let name = text_under(alloc, value, "name", 1, 64)?;
     let role = role_under(value, "role")?;
@@ -126,11 +109,11 @@ pub fn user_set(alloc: Global, value: &Value) -> Result<UserSet, BodyNo>
 }
 
 /// `{"name", "form", "open", "recipients", "retention"}`.
-pub fn context_set(alloc: Global, value: &Value) -> Result<ContextSet, BodyNo>
+pub fn context_set(alloc: Global, value: &Value) -> Result<ContextSet, ReadError>
     ensures { Gives (context_of (view value.now)) result }
 {
     if size(value) != 5 {
-        return Err(BodyNo::Other);
+        return Err(ReadError::Other);
     }
     let name = text_under(alloc, value, "name", 1, 128)?;
     let form = whole_under(value, "form", 1, 16)?;
@@ -147,14 +130,14 @@ pub fn context_set(alloc: Global, value: &Value) -> Result<ContextSet, BodyNo>
 }
 
 // The form that a value is, or its fault, which is never want of memory.
-fn read_form(alloc: Global, value: &Value) -> Result<Result<Form, FormFault>, BodyNo>
+fn read_form(alloc: Global, value: &Value) -> Result<Result<Form, FormFault>, ReadError>
     ensures { Gives (Some (form_of (view value.now))) result }
 {
     match Form::read(alloc, value) {
         Ok(form) => Ok(Ok(form)),
         Err(fault) => {
             if fault.code == FormFault::MEMORY {
-                Err(BodyNo::Memory)
+                Err(ReadError::Memory)
             } else {
                 Ok(Err(fault))
             }
@@ -163,11 +146,11 @@ fn read_form(alloc: Global, value: &Value) -> Result<Result<Form, FormFault>, Bo
 }
 
 /// `{"form"}`.
-pub fn new_form(alloc: Global, t: u32, f: u32, value: &Value) -> Result<Command, BodyNo>
+pub fn new_form(alloc: Global, t: u32, f: u32, value: &Value) -> Result<Command, ReadError>
     ensures { Gives (new_form_of t f (view value.now)) result }
 {
     if size(value) != 1 {
-        return Err(BodyNo::Other);
+        return Err(ReadError::Other);
     }
     match value.get("form") {
         Some(found) => Ok(Command::SetForm {
@@ -175,6 +158,6 @@ pub fn new_form(alloc: Global, t: u32, f: u32, value: &Value) -> Result<Command,
             f,
             form: read_form(alloc, found)?,
         }),
-        None => Err(BodyNo::Other),
+        None => Err(ReadError::Other),
     }
 }

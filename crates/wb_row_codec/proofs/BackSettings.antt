@@ -15,6 +15,7 @@ use Rattle.wb_model.specs.Json.{Member, object_of, date, list_of, whole as whole
 use Rattle.wb_model.specs.Readable.{are_bytes, are_dates}
 use Rattle.wb_model.specs.Rows.{only_where, settings_data}
 use Rattle.wb_model.specs.SetUps.{is_offset, is_tenant_item}
+use Rattle.wb_json.specs.Dates.{date as date_read}
 use Rattle.wb_row_codec.specs.Shapes as shapes
 use Rattle.wb_row_codec.proofs.BackEntries.{within-between, within-count, within-date}
 use Rattle.wb_row_codec.proofs.BackValues.{bytes-back, dates-back, most-back, text-back, whole-back}
@@ -77,7 +78,7 @@ shown external has rolls x = object_of ((early external has x ++ middle rolls x)
 
 -- the holidays that are read where they stand, and where they do not
 abbrev read_days : Bool → TenantItem → Option (List ℤ)
-read_days has x = if has then list_read shapes.date (list_of date x.calendar.holidays) else Some []
+read_days has x = if has then list_read date_read (list_of date x.calendar.holidays) else Some []
 
 -- what is read of the parts
 abbrev made : ℕ → Bool → Option (List ℤ) → Bool → Option (List ℕ) → Option ℕ → Option ℤ → Option ℕ → Option Salt → Option TenantItem

@@ -27,7 +27,8 @@ use Rattle.wb_model.proofs.Receipts.{same_text}
 use Rattle.wb_terms.proofs.ReadBack.{read_date-date_text}
 use Rattle.wb_model.specs.Readable.{is_byte, are_bytes, are_dates, is_date}
 use Rattle.wb_row_codec.specs.Good.{are_users, is_dated}
-use Rattle.wb_row_codec.specs.Shapes.{bytes, date as date_read, day, users}
+use Rattle.wb_json.specs.Dates.{date as date_read}
+use Rattle.wb_row_codec.specs.Shapes.{bytes, day, users}
 
 -- ---- texts and numbers
 

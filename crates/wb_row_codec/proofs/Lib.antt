@@ -1,4 +1,5 @@
 pub mod PlainRows
+pub mod TenantRows
 pub mod Puts
 mod Canonical
 mod CanonicalForms

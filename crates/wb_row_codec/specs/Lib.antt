@@ -1,4 +1,3 @@
-pub mod Gives
 pub mod Good
 pub mod Items
 pub mod Members

@@ -15,6 +15,7 @@ use Rattle.wb_base.specs.DateTexts.{read_date}
 use Rattle.wb_base.specs.FormFaults.{is_good}
 use Rattle.wb_base.specs.Calendars.{Calendar, are_holidays}
 use Rattle.wb_base.specs.FormShape.{keep, optional, list_of, flag_at, form_by}
+use Rattle.wb_json.specs.Dates.{date}
 use Rattle.wb_model.specs.declared.numbering.Numbering.{Numbering}
 use Rattle.wb_model.specs.declared.registry.ContextItem.{ContextItem}
 use Rattle.wb_model.specs.declared.registry.FormItem.{FormItem}
@@ -48,10 +49,6 @@ day_named name = if is_text name (codes "1969-12-31") then Some (neg_ℤ (pos 1)
 
 abbrev pub day : Data → Option ℤ
 day d = option_and_then day_named (as_str d)
-
--- a date that may be an answer
-abbrev pub date : Data → Option ℤ
-date d = option_and_then read_date (as_str d)
 
 -- ids of users, in any order
 abbrev pub users : Data → Option (List ℕ)

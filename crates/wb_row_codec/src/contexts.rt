@@ -6,15 +6,13 @@ ghost use Rattle.wb_model.specs.Bodies.{under};
 ghost use Rattle.wb_model.specs.Legal.{are_readers as readers_test, ascends, ascends_from};
 ghost use Rattle.wb_model.specs.SetUps.{is_context_item, is_form_item};
 ghost use Rattle.wb_row_codec.specs.Shapes.{recipients as recipients_of, context as context_of, form as form_of, good_form, is_in_format as in_format};
-ghost use Rattle.wb_row_codec.specs.Gives.{Gives};
+ghost use Rattle.wb_json.specs.Gives.{Gives};
 
-use crate::members::{flag_under, text_under, whole_under};
-use crate::parts::read_list;
-use crate::row_no::RowNo;
 use serde_json::Value;
 use std::alloc::Global;
 use wb_base::{Form, FormFault, Format, Tenant, UserId};
 use wb_form::{FormText, has_score};
+use wb_json::{ReadError, flag_under, read_list, text_under, whole_under};
 use wb_list::Items;
 use wb_model::{ContextItem, FormItem};
 
@@ -50,18 +48,18 @@ fn are_readers(users: &[UserId]) -> bool
 }
 
 // The recipients under a key.
-fn recipients_under(alloc: Global, value: &Value, key: &str) -> Result<Items<UserId>, RowNo>
+fn recipients_under(alloc: Global, value: &Value, key: &str) -> Result<Items<UserId>, ReadError>
     ensures users { Gives (under key.now recipients_of (view value.now)) result }
     ensures fits { IfOk result (λ users. readers_test users ≡ true) }
 {
     let Some(found) = value.get(key) else {
-        return Err(RowNo::Other);
+        return Err(ReadError::Other);
     };
     let users: Items<UserId> = read_list(alloc, found)?;
     if are_readers(users.as_slice()) {
         Ok(users)
     } else {
-        Err(RowNo::Other)
+        Err(ReadError::Other)
     }
 }
 
@@ -71,7 +69,7 @@ pub fn read_context(
     tenant: Tenant,
     id: u32,
     value: &Value,
-) -> Result<ContextItem, RowNo>
+) -> Result<ContextItem, ReadError>
     requires low { 1 ≤ id }
     requires high { id ≤ 64 }
     ensures context { Gives (context_of tenant id (view value.now)) result }
@@ -94,7 +92,7 @@ pub fn read_context(
 }
 
 // The good form that a value is.
-fn read_good(alloc: Global, format: Format, value: &Value) -> Result<Form, RowNo>
+fn read_good(alloc: Global, format: Format, value: &Value) -> Result<Form, ReadError>
     ensures form { Gives (good_form format (view value.now)) result }
     ensures good { IfOk result (λ x. is_good x ≡ true) }
 {
@@ -102,9 +100,9 @@ fn read_good(alloc: Global, format: Format, value: &Value) -> Result<Form, RowNo
         Ok(form) => Ok(form),
         Err(fault) => {
             if fault.code == FormFault::MEMORY {
-                Err(RowNo::Memory)
+                Err(ReadError::Memory)
             } else {
-                Err(RowNo::Other)
+                Err(ReadError::Other)
             }
         }
     }
@@ -128,7 +126,7 @@ pub fn read_version(
     id: u32,
     version: u32,
     value: &Value,
-) -> Result<FormItem, RowNo>
+) -> Result<FormItem, ReadError>
     requires low { 1 ≤ id }
     requires high { id ≤ 16 }
     requires first { 1 ≤ version }
@@ -138,7 +136,7 @@ pub fn read_version(
 {
     let form = read_good(alloc, format, value)?;
     if !is_in_format(format, &form) {
-        return Err(RowNo::Other);
+        return Err(ReadError::Other);
     }
     Ok(FormItem {
         tenant,

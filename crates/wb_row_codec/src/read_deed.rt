@@ -1,23 +1,23 @@
 //! The entry of a trail, as a row has it.
 ghost use Rattle.std.specs.Prelude.{◌≡◌, option_map};
 ghost use Rattle.serde_json.specs.View.{view};
-ghost use Rattle.wb_model.specs.Bodies.{under, whole, status as status_of};
+ghost use Rattle.wb_model.specs.Bodies.{under, whole};
 ghost use Rattle.wb_row_codec.specs.SaidDeeds as said;
-ghost use Rattle.wb_row_codec.specs.Gives.{Gives};
+ghost use Rattle.wb_json.specs.Gives.{Gives};
 
-use crate::answers::answers_under;
-use crate::members::{day_under, digest_under, flag_under, str_under, text_under, whole_under};
+use crate::members::{day_under, digest_under};
 use crate::numberings::moment_under;
-use crate::parts::list_under;
 use crate::read_moves::follow_deed;
-use crate::row_no::RowNo;
 use serde_json::Value;
 use std::alloc::Global;
 use wb_base::UserId;
-use wb_json::status_named;
-use wb_model::{Actor, Deed, Entry, Status};
+use wb_json::{
+    ReadError, answers_under, flag_under, list_under, status_under, str_under, text_under,
+    whole_under,
+};
+use wb_model::{Actor, Deed, Entry};
 
-fn submitted(alloc: Global, value: &Value) -> Result<Deed, RowNo>
+fn submitted(alloc: Global, value: &Value) -> Result<Deed, ReadError>
     ensures { Gives (said.submitted (view value.now)) result }
 {
     let ack_due = day_under(value, "ack_due")?;
@@ -46,7 +46,7 @@ fn submitted(alloc: Global, value: &Value) -> Result<Deed, RowNo>
     })
 }
 
-fn comment(alloc: Global, value: &Value) -> Result<Deed, RowNo>
+fn comment(alloc: Global, value: &Value) -> Result<Deed, ReadError>
     ensures { Gives (said.comment (view value.now)) result }
 {
     let internal = flag_under(value, "internal")?;
@@ -54,27 +54,14 @@ fn comment(alloc: Global, value: &Value) -> Result<Deed, RowNo>
     Ok(Deed::Comment { internal, text })
 }
 
-fn label(alloc: Global, value: &Value) -> Result<Deed, RowNo>
+fn label(alloc: Global, value: &Value) -> Result<Deed, ReadError>
     ensures { Gives (said.label (view value.now)) result }
 {
     let text = text_under(alloc, value, "text", 0, 64)?;
     Ok(Deed::Label { text })
 }
 
-// The status under a key.
-fn status_under(value: &Value, key: &str) -> Result<Status, RowNo>
-    ensures { Gives (under key.now status_of (view value.now)) result }
-{
-    match value.get(key) {
-        Some(found) => match found.as_str() {
-            Some(name) => status_named(name).ok_or(RowNo::Other),
-            None => Err(RowNo::Other),
-        },
-        None => Err(RowNo::Other),
-    }
-}
-
-fn set_status(value: &Value) -> Result<Deed, RowNo>
+fn set_status(value: &Value) -> Result<Deed, ReadError>
     ensures { Gives (said.set_status (view value.now)) result }
 {
     let status = status_under(value, "status")?;
@@ -82,7 +69,7 @@ fn set_status(value: &Value) -> Result<Deed, RowNo>
 }
 
 // The deed of this name.
-fn deed_named(alloc: Global, name: &str, value: &Value) -> Result<Deed, RowNo>
+fn deed_named(alloc: Global, name: &str, value: &Value) -> Result<Deed, ReadError>
     ensures { Gives (said.by_name said.all_deeds name.now (view value.now)) result }
 {
     if name == "submitted" {
@@ -100,17 +87,17 @@ fn deed_named(alloc: Global, name: &str, value: &Value) -> Result<Deed, RowNo>
     }
 }
 
-fn read_deed(alloc: Global, value: &Value) -> Result<Deed, RowNo>
+fn read_deed(alloc: Global, value: &Value) -> Result<Deed, ReadError>
     ensures { Gives (said.deed (view value.now)) result }
 {
     match str_under(value, "deed") {
         Some(name) => deed_named(alloc, name, value),
-        None => Err(RowNo::Other),
+        None => Err(ReadError::Other),
     }
 }
 
 // Who acts under a key: 0 is the reporter.
-fn actor_under(value: &Value, key: &str) -> Result<Actor, RowNo>
+fn actor_under(value: &Value, key: &str) -> Result<Actor, ReadError>
     ensures { Gives (option_map said.actor (under key.now (whole 0 256) (view value.now))) result }
 {
     let number = whole_under(value, key, 0, 256)?;
@@ -119,12 +106,12 @@ fn actor_under(value: &Value, key: &str) -> Result<Actor, RowNo>
     }
     match UserId::try_new(number as u16) {
         Some(user) => Ok(Actor::User(user)),
-        None => Err(RowNo::Other),
+        None => Err(ReadError::Other),
     }
 }
 
 /// The entry that a value is.
-pub fn read_entry(alloc: Global, value: &Value) -> Result<Entry, RowNo>
+pub fn read_entry(alloc: Global, value: &Value) -> Result<Entry, ReadError>
     ensures { Gives (said.entry (view value.now)) result }
 {
     let at = moment_under(value, "at")?;

@@ -3,17 +3,16 @@ ghost use Rattle.std.specs.Prelude.{◌≡◌};
 ghost use Rattle.serde_json.specs.View.{view};
 ghost use Rattle.wb_model.specs.Bodies.{under};
 ghost use Rattle.wb_row_codec.specs.SaidDeeds as said;
-ghost use Rattle.wb_row_codec.specs.Gives.{Gives};
+ghost use Rattle.wb_json.specs.Gives.{Gives};
 
-use crate::members::{day_under, long_under, read_text, text_under, user_under, whole_under};
-use crate::parts::list_under;
-use crate::row_no::RowNo;
+use crate::members::day_under;
 use serde_json::Value;
 use std::alloc::Global;
 use wb_base::Text;
+use wb_json::{ReadError, list_under, long_under, read_text, text_under, user_under, whole_under};
 use wb_model::Deed;
 
-fn acknowledged(value: &Value) -> Result<Deed, RowNo>
+fn acknowledged(value: &Value) -> Result<Deed, ReadError>
     ensures { Gives (said.acknowledged (view value.now)) result }
 {
     let day = day_under(value, "day")?;
@@ -21,28 +20,28 @@ fn acknowledged(value: &Value) -> Result<Deed, RowNo>
     Ok(Deed::Acknowledged { day, feedback_due })
 }
 
-fn feedback(alloc: Global, value: &Value) -> Result<Deed, RowNo>
+fn feedback(alloc: Global, value: &Value) -> Result<Deed, ReadError>
     ensures { Gives (said.feedback (view value.now)) result }
 {
     let text = text_under(alloc, value, "text", 1, 4_096)?;
     Ok(Deed::Feedback { text })
 }
 
-fn shared(alloc: Global, value: &Value) -> Result<Deed, RowNo>
+fn shared(value: &Value) -> Result<Deed, ReadError>
     ensures { Gives (said.shared (view value.now)) result }
 {
-    let user = user_under(alloc, value, "user")?;
+    let user = user_under(value, "user")?;
     Ok(Deed::Shared { user })
 }
 
-fn unshared(alloc: Global, value: &Value) -> Result<Deed, RowNo>
+fn unshared(value: &Value) -> Result<Deed, ReadError>
     ensures { Gives (said.unshared (view value.now)) result }
 {
-    let user = user_under(alloc, value, "user")?;
+    let user = user_under(value, "user")?;
     Ok(Deed::Unshared { user })
 }
 
-fn transferred(alloc: Global, value: &Value) -> Result<Deed, RowNo>
+fn transferred(alloc: Global, value: &Value) -> Result<Deed, ReadError>
     ensures { Gives (said.transferred (view value.now)) result }
 {
     let context = whole_under(value, "context", 1, 64)?;
@@ -50,14 +49,14 @@ fn transferred(alloc: Global, value: &Value) -> Result<Deed, RowNo>
     Ok(Deed::Transferred { context, readers })
 }
 
-fn postponed(value: &Value) -> Result<Deed, RowNo>
+fn postponed(value: &Value) -> Result<Deed, ReadError>
     ensures { Gives (said.postponed (view value.now)) result }
 {
     let expires = day_under(value, "expires")?;
     Ok(Deed::Postponed { expires })
 }
 
-fn extended(alloc: Global, value: &Value) -> Result<Deed, RowNo>
+fn extended(alloc: Global, value: &Value) -> Result<Deed, ReadError>
     ensures { Gives (said.extended (view value.now)) result }
 {
     let feedback_due = day_under(value, "feedback_due")?;
@@ -68,7 +67,7 @@ fn extended(alloc: Global, value: &Value) -> Result<Deed, RowNo>
     })
 }
 
-fn asked(alloc: Global, value: &Value) -> Result<Deed, RowNo>
+fn asked(alloc: Global, value: &Value) -> Result<Deed, ReadError>
     ensures { Gives (said.asked (view value.now)) result }
 {
     let reason = text_under(alloc, value, "reason", 1, 1_024)?;
@@ -77,26 +76,26 @@ fn asked(alloc: Global, value: &Value) -> Result<Deed, RowNo>
 }
 
 // A text, or none for null.
-fn read_withheld(alloc: Global, value: &Value) -> Result<Option<Text>, RowNo>
+fn read_withheld(alloc: Global, value: &Value) -> Result<Option<Text>, ReadError>
     ensures { Gives (said.withheld (view value.now)) result }
 {
     match value {
         Value::Null => Ok(None),
         Value::String(_) => Ok(Some(read_text(alloc, value, 1, 1_024)?)),
-        _ => Err(RowNo::Other),
+        _ => Err(ReadError::Other),
     }
 }
 
-fn withheld_under(alloc: Global, value: &Value, key: &str) -> Result<Option<Text>, RowNo>
+fn withheld_under(alloc: Global, value: &Value, key: &str) -> Result<Option<Text>, ReadError>
     ensures { Gives (under key.now said.withheld (view value.now)) result }
 {
     match value.get(key) {
         Some(found) => read_withheld(alloc, found),
-        None => Err(RowNo::Other),
+        None => Err(ReadError::Other),
     }
 }
 
-fn granted(alloc: Global, value: &Value) -> Result<Deed, RowNo>
+fn granted(alloc: Global, value: &Value) -> Result<Deed, ReadError>
     ensures { Gives (said.granted (view value.now)) result }
 {
     let effective = long_under(value, "effective", 0, 100_002_591_999)?;
@@ -111,7 +110,7 @@ fn granted(alloc: Global, value: &Value) -> Result<Deed, RowNo>
     })
 }
 
-fn denied(alloc: Global, value: &Value) -> Result<Deed, RowNo>
+fn denied(alloc: Global, value: &Value) -> Result<Deed, ReadError>
     ensures { Gives (said.denied (view value.now)) result }
 {
     let reason = text_under(alloc, value, "reason", 1, 1_024)?;
@@ -119,7 +118,7 @@ fn denied(alloc: Global, value: &Value) -> Result<Deed, RowNo>
     Ok(Deed::Denied { reason, request })
 }
 
-fn revoked(alloc: Global, value: &Value) -> Result<Deed, RowNo>
+fn revoked(alloc: Global, value: &Value) -> Result<Deed, ReadError>
     ensures { Gives (said.revoked (view value.now)) result }
 {
     let reason = text_under(alloc, value, "reason", 1, 1_024)?;
@@ -128,7 +127,7 @@ fn revoked(alloc: Global, value: &Value) -> Result<Deed, RowNo>
 }
 
 // The deed of this name on a request for the identity.
-fn request_deed(alloc: Global, name: &str, value: &Value) -> Result<Deed, RowNo>
+fn request_deed(alloc: Global, name: &str, value: &Value) -> Result<Deed, ReadError>
     ensures { Gives (said.by_name said.request_deeds name.now (view value.now)) result }
 {
     if name == "asked" {
@@ -140,12 +139,12 @@ fn request_deed(alloc: Global, name: &str, value: &Value) -> Result<Deed, RowNo>
     } else if name == "revoked" {
         revoked(alloc, value)
     } else {
-        Err(RowNo::Other)
+        Err(ReadError::Other)
     }
 }
 
 /// The deed of this name in the follow-up of a report, or on a request for its identity.
-pub fn follow_deed(alloc: Global, name: &str, value: &Value) -> Result<Deed, RowNo>
+pub fn follow_deed(alloc: Global, name: &str, value: &Value) -> Result<Deed, ReadError>
     ensures { Gives (said.by_name said.follow_deeds name.now (view value.now)) result }
 {
     if name == "acknowledged" {
@@ -153,9 +152,9 @@ pub fn follow_deed(alloc: Global, name: &str, value: &Value) -> Result<Deed, Row
     } else if name == "feedback" {
         feedback(alloc, value)
     } else if name == "shared" {
-        shared(alloc, value)
+        shared(value)
     } else if name == "unshared" {
-        unshared(alloc, value)
+        unshared(value)
     } else if name == "transferred" {
         transferred(alloc, value)
     } else if name == "postponed" {

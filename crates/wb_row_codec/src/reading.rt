@@ -4,22 +4,21 @@ ghost use Rattle.serde_json.specs.Read.{read};
 ghost use Rattle.wb_base.specs.declared.form.Format.TheVariants.{Weighed};
 ghost use Rattle.serde_json.specs.View.{view};
 ghost use Rattle.wb_row_codec.specs.Items.{item_row as row_of, item_of, is_key, is_row, is_in_range, shaped, of_kind};
-ghost use Rattle.wb_row_codec.specs.Gives.{Gives};
+ghost use Rattle.wb_json.specs.Gives.{Gives};
 
-use crate::answers::read_answers;
 use crate::contexts::{read_context, read_version};
 use crate::numberings::read_numbering;
 use crate::read_deed::read_entry;
-use crate::row_no::RowNo;
 use crate::rows::{entry_row, numbering_row, sealed_row};
 use crate::settings::read_settings;
+use crate::tenant_rows::{context_row, form_row, settings_row, user_row};
 use crate::users::read_user;
 use crate::{EntryItem, Item, NumberingItem};
 use serde_json::Value;
 use std::alloc::Global;
 use wb_base::{Format, Key, Memory, Number, Row, Tenant, UserId};
 use wb_custody::SealedItem;
-use wb_tenants::{context_row, form_row, settings_row, user_row};
+use wb_json::{ReadError, read_answers};
 
 /// The row of an item in a format.
 pub fn item_row(alloc: Global, format: Format, item: &Item) -> Result<Row, Memory>
@@ -37,16 +36,16 @@ pub fn item_row(alloc: Global, format: Format, item: &Item) -> Result<Row, Memor
 }
 
 // The user of a row.
-fn user_item(alloc: Global, tenant: Tenant, a: u32, value: &Value) -> Result<Item, RowNo>
+fn user_item(alloc: Global, tenant: Tenant, a: u32, value: &Value) -> Result<Item, ReadError>
     ensures item { Gives (of_kind Weighed 3 tenant a 0 (view value.now)) result }
     ensures fits { IfOk result (λ item. is_in_range item ≡ true) }
 {
     if a < 1 || 256 < a {
-        return Err(RowNo::Other);
+        return Err(ReadError::Other);
     }
     match UserId::try_new(a as u16) {
         Some(id) => Ok(Item::User(read_user(alloc, tenant, id, value)?)),
-        None => Err(RowNo::Other),
+        None => Err(ReadError::Other),
     }
 }
 
@@ -58,37 +57,43 @@ fn form_item(
     a: u32,
     b: u32,
     value: &Value,
-) -> Result<Item, RowNo>
+) -> Result<Item, ReadError>
     ensures item { Gives (of_kind format 4 tenant a b (view value.now)) result }
     ensures fits { IfOk result (λ item. is_in_range item ≡ true) }
 {
     if a < 1 || 16 < a || b < 1 || 99 < b {
-        return Err(RowNo::Other);
+        return Err(ReadError::Other);
     }
     Ok(Item::Form(read_version(alloc, format, tenant, a, b, value)?))
 }
 
 // The context of a row.
-fn context_item(alloc: Global, tenant: Tenant, a: u32, value: &Value) -> Result<Item, RowNo>
+fn context_item(alloc: Global, tenant: Tenant, a: u32, value: &Value) -> Result<Item, ReadError>
     ensures item { Gives (of_kind Weighed 5 tenant a 0 (view value.now)) result }
     ensures fits { IfOk result (λ item. is_in_range item ≡ true) }
 {
     if a < 1 || 64 < a {
-        return Err(RowNo::Other);
+        return Err(ReadError::Other);
     }
     Ok(Item::Context(read_context(alloc, tenant, a, value)?))
 }
 
 // The entry of a row.
-fn entry_item(alloc: Global, tenant: Tenant, a: u32, b: u32, value: &Value) -> Result<Item, RowNo>
+fn entry_item(
+    alloc: Global,
+    tenant: Tenant,
+    a: u32,
+    b: u32,
+    value: &Value,
+) -> Result<Item, ReadError>
     ensures item { Gives (of_kind Weighed 6 tenant a b (view value.now)) result }
     ensures fits { IfOk result (λ item. is_in_range item ≡ true) }
 {
     let Some(number) = Number::try_new(a) else {
-        return Err(RowNo::Other);
+        return Err(ReadError::Other);
     };
     if b < 1 {
-        return Err(RowNo::Other);
+        return Err(ReadError::Other);
     }
     let entry = read_entry(alloc, value)?;
     Ok(Item::Entry(EntryItem {
@@ -100,12 +105,12 @@ fn entry_item(alloc: Global, tenant: Tenant, a: u32, b: u32, value: &Value) -> R
 }
 
 // The identity answers of a row.
-fn sealed_item(alloc: Global, tenant: Tenant, a: u32, value: &Value) -> Result<Item, RowNo>
+fn sealed_item(alloc: Global, tenant: Tenant, a: u32, value: &Value) -> Result<Item, ReadError>
     ensures item { Gives (of_kind Weighed 7 tenant a 0 (view value.now)) result }
     ensures fits { IfOk result (λ item. is_in_range item ≡ true) }
 {
     let Some(number) = Number::try_new(a) else {
-        return Err(RowNo::Other);
+        return Err(ReadError::Other);
     };
     let answers = read_answers(alloc, value)?;
     Ok(Item::Sealed(SealedItem {
@@ -122,7 +127,7 @@ fn read_kind(
     tenant: Tenant,
     key: Key,
     value: &Value,
-) -> Result<Item, RowNo>
+) -> Result<Item, ReadError>
     ensures item { Gives (of_kind format key.kind tenant key.a key.b (view value.now)) result }
     ensures fits { IfOk result (λ item. is_in_range item ≡ true) }
 {
@@ -137,23 +142,23 @@ fn read_kind(
         5 => context_item(alloc, tenant, key.a, value),
         6 => entry_item(alloc, tenant, key.a, key.b, value),
         7 => sealed_item(alloc, tenant, key.a, value),
-        _ => Err(RowNo::Other),
+        _ => Err(ReadError::Other),
     }
 }
 
 // The item that a value is, with a key.
-fn read_shape(alloc: Global, format: Format, key: Key, value: &Value) -> Result<Item, RowNo>
+fn read_shape(alloc: Global, format: Format, key: Key, value: &Value) -> Result<Item, ReadError>
     ensures item { Gives (shaped format key (view value.now)) result }
     ensures fits { IfOk result (λ item. is_in_range item ≡ true) }
 {
     match Tenant::try_new(key.tenant) {
         Some(tenant) => read_kind(alloc, format, tenant, key, value),
-        None => Err(RowNo::Other),
+        None => Err(ReadError::Other),
     }
 }
 
 // The item that a text is, with a key.
-fn read_text(alloc: Global, format: Format, key: Key, text: &str) -> Result<Item, RowNo>
+fn read_text(alloc: Global, format: Format, key: Key, text: &str) -> Result<Item, ReadError>
     ensures item { Gives (option_and_then (shaped format key) (read text.now)) result }
     ensures fits { IfOk result (λ item. is_in_range item ≡ true) }
 {
@@ -161,9 +166,9 @@ fn read_text(alloc: Global, format: Format, key: Key, text: &str) -> Result<Item
         Ok(value) => read_shape(alloc, format, key, &value),
         Err(error) => {
             if error.is_memory() {
-                Err(RowNo::Memory)
+                Err(ReadError::Memory)
             } else {
-                Err(RowNo::Other)
+                Err(ReadError::Other)
             }
         }
     }
@@ -201,7 +206,7 @@ pub fn read_item(alloc: Global, format: Format, row: &Row) -> Result<Option<Item
 {
     match read_text(alloc, format, row.key, row.text.as_str()) {
         Ok(item) => keep_item(alloc, format, item, row),
-        Err(RowNo::Other) => Ok(None),
-        Err(RowNo::Memory) => Err(Memory),
+        Err(ReadError::Other) => Ok(None),
+        Err(ReadError::Memory) => Err(Memory),
     }
 }

@@ -7,18 +7,16 @@ ghost use Rattle.wb_base.specs.Calendars.{are_holidays as may_be_holidays};
 ghost use Rattle.wb_base.specs.FormShape.{flag_at};
 ghost use Rattle.wb_model.specs.Bodies.{under};
 ghost use Rattle.wb_model.specs.SetUps.{is_tenant_item};
-ghost use Rattle.wb_row_codec.specs.Shapes.{calendar as calendar_of, date, salt as salt_of, settings as settings_of};
-ghost use Rattle.wb_row_codec.specs.Gives.{Gives};
+ghost use Rattle.wb_row_codec.specs.Shapes.{calendar as calendar_of, salt as salt_of, settings as settings_of};
+ghost use Rattle.wb_json.specs.Gives.{Gives};
 
-use crate::members::{signed_under, text_under, whole_under};
-use crate::parts::{Part, list_if_under};
-use crate::row_no::RowNo;
+use crate::members::signed_under;
 use serde_json::Value;
 use std::alloc::Global;
 use wb_base::{Calendar, Day, Salt, Tenant, are_holidays};
+use wb_json::{ReadError, list_if_under, text_under, whole_under};
 use wb_list::Items;
 use wb_model::TenantItem;
-use wb_terms::read_date;
 
 // The salt that a text is in hexadecimal digits.
 fn salt_named(digits: &str) -> Option<Salt>
@@ -32,45 +30,27 @@ fn salt_named(digits: &str) -> Option<Salt>
 }
 
 // The salt under a key.
-fn salt_under(value: &Value, key: &str) -> Result<Salt, RowNo>
+fn salt_under(value: &Value, key: &str) -> Result<Salt, ReadError>
     ensures { Gives (under key.now salt_of (view value.now)) result }
 {
     match value.get(key) {
         Some(found) => match found.as_str() {
-            Some(digits) => salt_named(digits).ok_or(RowNo::Other),
-            None => Err(RowNo::Other),
+            Some(digits) => salt_named(digits).ok_or(ReadError::Other),
+            None => Err(ReadError::Other),
         },
-        None => Err(RowNo::Other),
+        None => Err(ReadError::Other),
     }
 }
 
 // The flag under a key, which is not set where it is left out.
-fn flag_if_under(value: &Value, key: &str) -> Result<bool, RowNo>
+fn flag_if_under(value: &Value, key: &str) -> Result<bool, ReadError>
     ensures { Gives (flag_at key.now (view value.now)) result }
 {
-    match value.get(key) {
-        Some(found) => match found.as_bool() {
-            Some(flag) => Ok(flag),
-            None => Err(RowNo::Other),
-        },
-        None => Ok(false),
-    }
-}
-
-// A holiday is a date that an answer may be.
-impl Part for Day {
-    ghost reading = { date };
-
-    fn read(alloc: Global, value: &Value) -> Result<Day, RowNo> {
-        match value.as_str() {
-            Some(name) => read_date(name.as_bytes()).ok_or(RowNo::Other),
-            None => Err(RowNo::Other),
-        }
-    }
+    wb_form::flag_at(value, key).ok_or(ReadError::Other)
 }
 
 // The calendar of a tenant.
-fn read_calendar(alloc: Global, value: &Value) -> Result<Calendar, RowNo>
+fn read_calendar(alloc: Global, value: &Value) -> Result<Calendar, ReadError>
     ensures calendar { Gives (calendar_of (view value.now)) result }
     ensures fits { IfOk result (λ x. may_be_holidays x.holidays ≡ true) }
 {
@@ -79,13 +59,13 @@ fn read_calendar(alloc: Global, value: &Value) -> Result<Calendar, RowNo>
     if are_holidays(days.as_slice()) {
         Ok(Calendar::of(rolls, days.into_vec()))
     } else {
-        Err(RowNo::Other)
+        Err(ReadError::Other)
     }
 }
 
 /// The settings of a tenant that a value is. What is as it is by default may be left out here; a row that says it is another
 /// text than that of its settings.
-pub fn read_settings(alloc: Global, tenant: Tenant, value: &Value) -> Result<TenantItem, RowNo>
+pub fn read_settings(alloc: Global, tenant: Tenant, value: &Value) -> Result<TenantItem, ReadError>
     ensures settings { Gives (settings_of tenant (view value.now)) result }
     ensures fits { IfOk result (λ x. is_tenant_item x ≡ true) }
 {

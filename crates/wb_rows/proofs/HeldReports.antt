@@ -21,13 +21,13 @@ use Rattle.wb_model.specs.Tables.{Case, has_number, report}
 use Rattle.wb_model.specs.Trails.{submission_in}
 use Rattle.wb_model.proofs.Found.{Held, find_passing, held_filter}
 use Rattle.wb_model.proofs.TurnRows.{map_held}
-use Rattle.wb_row_rules.specs.Reports.{Report}
+use Rattle.wb_rows.specs.Reports.{Report}
 use Rattle.wb_rows.specs.HeldItems.{entry_items, report_items, trail_items}
 use Rattle.wb_rows.specs.Openings.{case_of, cases_of}
-use Rattle.wb_row_rules.specs.Places.{report_place}
-use Rattle.wb_row_rules.specs.ReportRules.{is_report}
-use Rattle.wb_row_rules.specs.TrailRule.{is_legal_report, days}
-use Rattle.wb_row_rules.proofs.Lookups.{find-map}
+use Rattle.wb_rows.specs.Places.{report_place}
+use Rattle.wb_rows.specs.ReportRules.{is_report}
+use Rattle.wb_rows.specs.TrailRule.{is_legal_report, days}
+use Rattle.wb_rows.proofs.Lookups.{find-map}
 use Rattle.wb_rows.proofs.SealedRows.{other_place}
 use Rattle.wb_rows.proofs.WholeTrails.{AreSilent, begins_so}
 

@@ -16,7 +16,7 @@ use Rattle.wb_row_codec.specs.declared.item.Item.TheVariants as items
 use Rattle.wb_row_codec.specs.Items.{item_row}
 use Rattle.wb_model.specs.Json.{answers_data}
 use Rattle.wb_model.specs.Rows.{row, entry_data}
-use Rattle.wb_rows.specs.declared.items.Kept.{Kept}
+use Rattle.wb_rows.specs.declared.items.ItemsByKind.{ItemsByKind}
 use Rattle.wb_rows.specs.HeldRows.{settings_row, numbering_row, user_row, form_row, context_row}
 use Rattle.wb_rows.specs.KeptItems.{tenant_in, numbering_in, user_in, form_in, context_in, entry_in, kept_of}
 use Rattle.wb_rows.proofs.ItemOrder.{item_key, tenant_key, numbering_key, user_key, form_key, context_key, entry_item_key}
@@ -29,7 +29,7 @@ abbrev pub sealed_row : SealedItem → Row
 sealed_row x = row 7 x.tenant x.number 0 (answers_data x.answers)
 
 -- the rows of what is kept, kind by kind
-abbrev pub kind_rows : Format → Kept → List Row
+abbrev pub kind_rows : Format → ItemsByKind → List Row
 kind_rows format k = map settings_row k.lists.tenants ++ (map numbering_row k.numberings ++ (map user_row k.lists.users ++ (map (form_row format) k.lists.forms ++ (map context_row k.lists.contexts ++ (map entry_row k.entries ++ map sealed_row k.sealed)))))
 
 -- no item is of a kind below

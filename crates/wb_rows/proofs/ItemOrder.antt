@@ -16,8 +16,8 @@ use Rattle.wb_base.specs.declared.rows.Row.{Row}
 use Rattle.wb_custody.specs.SealedAnswers.{pair_cmp, sealed_place}
 use Rattle.wb_model.specs.Fits.{is_between}
 use Rattle.wb_model.proofs.Receipts.{same_text}
-use Rattle.wb_row_rules.specs.declared.faults.RowFault.{RowFault}
-use Rattle.wb_row_rules.specs.Places.{entry_key}
+use Rattle.wb_rows.specs.declared.faults.RowFault.{RowFault}
+use Rattle.wb_rows.specs.Places.{entry_key}
 use Rattle.wb_rows.specs.ReadItems.{items_in, with_first}
 use Rattle.wb_base.specs.declared.rows.Key.{Key}
 use Rattle.wb_custody.specs.declared.sealed.SealedItem.{SealedItem}

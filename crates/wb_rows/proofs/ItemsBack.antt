@@ -18,8 +18,8 @@ use Rattle.wb_model.specs.declared.registry.FormItem.{FormItem}
 use Rattle.wb_model.specs.declared.registry.TenantItem.{TenantItem}
 use Rattle.wb_model.specs.declared.registry.UserItem.{UserItem}
 use Rattle.wb_model.specs.Rows.{sealed_row as answers_row}
-use Rattle.wb_rows.specs.declared.items.Kept.{Kept}
-use Rattle.wb_row_rules.specs.Reports.{Report}
+use Rattle.wb_rows.specs.declared.items.ItemsByKind.{ItemsByKind}
+use Rattle.wb_rows.specs.Reports.{Report}
 use Rattle.wb_rows.specs.Held.{Held}
 use Rattle.wb_rows.specs.HeldItems.{entry_items, items_of, sealed_item, sealed_items}
 use Rattle.wb_rows.specs.HeldRows.{settings_row, numbering_row, user_row, form_row, context_row, trail_rows, sealed_rows, own_rows}
@@ -73,34 +73,34 @@ items-read format (x ∷ xs) good kept =
 
 with_tenants : (xs : List TenantItem) (more : List Item) → kept_of (map items.Settings xs ++ more) ≡ (let k = kept_of more in record k { lists = record k.lists { tenants = xs ++ k.lists.tenants } })
 with_tenants [] more = refl
-with_tenants (x ∷ xs) more = ap (λ (k : Kept). record k { lists = record k.lists { tenants = x ∷ k.lists.tenants } }) (with_tenants xs more)
+with_tenants (x ∷ xs) more = ap (λ (k : ItemsByKind). record k { lists = record k.lists { tenants = x ∷ k.lists.tenants } }) (with_tenants xs more)
 
 with_numberings : (xs : List NumberingItem) (more : List Item) → kept_of (map items.Numbering xs ++ more) ≡ (let k = kept_of more in record k { numberings = xs ++ k.numberings })
 with_numberings [] more = refl
-with_numberings (x ∷ xs) more = ap (λ (k : Kept). record k { numberings = x ∷ k.numberings }) (with_numberings xs more)
+with_numberings (x ∷ xs) more = ap (λ (k : ItemsByKind). record k { numberings = x ∷ k.numberings }) (with_numberings xs more)
 
 with_users : (xs : List UserItem) (more : List Item) → kept_of (map items.User xs ++ more) ≡ (let k = kept_of more in record k { lists = record k.lists { users = xs ++ k.lists.users } })
 with_users [] more = refl
-with_users (x ∷ xs) more = ap (λ (k : Kept). record k { lists = record k.lists { users = x ∷ k.lists.users } }) (with_users xs more)
+with_users (x ∷ xs) more = ap (λ (k : ItemsByKind). record k { lists = record k.lists { users = x ∷ k.lists.users } }) (with_users xs more)
 
 with_forms : (xs : List FormItem) (more : List Item) → kept_of (map items.Form xs ++ more) ≡ (let k = kept_of more in record k { lists = record k.lists { forms = xs ++ k.lists.forms } })
 with_forms [] more = refl
-with_forms (x ∷ xs) more = ap (λ (k : Kept). record k { lists = record k.lists { forms = x ∷ k.lists.forms } }) (with_forms xs more)
+with_forms (x ∷ xs) more = ap (λ (k : ItemsByKind). record k { lists = record k.lists { forms = x ∷ k.lists.forms } }) (with_forms xs more)
 
 with_contexts : (xs : List ContextItem) (more : List Item) → kept_of (map items.Context xs ++ more) ≡ (let k = kept_of more in record k { lists = record k.lists { contexts = xs ++ k.lists.contexts } })
 with_contexts [] more = refl
-with_contexts (x ∷ xs) more = ap (λ (k : Kept). record k { lists = record k.lists { contexts = x ∷ k.lists.contexts } }) (with_contexts xs more)
+with_contexts (x ∷ xs) more = ap (λ (k : ItemsByKind). record k { lists = record k.lists { contexts = x ∷ k.lists.contexts } }) (with_contexts xs more)
 
 with_entries : (xs : List EntryItem) (more : List Item) → kept_of (map items.Entry xs ++ more) ≡ (let k = kept_of more in record k { entries = xs ++ k.entries })
 with_entries [] more = refl
-with_entries (x ∷ xs) more = ap (λ (k : Kept). record k { entries = x ∷ k.entries }) (with_entries xs more)
+with_entries (x ∷ xs) more = ap (λ (k : ItemsByKind). record k { entries = x ∷ k.entries }) (with_entries xs more)
 
 with_sealed : (xs : List SealedItem) → kept_of (map items.Sealed xs) ≡ record (kept_of []) { sealed = xs }
 with_sealed [] = refl
-with_sealed (x ∷ xs) = ap (λ (k : Kept). record k { sealed = x ∷ k.sealed }) (with_sealed xs)
+with_sealed (x ∷ xs) = ap (λ (k : ItemsByKind). record k { sealed = x ∷ k.sealed }) (with_sealed xs)
 
 -- what tables hold, kind by kind
-abbrev pub kept_by : Held → Kept
+abbrev pub kept_by : Held → ItemsByKind
 kept_by h = record { lists = h.lists; numberings = h.numberings; entries = entry_items h.reports; sealed = sealed_items h.sealed h.reports }
 
 pub kinds-of-items : (h : Held) → kept_of (items_of h) ≡ kept_by h
@@ -119,12 +119,12 @@ kinds-of-items h =
     let two : List Item = map items.User us ++ three in
     let one : List Item = map items.Numbering ns ++ two in
     with_tenants ts one
-    ∙ ap (λ (k : Kept). record k { lists = record k.lists { tenants = ts ++ k.lists.tenants } }) (with_numberings ns two
-    ∙ ap (λ (k : Kept). record k { numberings = ns ++ k.numberings }) (with_users us three
-    ∙ ap (λ (k : Kept). record k { lists = record k.lists { users = us ++ k.lists.users } }) (with_forms fs four
-    ∙ ap (λ (k : Kept). record k { lists = record k.lists { forms = fs ++ k.lists.forms } }) (with_contexts cs five
-    ∙ ap (λ (k : Kept). record k { lists = record k.lists { contexts = cs ++ k.lists.contexts } }) (with_entries es six
-    ∙ ap (λ (k : Kept). record k { entries = es ++ k.entries }) (with_sealed ss))))))
+    ∙ ap (λ (k : ItemsByKind). record k { lists = record k.lists { tenants = ts ++ k.lists.tenants } }) (with_numberings ns two
+    ∙ ap (λ (k : ItemsByKind). record k { numberings = ns ++ k.numberings }) (with_users us three
+    ∙ ap (λ (k : ItemsByKind). record k { lists = record k.lists { users = us ++ k.lists.users } }) (with_forms fs four
+    ∙ ap (λ (k : ItemsByKind). record k { lists = record k.lists { forms = fs ++ k.lists.forms } }) (with_contexts cs five
+    ∙ ap (λ (k : ItemsByKind). record k { lists = record k.lists { contexts = cs ++ k.lists.contexts } }) (with_entries es six
+    ∙ ap (λ (k : ItemsByKind). record k { entries = es ++ k.entries }) (with_sealed ss))))))
     ∙ (λ i. record {
       lists = record { tenants = append-nil ts i; users = append-nil us i; forms = append-nil fs i; contexts = append-nil cs i };
       numberings = append-nil ns i;

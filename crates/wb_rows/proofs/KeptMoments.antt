@@ -10,7 +10,7 @@ use Rattle.wb_model.specs.declared.entry.Entry.{Entry}
 use Rattle.wb_model.specs.Legal.{last_at}
 use Rattle.wb_model.specs.Reopened.{latest}
 use Rattle.wb_model.proofs.Found.{Held as In}
-use Rattle.wb_row_rules.specs.Reports.{Report}
+use Rattle.wb_rows.specs.Reports.{Report}
 use Rattle.wb_rows.specs.Held.{Held}
 use Rattle.wb_rows.specs.Openings.{report_moments, time_of}
 

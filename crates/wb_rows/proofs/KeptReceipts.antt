@@ -13,11 +13,11 @@ use Rattle.wb_model.specs.KeptRules.{same_receipt as same_case}
 use Rattle.wb_model.specs.Legal.{is_legal}
 use Rattle.wb_model.specs.SetUps.{are_apart}
 use Rattle.wb_model.specs.Trails.{Submission, submission_in}
-use Rattle.wb_row_rules.specs.Reports.{Report}
+use Rattle.wb_rows.specs.Reports.{Report}
 use Rattle.wb_rows.specs.HeldItems.{entry_items, report_items, trail_items}
 use Rattle.wb_rows.specs.Openings.{case_of, cases_of}
-use Rattle.wb_row_rules.specs.ReportRules.{is_same_receipt, same_receipt}
-use Rattle.wb_row_rules.specs.TrailRule.{is_legal_report, days}
+use Rattle.wb_rows.specs.ReportRules.{is_same_receipt, same_receipt}
+use Rattle.wb_rows.specs.TrailRule.{is_legal_report, days}
 use Rattle.wb_rows.proofs.HeldReports.{begins-so, cases-all, items-held, report_with}
 use Rattle.wb_rows.proofs.WholeTrails.{AreSilent, begins_so, receipt-first}
 

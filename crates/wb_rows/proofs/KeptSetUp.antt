@@ -21,14 +21,14 @@ use Rattle.wb_model.specs.SetUps.{AreSetUp, are_apart, has_form, has_recipients,
 use Rattle.wb_model.specs.SetUps as set_ups
 use Rattle.wb_model.specs.Targets.{same_role}
 use Rattle.wb_model.proofs.Found.{find_passing}
-use Rattle.wb_rows.specs.declared.items.Kept.{Kept}
+use Rattle.wb_rows.specs.declared.items.ItemsByKind.{ItemsByKind}
 use Rattle.wb_rows.specs.Blame.{first_breaking, first_repeated}
 use Rattle.wb_rows.specs.Held.{Held}
 use Rattle.wb_rows.specs.Judged.{judged_in}
 use Rattle.wb_rows.specs.ReadItems.{items_in}
 use Rattle.wb_rows.specs.KeptItems.{kept_of}
 use Rattle.wb_rows.specs.ListRules.{follows, has_tenant_rows, has_version, is_right_context, list_fault}
-use Rattle.wb_row_rules.specs.Places.{context_key, form_key, user_key}
+use Rattle.wb_rows.specs.Places.{context_key, form_key, user_key}
 use Rattle.wb_rows.proofs.FitItems.{contexts-fit, forms-fit, tenants-fit, users-fit}
 use Rattle.wb_rows.proofs.ItemOrder.{item_key, items_ascend, lists-order, rows_of_items}
 use Rattle.wb_rows.proofs.OwnedRows.{all_from, owned-rows}
@@ -94,7 +94,7 @@ reads_on lists c holds =
 -- the lists that are read, where none of their rules is broken
 pub set-up : (format : Format) (rows : List Row) (all : List Item) → map (item_row format) all ≡ rows → list_all is_in_range all ≡ true → IsStrictlySortedBy key_cmp (map item_key all) → list_fault rows (kept_of all).lists (kept_of all).numberings ≡ None → AreSetUp (kept_of all).lists
 set-up format rows all are fits sorted none =
-    let k : Kept = kept_of all in
+    let k : ItemsByKind = kept_of all in
     let lists = k.lists in
     let one = none-blamed 1 (first_breaking (has_tenant_rows lists k.numberings) key_of rows) _ none in
     let two = none-blamed 2 (first_repeated same_user_name user_key lists.users) _ one.1 in

@@ -23,14 +23,14 @@ use Rattle.wb_model.specs.SetUps.{AreSetUp, are_apart}
 use Rattle.wb_model.specs.Tables.{report}
 use Rattle.wb_model.specs.Trails.{has_identity, is_marked, submission_in}
 use Rattle.wb_model.proofs.Found.{Held as In, find_held, find_true}
-use Rattle.wb_rows.specs.declared.items.Kept.{Kept}
-use Rattle.wb_row_rules.specs.Reports.{Report}
+use Rattle.wb_rows.specs.declared.items.ItemsByKind.{ItemsByKind}
+use Rattle.wb_rows.specs.Reports.{Report}
 use Rattle.wb_rows.specs.HeldItems.{report_items, trail_items}
 use Rattle.wb_rows.specs.Judged.{held as tables_read}
 use Rattle.wb_rows.specs.Openings.{case_of, cases_of, numbering_of, tables_of, time_of}
-use Rattle.wb_row_rules.specs.Places.{report_place}
-use Rattle.wb_row_rules.specs.ReportRules.{are_late_answers, has_its_seal, has_right_answers, is_by_draw, is_drawn, is_late_after, is_numbering_of, is_report, is_right_entry, is_right_numbering, is_right_seal, same_receipt}
-use Rattle.wb_row_rules.specs.TrailRule.{is_legal_report, days, reports_of}
+use Rattle.wb_rows.specs.Places.{report_place}
+use Rattle.wb_rows.specs.ReportRules.{are_late_answers, has_its_seal, has_right_answers, is_by_draw, is_drawn, is_late_after, is_numbering_of, is_report, is_right_entry, is_right_numbering, is_right_seal, same_receipt}
+use Rattle.wb_rows.specs.TrailRule.{is_legal_report, days, reports_of}
 use Rattle.wb_rows.proofs.HeldReports.{begins-so, cases-all, firsts-all, found-own, held-true, items-held, numbers-ascend, report-found, report_with, trail-all}
 use Rattle.wb_rows.proofs.KeptMoments.{draws-past, last-past}
 use Rattle.wb_rows.proofs.KeptReceipts.{receipts-apart}
@@ -42,7 +42,7 @@ use Rattle.wb_rows.proofs.WholeTrails.{AreSilent, late-first, public-first}
 
 -- ---- one entry
 
-right_named : (k : Kept) (x : EntryItem) → is_right_entry k.lists x ≡ true → is_named (registry_of k.lists x.tenant) x.entry ≡ true
+right_named : (k : ItemsByKind) (x : EntryItem) → is_right_entry k.lists x ≡ true → is_named (registry_of k.lists x.tenant) x.entry ≡ true
 unfolding is_right_entry
 right_named k x right = (and_parts (is_named (registry_of k.lists x.tenant) x.entry) (has_right_answers (registry_of k.lists x.tenant).forms x.entry) right).0
 
@@ -54,7 +54,7 @@ where_not : (b c : Bool) → (if b then c else false) ≡ true → c ≡ true
 where_not true c holds = holds
 where_not false c holds = absurd (false≢true holds)
 
-right_answers : (k : Kept) (x : EntryItem) → is_right_entry k.lists x ≡ true → is_some (submission_in x.entry.deed) ≡ true → has_public_answers (registry_of k.lists x.tenant).forms (x.entry ∷ []) ≡ true
+right_answers : (k : ItemsByKind) (x : EntryItem) → is_right_entry k.lists x ≡ true → is_some (submission_in x.entry.deed) ≡ true → has_public_answers (registry_of k.lists x.tenant).forms (x.entry ∷ []) ≡ true
 unfolding is_right_entry has_right_answers
 right_answers k x right first =
     where_so (is_some (submission_in x.entry.deed)) (has_public_answers (registry_of k.lists x.tenant).forms (x.entry ∷ [])) first
@@ -104,7 +104,7 @@ late_valid forms given e es silent late = late-first e es silent forms (Some giv
 
 -- ---- the tables of a tenant
 
-module _ (k : Kept) (rs : List Report) (read : reports_of k.lists k.entries ≡ Ok rs) (rules : RulesHold k rs) (order : IsAscending pair_cmp report_place rs) (numbered : list_all (λ (x : EntryItem). nat_le 1 x.number) k.entries ≡ true) (t : ℕ) where
+module _ (k : ItemsByKind) (rs : List Report) (read : reports_of k.lists k.entries ≡ Ok rs) (rules : RulesHold k rs) (order : IsAscending pair_cmp report_place rs) (numbered : list_all (λ (x : EntryItem). nat_le 1 x.number) k.entries ≡ true) (t : ℕ) where
   abbrev offered : List FormItem
   offered = (registry_of k.lists t).forms
 

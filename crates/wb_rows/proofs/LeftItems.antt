@@ -50,7 +50,7 @@ use Rattle.wb_model.proofs.Found.{Held as In, find_held, find_true}
 use Rattle.wb_model.proofs.ItemPuts.{held_all, all_held, all_more}
 use Rattle.wb_model.proofs.LeftSetUps.{ids, each_held, map_all, some_of, settings_parts, user_parts, form_parts, context_parts}
 use Rattle.wb_model.proofs.TurnRows.{map_held}
-use Rattle.wb_row_rules.specs.Reports.{Report}
+use Rattle.wb_rows.specs.Reports.{Report}
 use Rattle.wb_rows.specs.HeldItems.{trail_items, report_items, entry_items, sealed_item, sealed_items, items_of}
 use Rattle.wb_rows.specs.Left.{numbering_item, report_in, reports_in, held_of}
 use Rattle.wb_rows.proofs.DatedTrails.{is_of_moment, is_dated_deed, is_timed, moment_dated, trail_dated}

@@ -22,7 +22,7 @@ use Rattle.wb_model.proofs.Found.{Held as In}
 use Rattle.wb_model.proofs.LeftKept.{left_ids, hosts_readable, hosts_opened}
 use Rattle.wb_model.proofs.LeftSetUps.{ids, settings_parts, user_parts, form_parts, context_parts}
 use Rattle.wb_model.proofs.LeftTimes.{left_before}
-use Rattle.wb_row_rules.specs.Reports.{Report}
+use Rattle.wb_rows.specs.Reports.{Report}
 use Rattle.wb_rows.specs.Good.{AreGood}
 use Rattle.wb_rows.specs.HeldRows.{settings_row, numbering_row, user_row, form_row, context_row, trail_rows, sealed_rows, own_rows, rows_of}
 use Rattle.wb_rows.specs.Judged.{judged}

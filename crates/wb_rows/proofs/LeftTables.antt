@@ -23,9 +23,9 @@ use Rattle.wb_model.proofs.ItemPuts.{all_held}
 use Rattle.wb_model.proofs.LeftKept.{left_kept}
 use Rattle.wb_model.proofs.LeftSetUps.{ids, above, rest_up, own_part, each_held, each_all, any_none, some_of, filter_none, comes_before, ordered_each, ordered_within, ordered_across, lists_set_up, registry_back, same_ids, there}
 use Rattle.wb_model.proofs.ReadablePasts.{left_readable}
-use Rattle.wb_row_rules.specs.Places.{report_place}
-use Rattle.wb_row_rules.specs.ReportRules.{is_numbering_of}
-use Rattle.wb_row_rules.specs.Reports.{Report}
+use Rattle.wb_rows.specs.Places.{report_place}
+use Rattle.wb_rows.specs.ReportRules.{is_numbering_of}
+use Rattle.wb_rows.specs.Reports.{Report}
 use Rattle.wb_rows.specs.Left.{numbering_item, report_in, reports_in, held_of}
 use Rattle.wb_rows.specs.Openings.{numbering_of, case_of, cases_of, tables_of}
 use Rattle.wb_setup.proofs.Orders.{ascending}

@@ -8,11 +8,11 @@ use Rattle.wb_model.specs.declared.registry.Lists.{Lists}
 use Rattle.wb_model.specs.Legal.{is_first, is_next, last_at}
 use Rattle.wb_model.proofs.LegalDoings.{trail_more}
 use Rattle.wb_base.specs.declared.rows.Row.{Row}
-use Rattle.wb_row_rules.specs.Reports.{Report}
+use Rattle.wb_rows.specs.Reports.{Report}
 use Rattle.wb_rows.specs.Held.{Held}
 use Rattle.wb_rows.specs.Judged.{judged_in}
 use Rattle.wb_rows.specs.KeptItems.{kept_of}
-use Rattle.wb_row_rules.specs.TrailRule.{begins, begun, continued, goes_on, is_legal_report, is_of, days, reports_after, reports_of}
+use Rattle.wb_rows.specs.TrailRule.{begins, begun, continued, goes_on, is_legal_report, is_of, days, reports_after, reports_of}
 use Rattle.wb_rows.proofs.ReportOrder.{on_entry, on_first}
 use Rattle.wb_rows.proofs.RowsBack.{is-read}
 use Rattle.wb_base.specs.declared.form.Format.{Format}

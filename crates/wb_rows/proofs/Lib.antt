@@ -1,3 +1,8 @@
+pub mod Freedom
+pub mod OpenTrails
+pub mod Fitting
+pub mod GrowingTrails
+pub mod Lookups
 pub mod RowPuts
 pub mod NotedRows
 pub mod ConfiguredRows

@@ -22,7 +22,7 @@ use Rattle.wb_model.specs.Targets.{same_role}
 use Rattle.wb_model.proofs.Found.{find_passing, Held as In}
 use Rattle.wb_rows.specs.Blame.{first_breaking, first_repeated, blamed}
 use Rattle.wb_rows.specs.ListRules.{follows, has_tenant_rows, has_version, is_right_context, list_fault}
-use Rattle.wb_row_rules.specs.Places.{context_key, form_key, user_key}
+use Rattle.wb_rows.specs.Places.{context_key, form_key, user_key}
 use Rattle.wb_rows.proofs.HeldReports.{held-true}
 use Rattle.wb_rows.proofs.OwnedRows.{all_from}
 use Rattle.wb_rows.proofs.RowsByTenant.{any_found}

@@ -10,11 +10,11 @@ use Rattle.wb_row_codec.specs.declared.item.NumberingItem.{NumberingItem}
 use Rattle.wb_model.specs.declared.registry.Lists.{Lists}
 use Rattle.wb_model.specs.Openings.{empty_tables, registry_of}
 use Rattle.wb_model.specs.SetUps.{has_tenant}
-use Rattle.wb_rows.specs.declared.items.Kept.{Kept}
-use Rattle.wb_row_rules.specs.Reports.{Report}
+use Rattle.wb_rows.specs.declared.items.ItemsByKind.{ItemsByKind}
+use Rattle.wb_rows.specs.Reports.{Report}
 use Rattle.wb_rows.specs.Judged.{held}
 use Rattle.wb_rows.specs.Openings.{case_of, tables_of}
-use Rattle.wb_row_rules.specs.ReportRules.{is_numbering_of}
+use Rattle.wb_rows.specs.ReportRules.{is_numbering_of}
 use Rattle.wb_rows.proofs.OwnedRows.{AreOwned}
 
 module _ (lists : Lists) (t : ℕ) (absent : has_tenant lists t ≡ false) {X : Type 0} (tenant : X → ℕ) (wanted : X → Bool) (is : (x : X) → wanted x ≡ true → tenant x ≡ t) where
@@ -37,7 +37,7 @@ module _ (lists : Lists) (t : ℕ) (absent : has_tenant lists t ≡ false) {X : 
       let parts = and_parts (has_tenant lists (tenant x)) (list_all (λ y. has_tenant lists (tenant y)) xs) all in
       (λ i. cond (unwanted x parts.0 i) (x ∷ filter wanted xs) (filter wanted xs)) ∙ none_passes xs parts.1
 
-pub none-held : (k : Kept) (rs : List Report) → AreOwned k → list_all (λ (r : Report). has_tenant k.lists r.tenant) rs ≡ true → (t : ℕ) → has_tenant k.lists t ≡ false → tables_of (held k rs) t ≡ empty_tables (registry_of k.lists t)
+pub none-held : (k : ItemsByKind) (rs : List Report) → AreOwned k → list_all (λ (r : Report). has_tenant k.lists r.tenant) rs ≡ true → (t : ℕ) → has_tenant k.lists t ≡ false → tables_of (held k rs) t ≡ empty_tables (registry_of k.lists t)
 none-held k rs owned reports t absent =
     let numbering = none_found k.lists t absent (λ (x : NumberingItem). x.tenant) (is_numbering_of t) (λ x e. eqb-true x.tenant t e) k.numberings owned.numberings in
     let cases = none_passes k.lists t absent (λ (r : Report). r.tenant) (λ (r : Report). r.tenant == t) (λ r e. eqb-true r.tenant t e) rs reports in

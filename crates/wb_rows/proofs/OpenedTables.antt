@@ -13,8 +13,8 @@ use Rattle.wb_model.specs.KeptRules.{AreKept}
 use Rattle.wb_model.specs.Openings.{empty_tables, registry_of}
 use Rattle.wb_model.specs.Rows.{own_rows_in as own_rows_of_tenants}
 use Rattle.wb_model.specs.SetUps.{has_tenant}
-use Rattle.wb_rows.specs.declared.items.Kept.{Kept}
-use Rattle.wb_row_rules.specs.Reports.{Report}
+use Rattle.wb_rows.specs.declared.items.ItemsByKind.{ItemsByKind}
+use Rattle.wb_rows.specs.Reports.{Report}
 use Rattle.wb_rows.specs.Held.{Held}
 use Rattle.wb_rows.specs.HeldRows.{own_rows}
 use Rattle.wb_rows.specs.Judged.{held as tables_read, judged_in}
@@ -22,7 +22,7 @@ use Rattle.wb_rows.specs.KeptItems.{kept_of}
 use Rattle.wb_rows.specs.ListRules.{has_tenant_rows}
 use Rattle.wb_rows.specs.Blame.{first_breaking}
 use Rattle.wb_rows.specs.Openings.{tables_of, tenancies_of, time_of}
-use Rattle.wb_row_rules.specs.Places.{report_place}
+use Rattle.wb_rows.specs.Places.{report_place}
 use Rattle.wb_rows.specs.ReadItems.{items_in}
 use Rattle.wb_rows.proofs.FitItems.{entries-fit}
 use Rattle.wb_rows.proofs.HeldReports.{firsts-all}
@@ -40,7 +40,7 @@ use Rattle.wb_rows.proofs.TrailRows.{entries-back}
 use Rattle.wb_base.specs.declared.form.Format.{Format}
 
 module _ (format : Format) (rows : List Row) (h : Held) (all : List Item) (rs : List Report) (how : IsReadAs format rows h all rs) (fits : list_all is_in_range all ≡ true) (sorted : IsStrictlySortedBy key_cmp (map item_key all)) where
-  abbrev k : Kept
+  abbrev k : ItemsByKind
   k = kept_of all
 
   are : map (item_row format) all ≡ rows

@@ -18,7 +18,7 @@ use Rattle.wb_model.specs.declared.registry.Lists.{Lists}
 use Rattle.wb_model.specs.declared.registry.TenantItem.{TenantItem}
 use Rattle.wb_model.specs.declared.registry.UserItem.{UserItem}
 use Rattle.wb_model.specs.SetUps.{has_tenant}
-use Rattle.wb_rows.specs.declared.items.Kept.{Kept}
+use Rattle.wb_rows.specs.declared.items.ItemsByKind.{ItemsByKind}
 use Rattle.wb_rows.specs.Blame.{first_breaking}
 use Rattle.wb_rows.specs.KeptItems.{context_in, entry_in, form_in, kept_of, numbering_in, sealed_in, tenant_in, user_in}
 use Rattle.wb_rows.specs.ListRules.{has_tenant_rows}
@@ -38,7 +38,7 @@ abbrev pub has_numbering : List NumberingItem → ℕ → Bool
 has_numbering numberings t = list_any (λ (x : NumberingItem). x.tenant == t) numberings
 
 -- all that is kept is of tenants that are there, each of which has its numbering
-pub record AreOwned (k : Kept) : Type 0 where
+pub record AreOwned (k : ItemsByKind) : Type 0 where
   pub numbered : list_all (λ (x : TenantItem). has_numbering k.numberings x.tenant) k.lists.tenants ≡ true
   pub numberings : list_all (λ (x : NumberingItem). has_tenant k.lists x.tenant) k.numberings ≡ true
   pub users : list_all (λ (x : UserItem). has_tenant k.lists x.tenant) k.lists.users ≡ true

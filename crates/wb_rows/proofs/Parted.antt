@@ -15,7 +15,7 @@ use Rattle.wb_row_codec.specs.Items.{is_key}
 use Rattle.wb_model.specs.Rows.{format_row, format_data}
 use Rattle.wb_model.specs.Rows as model_rows
 use Rattle.wb_model.specs.Tenants.{Tenancy}
-use Rattle.wb_row_rules.specs.declared.faults.RowFault.TheVariants.{BadRow}
+use Rattle.wb_rows.specs.declared.faults.RowFault.TheVariants.{BadRow}
 use Rattle.wb_rows.specs.Held.{Held}
 use Rattle.wb_rows.specs.HeldRows.{own_rows, rows_in}
 use Rattle.wb_rows.specs.Judged.{judged, is_format_key, with_format, IsParted}

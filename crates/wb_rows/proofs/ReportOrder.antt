@@ -14,12 +14,12 @@ use Rattle.wb_custody.specs.SealedAnswers.{pair_cmp}
 use Rattle.wb_row_codec.specs.declared.item.EntryItem.{EntryItem}
 use Rattle.wb_list.specs.Keyed.{IsAscending}
 use Rattle.wb_model.specs.declared.registry.Lists.{Lists}
-use Rattle.wb_row_rules.specs.declared.cases.CaseItem.{CaseItem}
-use Rattle.wb_row_rules.specs.Reports.{Report, case_report}
-use Rattle.wb_row_rules.specs.Places.{entry_key, report_place}
-use Rattle.wb_row_rules.specs.TrailRule.{begun, continued, is_of, begins, goes_on, with_report, reports_after, reports_of}
+use Rattle.wb_rows.specs.declared.cases.CaseItem.{CaseItem}
+use Rattle.wb_rows.specs.Reports.{Report, case_report}
+use Rattle.wb_rows.specs.Places.{entry_key, report_place}
+use Rattle.wb_rows.specs.TrailRule.{begun, continued, is_of, begins, goes_on, with_report, reports_after, reports_of}
 use Rattle.wb_custody.proofs.SealedLookups.{pair_total}
-use Rattle.wb_row_rules.proofs.Lookups.{case_place}
+use Rattle.wb_rows.proofs.Lookups.{case_place}
 use Rattle.std.proofs.lemmas.Cmp.{alike_right}
 
 abbrev place : EntryItem → ℕ × ℕ

@@ -24,12 +24,12 @@ use Rattle.wb_model.specs.Tables.{Case}
 use Rattle.wb_model.specs.Trails.{has_identity, is_marked, submission_in}
 use Rattle.wb_model.proofs.Found.{Held as In}
 use Rattle.wb_rows.specs.Good.{AreGood}
-use Rattle.wb_row_rules.specs.Reports.{Report}
+use Rattle.wb_rows.specs.Reports.{Report}
 use Rattle.wb_rows.specs.Held.{Held}
 use Rattle.wb_rows.specs.HeldItems.{entry_items, report_items, sealed_item, sealed_items, trail_items}
 use Rattle.wb_rows.specs.Openings.{case_of, cases_of, numbering_of}
-use Rattle.wb_row_rules.specs.ReportRules.{are_late_answers, has_its_seal, has_right_answers, is_by_draw, is_drawn, is_late_after, is_numbering_of, is_report, is_right_entry, is_right_numbering, is_right_seal}
-use Rattle.wb_row_rules.specs.TrailRule.{is_legal_report, days}
+use Rattle.wb_rows.specs.ReportRules.{are_late_answers, has_its_seal, has_right_answers, is_by_draw, is_drawn, is_late_after, is_numbering_of, is_report, is_right_entry, is_right_numbering, is_right_seal}
+use Rattle.wb_rows.specs.TrailRule.{is_legal_report, days}
 use Rattle.wb_rows.proofs.Ascending.{in-above, in-map, rest-ascends}
 use Rattle.wb_rows.proofs.HeldReports.{all-true, found-own, held-true, report-found}
 use Rattle.wb_rows.proofs.ItemsBack.{kept_by}

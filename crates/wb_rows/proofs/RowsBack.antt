@@ -14,17 +14,17 @@ use Rattle.wb_row_codec.specs.Items.{is_in_range, item_row}
 use Rattle.wb_model.specs.declared.registry.Lists.{Lists}
 use Rattle.wb_model.specs.Openings.{registry_of}
 use Rattle.wb_model.specs.Trails.{has_identity}
-use Rattle.wb_row_rules.specs.declared.faults.RowFault.{RowFault}
-use Rattle.wb_rows.specs.declared.items.Kept.{Kept}
-use Rattle.wb_row_rules.specs.Reports.{Report}
+use Rattle.wb_rows.specs.declared.faults.RowFault.{RowFault}
+use Rattle.wb_rows.specs.declared.items.ItemsByKind.{ItemsByKind}
+use Rattle.wb_rows.specs.Reports.{Report}
 use Rattle.wb_rows.specs.Held.{Held}
 use Rattle.wb_rows.specs.HeldRows.{settings_row, numbering_row, user_row, form_row, context_row, list_rows, own_rows}
 use Rattle.wb_rows.specs.Judged.{report_fault, held, unless, judged_reports, judged_items, judged_in}
 use Rattle.wb_rows.specs.KeptItems.{kept_of}
 use Rattle.wb_rows.specs.ListRules.{list_fault}
 use Rattle.wb_rows.specs.ReadItems.{items_in}
-use Rattle.wb_row_rules.specs.ReportRules.{are_late_answers, is_report, is_right_seal}
-use Rattle.wb_row_rules.specs.TrailRule.{reports_of}
+use Rattle.wb_rows.specs.ReportRules.{are_late_answers, is_report, is_right_seal}
+use Rattle.wb_rows.specs.TrailRule.{reports_of}
 use Rattle.wb_rows.proofs.ItemKinds.{by_kinds, entry_row, sealed_row}
 use Rattle.wb_rows.proofs.ItemOrder.{entries-order, items_ascend, item_key, rows_of_items, sealed-order}
 use Rattle.wb_rows.proofs.ReportOrder.{reports_ascend}
@@ -58,7 +58,7 @@ together a b c d e f g =
 
 kept_back : (format : Format) (all : List Item) (rs : List Report) → list_all is_in_range all ≡ true → IsStrictlySortedBy key_cmp (map item_key all) → reports_of (kept_of all).lists (kept_of all).entries ≡ Ok rs → report_fault (kept_of all) rs ≡ None → own_rows format (held (kept_of all) rs) ≡ map (item_row format) all
 kept_back format all rs fits order reports none =
-    let k : Kept = kept_of all in
+    let k : ItemsByKind = kept_of all in
     let trails = trails-back k.lists k.entries rs reports in
     let ascend = reports_ascend k.lists k.entries rs (entries-order all fits order) reports in
     let there = seals_there k.lists rs k.sealed (rules-hold k rs none).seals in

@@ -26,12 +26,12 @@ use Rattle.wb_model.specs.Tenants.{Tenancy}
 use Rattle.wb_model.proofs.Found.{Held as In}
 use Rattle.wb_model.proofs.KindRows.{each}
 use Rattle.wb_model.proofs.TurnRows.{map_held}
-use Rattle.wb_row_rules.specs.Reports.{Report}
+use Rattle.wb_rows.specs.Reports.{Report}
 use Rattle.wb_rows.specs.Held.{Held}
 use Rattle.wb_rows.specs.HeldRows.{settings_row, numbering_row, user_row, form_row, context_row, trail_rows, sealed_rows, own_rows}
 use Rattle.wb_rows.specs.Openings.{case_of, tenancies_of, tenancy_of}
-use Rattle.wb_row_rules.specs.Places.{report_place}
-use Rattle.wb_row_rules.specs.ReportRules.{is_numbering_of}
+use Rattle.wb_rows.specs.Places.{report_place}
+use Rattle.wb_rows.specs.ReportRules.{is_numbering_of}
 use Rattle.wb_rows.proofs.Ascending.{in-map}
 use Rattle.wb_rows.proofs.HeldReports.{held-true}
 use Rattle.wb_rows.proofs.OwnedRows.{has_numbering}

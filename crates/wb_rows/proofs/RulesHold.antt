@@ -7,13 +7,13 @@ use Rattle.wb_base.specs.declared.rows.Key.{Key}
 use Rattle.wb_custody.specs.declared.sealed.SealedItem.{SealedItem}
 use Rattle.wb_row_codec.specs.declared.item.EntryItem.{EntryItem}
 use Rattle.wb_model.specs.SetUps.{are_apart}
-use Rattle.wb_rows.specs.declared.items.Kept.{Kept}
-use Rattle.wb_row_rules.specs.declared.faults.RowFault.{RowFault}
+use Rattle.wb_rows.specs.declared.items.ItemsByKind.{ItemsByKind}
+use Rattle.wb_rows.specs.declared.faults.RowFault.{RowFault}
 use Rattle.wb_rows.specs.Blame.{blamed, first_breaking, first_repeated}
-use Rattle.wb_row_rules.specs.Reports.{Report}
+use Rattle.wb_rows.specs.Reports.{Report}
 use Rattle.wb_rows.specs.Judged.{first_undrawn, first_unsealed, report_fault}
-use Rattle.wb_row_rules.specs.Places.{entry_key, numbering_key, sealed_key}
-use Rattle.wb_row_rules.specs.ReportRules.{has_its_seal, is_drawn, is_right_entry, is_right_numbering, is_right_seal, same_receipt}
+use Rattle.wb_rows.specs.Places.{entry_key, numbering_key, sealed_key}
+use Rattle.wb_rows.specs.ReportRules.{has_its_seal, is_drawn, is_right_entry, is_right_numbering, is_right_seal, same_receipt}
 
 -- ---- a rule that is not broken
 
@@ -45,13 +45,13 @@ apart same key (x ∷ xs) none = by (list_any (same x) xs) none (apart same key 
 
 -- ---- rules 6 to 10
 
-abbrev pub drawn_entry : Kept → EntryItem → Bool
+abbrev pub drawn_entry : ItemsByKind → EntryItem → Bool
 drawn_entry k x = is_drawn k.numberings x.tenant x.number
 
-abbrev pub drawn_seal : Kept → SealedItem → Bool
+abbrev pub drawn_seal : ItemsByKind → SealedItem → Bool
 drawn_seal k x = is_drawn k.numberings x.tenant x.number
 
-pub record RulesHold (k : Kept) (rs : List Report) : Type 0 where
+pub record RulesHold (k : ItemsByKind) (rs : List Report) : Type 0 where
   pub entries : list_all (is_right_entry k.lists) k.entries ≡ true
   pub drawn : list_all (drawn_entry k) k.entries ≡ true
   pub drawn_seals : list_all (drawn_seal k) k.sealed ≡ true
@@ -60,7 +60,7 @@ pub record RulesHold (k : Kept) (rs : List Report) : Type 0 where
   pub receipts : are_apart same_receipt k.entries ≡ true
   pub numberings : list_all (is_right_numbering k.entries) k.numberings ≡ true
 
-pub rules-hold : (k : Kept) (rs : List Report) → report_fault k rs ≡ None → RulesHold k rs
+pub rules-hold : (k : ItemsByKind) (rs : List Report) → report_fault k rs ≡ None → RulesHold k rs
 rules-hold k rs none =
     let six = none-blamed 6 (first_breaking (is_right_entry k.lists) entry_key k.entries) _ none in
     let seven = none-blamed 7 (first_undrawn k) _ six.1 in

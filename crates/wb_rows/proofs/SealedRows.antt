@@ -15,10 +15,10 @@ use Rattle.wb_custody.proofs.SealedLookups.{pair_total}
 use Rattle.wb_list.specs.Keyed.{IsAscending}
 use Rattle.wb_model.specs.Json.{answers_data}
 use Rattle.wb_model.specs.Rows.{row, sealed_row as answers_row}
-use Rattle.wb_row_rules.specs.Reports.{Report}
+use Rattle.wb_rows.specs.Reports.{Report}
 use Rattle.wb_rows.specs.HeldRows.{sealed_rows}
-use Rattle.wb_row_rules.specs.Places.{report_place}
-use Rattle.wb_row_rules.specs.ReportRules.{is_report}
+use Rattle.wb_rows.specs.Places.{report_place}
+use Rattle.wb_rows.specs.ReportRules.{is_report}
 use Rattle.wb_rows.proofs.ItemKinds.{sealed_row}
 
 -- each identity answers are of a report that is there

@@ -6,9 +6,9 @@ use Rattle.std.specs.Prelude.{◌==◌, ◌&&◌}
 use Rattle.wb_base.specs.AnswerList.{Answered}
 use Rattle.wb_custody.specs.declared.sealed.SealedItem.{SealedItem}
 use Rattle.wb_custody.specs.SealedAnswers.{answers_of}
-use Rattle.wb_row_rules.specs.Reports.{Report}
+use Rattle.wb_rows.specs.Reports.{Report}
 use Rattle.wb_rows.specs.HeldItems.{sealed_item, sealed_items}
-use Rattle.wb_row_rules.specs.ReportRules.{is_report}
+use Rattle.wb_rows.specs.ReportRules.{is_report}
 
 -- those of a report that is there
 abbrev where_there : Bool → Option Answered → Option Answered

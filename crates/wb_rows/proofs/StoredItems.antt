@@ -24,6 +24,7 @@ use Rattle.wb_row_codec.specs.declared.item.Item.{Item}
 use Rattle.wb_row_codec.specs.declared.item.Item.TheVariants as items
 use Rattle.wb_row_codec.specs.Items.{item_row, where_in, of_kind, shaped, is_row, item_of}
 use Rattle.wb_row_codec.specs.SaidDeeds as said
+use Rattle.wb_json.specs.Dates.{date as date_read}
 use Rattle.wb_row_codec.specs.Shapes as shapes
 use Rattle.wb_model.specs.declared.entry.Deed.TheVariants as deeds
 use Rattle.wb_model.specs.declared.entry.Entry.{Entry}
@@ -34,7 +35,7 @@ use Rattle.wb_model.specs.declared.registry.UserItem.{UserItem}
 use Rattle.wb_model.specs.declared.entry.Deed.{Deed}
 use Rattle.wb_model.specs.Bodies.{under, text, whole, role, rights, status, status_named, answers}
 use Rattle.wb_model.specs.Fits.{is_between, has_bytes, is_settable}
-use Rattle.wb_row_rules.specs.declared.faults.RowFault.{RowFault}
+use Rattle.wb_rows.specs.declared.faults.RowFault.{RowFault}
 use Rattle.wb_rows.specs.ReadItems.{with_first, items_in}
 use Rattle.wb_model.specs.AnswerRanges.{are_answers}
 use Rattle.wb_model.specs.Readable.{is_byte, are_bytes, are_dates, is_date, is_count, is_withheld, is_stored, is_stored_tenant}
@@ -140,30 +141,30 @@ long_secret x = are_bytes 32 x.secret.0
 abbrev short_last : Numbering → Bool
 short_last x = is_count x.last
 
-dates_in : (v : Data) (days : List ℤ) → list_of shapes.date v ≡ Some days → are_dates days ≡ true
-dates_in v days e = let k = then_some (all_of shapes.date) (as_array v) days e in of k.0 days k.2
+dates_in : (v : Data) (days : List ℤ) → list_of date_read v ≡ Some days → are_dates days ≡ true
+dates_in v days e = let k = then_some (all_of date_read) (as_array v) days e in of k.0 days k.2
   where
-    one : (v : Data) (day : ℤ) → shapes.date v ≡ Some day → is_date day ≡ true
+    one : (v : Data) (day : ℤ) → date_read v ≡ Some day → is_date day ≡ true
     one v day e =
         let k = then_some read_date (as_str v) day e in
         let bounds = read_date-bounds k.0 day k.2 in
         and_from (int_le (pos 0) day) (int_le day (pos 1_179_732)) (let low = bounds.0 in grind (arith, ints, low)) (let high = bounds.1 in grind (arith, ints, high))
 
-    of : (ds : Items) (days : List ℤ) → all_of shapes.date ds ≡ Some days → are_dates days ≡ true
+    of : (ds : Items) (days : List ℤ) → all_of date_read ds ≡ Some days → are_dates days ≡ true
     of no_items days e = let same : [] ≡ days = cc in subst (λ x. are_dates x ≡ true) same refl
     of (item d ds) days e =
-        let first = then_some (λ day. option_map (λ more. day ∷ more) (all_of shapes.date ds)) (shapes.date d) days e in
-        let rest = map_some (λ more. first.0 ∷ more) (all_of shapes.date ds) days first.2 in
+        let first = then_some (λ day. option_map (λ more. day ∷ more) (all_of date_read ds)) (date_read d) days e in
+        let rest = map_some (λ more. first.0 ∷ more) (all_of date_read ds) days first.2 in
         subst (λ x. are_dates x ≡ true) rest.2 (and_from _ _ (one d first.0 first.1) (of ds rest.0 rest.1))
 
-listed_in : (o : Option Data) (days : List ℤ) → optional [] (list_of shapes.date) o ≡ Some days → are_dates days ≡ true
+listed_in : (o : Option Data) (days : List ℤ) → optional [] (list_of date_read) o ≡ Some days → are_dates days ≡ true
 listed_in None days e = let same : [] ≡ days = cc in subst (λ x. are_dates x ≡ true) same refl
 listed_in (Some v) days e = dates_in v days e
 
 calendar_in : (d : Data) (own : Calendar) → shapes.calendar d ≡ Some own → are_dates own.holidays ≡ true
 calendar_in d own e =
-    let days = then_some (λ days. option_map (λ rolls. record { roll = rolls; holidays = days }) (flag_at (codes "roll") d)) (option_and_then (keep are_holidays) (optional [] (list_of shapes.date) (get (codes "holidays") d))) own e in
-    let listed = then_some (keep are_holidays) (optional [] (list_of shapes.date) (get (codes "holidays") d)) days.0 days.1 in
+    let days = then_some (λ days. option_map (λ rolls. record { roll = rolls; holidays = days }) (flag_at (codes "roll") d)) (option_and_then (keep are_holidays) (optional [] (list_of date_read) (get (codes "holidays") d))) own e in
+    let listed = then_some (keep are_holidays) (optional [] (list_of date_read) (get (codes "holidays") d)) days.0 days.1 in
     let same = (kept are_holidays listed.0 days.0 listed.2).1 in
     let made = map_some (λ (rolls : Bool). record { roll = rolls; holidays = days.0 }) (flag_at (codes "roll") d) own days.2 in
     subst (λ (c : Calendar). are_dates c.holidays ≡ true) made.2 (subst (λ x. are_dates x ≡ true) same (listed_in (get (codes "holidays") d) listed.0 listed.1))

@@ -27,9 +27,9 @@ use Rattle.wb_model.proofs.Found.{Held as In, held_filter, find_held}
 use Rattle.wb_model.proofs.ItemPuts.{held_all, all_held}
 use Rattle.wb_model.proofs.SetUpsReadable.{kept_readable}
 use Rattle.wb_model.proofs.TurnRows.{map_held}
-use Rattle.wb_row_rules.specs.ReportRules.{is_numbering_of}
-use Rattle.wb_row_rules.specs.Reports.{Report}
-use Rattle.wb_rows.specs.declared.items.Kept.{Kept}
+use Rattle.wb_rows.specs.ReportRules.{is_numbering_of}
+use Rattle.wb_rows.specs.Reports.{Report}
+use Rattle.wb_rows.specs.declared.items.ItemsByKind.{ItemsByKind}
 use Rattle.wb_rows.specs.Held.{Held}
 use Rattle.wb_rows.specs.HeldItems.{entry_items}
 use Rattle.wb_rows.specs.Judged.{judged_in}
@@ -99,7 +99,7 @@ sealed_stored (items.Context y) x e is = absurd cc
 sealed_stored (items.Entry y) x e is = absurd cc
 
 module _ (all : List Item) (rs : List Report) (stored : list_all is_stored_item all ≡ true) (entries : (kept_of all).entries ≡ entry_items rs) where
-  abbrev k : Kept
+  abbrev k : ItemsByKind
   k = kept_of all
 
   lists_stored : are_stored (kept_of all).lists ≡ true

@@ -20,21 +20,21 @@ use Rattle.wb_model.specs.declared.registry.FormItem.{FormItem}
 use Rattle.wb_model.specs.declared.registry.TenantItem.{TenantItem}
 use Rattle.wb_model.specs.declared.registry.UserItem.{UserItem}
 use Rattle.wb_model.specs.SetUps.{AreSetUp, has_tenant}
-use Rattle.wb_row_rules.specs.declared.faults.RowFault.{RowFault}
-use Rattle.wb_row_rules.specs.declared.faults.RowFault.TheVariants as faults
-use Rattle.wb_rows.specs.declared.items.Kept.{Kept}
+use Rattle.wb_rows.specs.declared.faults.RowFault.{RowFault}
+use Rattle.wb_rows.specs.declared.faults.RowFault.TheVariants as faults
+use Rattle.wb_rows.specs.declared.items.ItemsByKind.{ItemsByKind}
 use Rattle.wb_rows.specs.Blame.{blamed}
 use Rattle.wb_rows.specs.Good.{AreGood}
-use Rattle.wb_row_rules.specs.Reports.{Report}
+use Rattle.wb_rows.specs.Reports.{Report}
 use Rattle.wb_rows.specs.Held.{Held}
 use Rattle.wb_rows.specs.HeldItems.{entry_items, items_of, sealed_items}
 use Rattle.wb_rows.specs.HeldRows.{own_rows, rows_in, rows_of}
 use Rattle.wb_rows.specs.Judged.{held as tables_read, judged, judged_in, judged_items, judged_kept, judged_reports, report_fault, unless}
 use Rattle.wb_rows.specs.ListRules.{has_tenant_rows}
-use Rattle.wb_row_rules.specs.Places.{entry_key, numbering_key, sealed_key}
+use Rattle.wb_rows.specs.Places.{entry_key, numbering_key, sealed_key}
 use Rattle.wb_rows.specs.ReadItems.{items_in}
-use Rattle.wb_row_rules.specs.ReportRules.{has_its_seal, is_right_entry, is_right_numbering, is_right_seal, same_receipt}
-use Rattle.wb_row_rules.specs.TrailRule.{reports_of}
+use Rattle.wb_rows.specs.ReportRules.{has_its_seal, is_right_entry, is_right_numbering, is_right_seal, same_receipt}
+use Rattle.wb_rows.specs.TrailRule.{reports_of}
 use Rattle.wb_rows.proofs.HeldReports.{all-true, held-true}
 use Rattle.wb_rows.proofs.ItemsBack.{items-read, kept_by, kinds-of-items, rows-of-items}
 use Rattle.wb_rows.proofs.ListsBack.{held_any, none-at-fault, none_breaks, none_repeats}
@@ -47,7 +47,7 @@ use Rattle.wb_base.specs.declared.form.Format.TheVariants.{Plain, Weighed}
 
 -- ---- no rule of reports is broken
 
-none-blamed : (k : Kept) (rs : List Report) → RulesHold k rs → report_fault k rs ≡ None
+none-blamed : (k : ItemsByKind) (rs : List Report) → RulesHold k rs → report_fault k rs ≡ None
 none-blamed k rs hold =
     let six = none_breaks (is_right_entry k.lists) entry_key k.entries hold.entries in
     let seven = none_breaks (drawn_entry k) entry_key k.entries hold.drawn in

@@ -8,10 +8,10 @@ use Rattle.wb_model.specs.declared.entry.Entry.{Entry}
 use Rattle.wb_model.specs.declared.registry.Lists.{Lists}
 use Rattle.wb_model.specs.Legal.{is_first, is_next, last_at}
 use Rattle.wb_model.specs.Rows.{row, entry_data, entries_from}
-use Rattle.wb_row_rules.specs.Reports.{Report}
+use Rattle.wb_rows.specs.Reports.{Report}
 use Rattle.wb_rows.specs.HeldItems.{trail_items, report_items, entry_items}
 use Rattle.wb_rows.specs.HeldRows.{trail_rows}
-use Rattle.wb_row_rules.specs.TrailRule.{days, begun, continued, is_of, begins, goes_on, reports_after, reports_of}
+use Rattle.wb_rows.specs.TrailRule.{days, begun, continued, is_of, begins, goes_on, reports_after, reports_of}
 use Rattle.wb_rows.proofs.ItemKinds.{entry_row}
 use Rattle.wb_rows.proofs.ReportOrder.{on_entry, on_first}
 

@@ -12,10 +12,10 @@ use Rattle.wb_list.specs.Keyed.{IsAscending}
 use Rattle.wb_model.specs.declared.entry.Entry.{Entry}
 use Rattle.wb_model.specs.declared.registry.Lists.{Lists}
 use Rattle.wb_model.specs.Legal.{is_first, is_next, legal_from, last_at}
-use Rattle.wb_row_rules.specs.Reports.{Report}
+use Rattle.wb_rows.specs.Reports.{Report}
 use Rattle.wb_rows.specs.HeldItems.{entry_items, trail_items}
-use Rattle.wb_row_rules.specs.Places.{report_place}
-use Rattle.wb_row_rules.specs.TrailRule.{begins, begun, goes_on, is_legal_report, is_of, days, reports_after, reports_of}
+use Rattle.wb_rows.specs.Places.{report_place}
+use Rattle.wb_rows.specs.TrailRule.{begins, begun, goes_on, is_legal_report, is_of, days, reports_after, reports_of}
 use Rattle.wb_rows.proofs.SealedRows.{other_place}
 
 last_of : (time : ℕ) (before : List Entry) (e : Entry) → last_at time (before ++ e ∷ []) ≡ e.at

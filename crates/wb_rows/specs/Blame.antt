@@ -3,8 +3,8 @@ use Rattle.std.specs.Prelude.{ℕ, not, Bool, if◌then◌else◌, List, [], ◌
 use Rattle.std.specs.List.{list_any}
 use Rattle.std.specs.Option.{option_map}
 use Rattle.wb_base.specs.declared.rows.Key.{Key}
-use Rattle.wb_row_rules.specs.declared.faults.RowFault.{RowFault}
-use Rattle.wb_row_rules.specs.declared.faults.RowFault.TheVariants.{BadSet}
+use Rattle.wb_rows.specs.declared.faults.RowFault.{RowFault}
+use Rattle.wb_rows.specs.declared.faults.RowFault.TheVariants.{BadSet}
 
 -- the key of the first that breaks a rule
 abbrev pub first_breaking : {X : Type 0} → (X → Bool) → (X → Key) → List X → Option Key

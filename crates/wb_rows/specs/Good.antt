@@ -7,11 +7,11 @@ use Rattle.wb_row_codec.specs.Good.{is_good}
 use Rattle.wb_list.specs.Keyed.{IsAscending}
 use Rattle.wb_model.specs.KeptRules.{AreKept}
 use Rattle.wb_model.specs.SetUps.{has_tenant, tenant_ids}
-use Rattle.wb_row_rules.specs.Reports.{Report}
+use Rattle.wb_rows.specs.Reports.{Report}
 use Rattle.wb_rows.specs.Held.{Held}
 use Rattle.wb_rows.specs.HeldItems.{items_of}
 use Rattle.wb_rows.specs.Openings.{tables_of}
-use Rattle.wb_row_rules.specs.Places.{report_place}
+use Rattle.wb_rows.specs.Places.{report_place}
 
 -- tables of all tenants that keep the rules of kept rows at a moment
 pub record AreGood (at : ℕ) (h : Held) : Type 0 where

@@ -4,7 +4,7 @@ use Rattle.wb_base.specs.AnswerList.{Answered}
 use Rattle.wb_custody.specs.SealedAnswers.{answers_of}
 use Rattle.wb_row_codec.specs.declared.item.NumberingItem.{NumberingItem}
 use Rattle.wb_model.specs.declared.registry.Lists.{Lists}
-use Rattle.wb_row_rules.specs.Reports.{Report, case_report}
+use Rattle.wb_rows.specs.Reports.{Report, case_report}
 use Rattle.wb_rows.specs.declared.tables.Tables.{Tables}
 
 -- the tables of all tenants

@@ -6,7 +6,7 @@ use Rattle.wb_row_codec.specs.declared.item.EntryItem.{EntryItem}
 use Rattle.wb_row_codec.specs.declared.item.Item.{Item}
 use Rattle.wb_row_codec.specs.declared.item.Item.TheVariants.{Settings, Numbering, User, Form, Context, Entry, Sealed}
 use Rattle.wb_model.specs.declared.entry.Entry.{Entry as EntryData}
-use Rattle.wb_row_rules.specs.Reports.{Report}
+use Rattle.wb_rows.specs.Reports.{Report}
 use Rattle.wb_rows.specs.Held.{Held}
 
 -- the entries of a trail, from a place on

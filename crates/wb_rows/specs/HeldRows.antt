@@ -12,7 +12,7 @@ use Rattle.wb_model.specs.declared.registry.Lists.{Lists}
 use Rattle.wb_model.specs.declared.registry.TenantItem.{TenantItem}
 use Rattle.wb_model.specs.declared.registry.UserItem.{UserItem}
 use Rattle.wb_model.specs.Rows.{row, format_row, settings_data, numbering_data, user_data, context_data, entries_from, sealed_row}
-use Rattle.wb_row_rules.specs.Reports.{Report}
+use Rattle.wb_rows.specs.Reports.{Report}
 use Rattle.wb_rows.specs.Held.{Held}
 
 abbrev pub settings_row : TenantItem → Row

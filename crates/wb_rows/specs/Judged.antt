@@ -10,30 +10,30 @@ use Rattle.wb_custody.specs.SealedAnswers.{answers_of}
 use Rattle.wb_row_codec.specs.declared.item.Item.{Item}
 use Rattle.wb_row_codec.specs.Items.{is_key}
 use Rattle.wb_model.specs.Rows.{format_row}
-use Rattle.wb_row_rules.specs.declared.faults.RowFault.{RowFault}
-use Rattle.wb_row_rules.specs.declared.faults.RowFault.TheVariants.{BadRow, BadSet}
-use Rattle.wb_rows.specs.declared.items.Kept.{Kept}
+use Rattle.wb_rows.specs.declared.faults.RowFault.{RowFault}
+use Rattle.wb_rows.specs.declared.faults.RowFault.TheVariants.{BadRow, BadSet}
+use Rattle.wb_rows.specs.declared.items.ItemsByKind.{ItemsByKind}
 use Rattle.wb_rows.specs.declared.report_rules.Blames.{Blames}
 use Rattle.wb_rows.specs.Blame.{first_breaking, first_repeated, blamed}
-use Rattle.wb_row_rules.specs.Reports.{Report}
+use Rattle.wb_rows.specs.Reports.{Report}
 use Rattle.wb_rows.specs.Held.{Held}
 use Rattle.wb_rows.specs.KeptItems.{kept_of}
 use Rattle.wb_rows.specs.ListRules.{list_fault}
-use Rattle.wb_row_rules.specs.Places.{entry_key, numbering_key, sealed_key}
+use Rattle.wb_rows.specs.Places.{entry_key, numbering_key, sealed_key}
 use Rattle.wb_rows.specs.ReadItems.{items_in}
-use Rattle.wb_row_rules.specs.ReportRules.{is_right_entry, is_drawn, has_its_seal, is_right_seal, same_receipt, is_right_numbering}
-use Rattle.wb_row_rules.specs.TrailRule.{reports_of}
+use Rattle.wb_rows.specs.ReportRules.{is_right_entry, is_drawn, has_its_seal, is_right_seal, same_receipt, is_right_numbering}
+use Rattle.wb_rows.specs.TrailRule.{reports_of}
 
 -- the first row of rule 7: an entry, or identity answers, of a number that was not drawn
-abbrev pub first_undrawn : Kept → Option Key
+abbrev pub first_undrawn : ItemsByKind → Option Key
 first_undrawn k = option_or (first_breaking (λ x. is_drawn k.numberings x.tenant x.number) entry_key k.entries) (first_breaking (λ x. is_drawn k.numberings x.tenant x.number) sealed_key k.sealed)
 
 -- the first row of rule 8: an entry without its identity answers, or identity answers without an entry, or that are not valid
-abbrev pub first_unsealed : Kept → List Report → Option Key
+abbrev pub first_unsealed : ItemsByKind → List Report → Option Key
 first_unsealed k rs = option_or (first_breaking (has_its_seal k.sealed) entry_key k.entries) (first_breaking (is_right_seal k.lists rs) sealed_key k.sealed)
 
 -- the first rows that break the rules that look at entries one by one
-pub record AreBlames (k : Kept) (b : Blames) : Type 0 where
+pub record AreBlames (k : ItemsByKind) (b : Blames) : Type 0 where
   pub wrong : b.wrong ≡ first_breaking (is_right_entry k.lists) entry_key k.entries
   pub undrawn : b.undrawn ≡ first_undrawn k
   pub unsealed : b.unsealed ≡ first_breaking (has_its_seal k.sealed) entry_key k.entries
@@ -41,7 +41,7 @@ pub record AreBlames (k : Kept) (b : Blames) : Type 0 where
   pub numbering : b.numbering ≡ first_breaking (is_right_numbering k.entries) numbering_key k.numberings
 
 -- the first of rules 6 to 10 that is broken, and the first row that breaks it
-abbrev pub report_fault : Kept → List Report → Option RowFault
+abbrev pub report_fault : ItemsByKind → List Report → Option RowFault
 report_fault k rs =
     blamed 6 (first_breaking (is_right_entry k.lists) entry_key k.entries) (
     blamed 7 (first_undrawn k) (
@@ -50,7 +50,7 @@ report_fault k rs =
     blamed 10 (first_breaking (is_right_numbering k.entries) numbering_key k.numberings) None))))
 
 -- what is held where no rule is broken
-abbrev pub held : Kept → List Report → Held
+abbrev pub held : ItemsByKind → List Report → Held
 held k rs = record { lists = k.lists; numberings = k.numberings; reports = rs; sealed = answers_of k.sealed }
 
 -- a fault, or what comes after it
@@ -58,11 +58,11 @@ abbrev pub unless : Option RowFault → Result Held RowFault → Result Held Row
 unless (Some fault) rest = Err fault
 unless None rest = rest
 
-abbrev pub judged_reports : Kept → Result (List Report) Key → Result Held RowFault
+abbrev pub judged_reports : ItemsByKind → Result (List Report) Key → Result Held RowFault
 judged_reports k (Ok rs) = unless (report_fault k rs) (Ok (held k rs))
 judged_reports k (Err key) = Err (BadSet 5 key)
 
-abbrev pub judged_kept : List Row → Kept → Result Held RowFault
+abbrev pub judged_kept : List Row → ItemsByKind → Result Held RowFault
 judged_kept rows k = unless (list_fault rows k.lists k.numberings) (judged_reports k (reports_of k.lists k.entries))
 
 abbrev pub judged_items : List Row → Result (List Item) RowFault → Result Held RowFault

@@ -10,7 +10,7 @@ use Rattle.wb_model.specs.declared.registry.ContextItem.{ContextItem}
 use Rattle.wb_model.specs.declared.registry.FormItem.{FormItem}
 use Rattle.wb_model.specs.declared.registry.TenantItem.{TenantItem}
 use Rattle.wb_model.specs.declared.registry.UserItem.{UserItem}
-use Rattle.wb_rows.specs.declared.items.Kept.{Kept}
+use Rattle.wb_rows.specs.declared.items.ItemsByKind.{ItemsByKind}
 
 abbrev pub tenant_in : Item → Option TenantItem
 tenant_in (items.Settings x) = Some x
@@ -41,7 +41,7 @@ sealed_in (items.Sealed x) = Some x
 sealed_in _ = None
 
 -- items kind by kind, in their order
-abbrev pub kept_of : List Item → Kept
+abbrev pub kept_of : List Item → ItemsByKind
 kept_of all = record {
   lists = record { tenants = filter_map tenant_in all; users = filter_map user_in all; forms = filter_map form_in all; contexts = filter_map context_in all };
   numberings = filter_map numbering_in all;
@@ -52,7 +52,7 @@ kept_of all = record {
 -- ---- one after another
 
 -- one more item, at the end of its kind
-abbrev pub with_item : Kept → Item → Kept
+abbrev pub with_item : ItemsByKind → Item → ItemsByKind
 with_item k (items.Settings x) = record k { lists = record k.lists { tenants = k.lists.tenants ++ x ∷ [] } }
 with_item k (items.Numbering x) = record k { numberings = k.numberings ++ x ∷ [] }
 with_item k (items.User x) = record k { lists = record k.lists { users = k.lists.users ++ x ∷ [] } }
@@ -62,7 +62,7 @@ with_item k (items.Entry x) = record k { entries = k.entries ++ x ∷ [] }
 with_item k (items.Sealed x) = record k { sealed = k.sealed ++ x ∷ [] }
 
 -- what was sorted, and then what is sorted of the rest
-abbrev pub kept_with : Kept → Kept → Kept
+abbrev pub kept_with : ItemsByKind → ItemsByKind → ItemsByKind
 kept_with k m = record {
   lists = record { tenants = k.lists.tenants ++ m.lists.tenants; users = k.lists.users ++ m.lists.users; forms = k.lists.forms ++ m.lists.forms; contexts = k.lists.contexts ++ m.lists.contexts };
   numberings = k.numberings ++ m.numberings;

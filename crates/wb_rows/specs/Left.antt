@@ -9,7 +9,7 @@ use Rattle.wb_model.specs.Pasts.{AllOpened, part, has_tenant, standing_hosts, ti
 use Rattle.wb_model.specs.Readable.{AreRanged, OpensReadable}
 use Rattle.wb_model.specs.Tables.{Case}
 use Rattle.wb_model.specs.Tenants.{Tenancy, has_id}
-use Rattle.wb_row_rules.specs.Reports.{Report}
+use Rattle.wb_rows.specs.Reports.{Report}
 use Rattle.wb_rows.specs.Held.{Held}
 
 abbrev pub numbering_item : Tenancy → NumberingItem

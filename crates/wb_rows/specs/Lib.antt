@@ -1,3 +1,11 @@
+pub mod Reports
+pub mod Places
+pub mod Reckoned
+pub mod Legality
+pub mod TrailRule
+pub mod OpenReports
+pub mod Growing
+pub mod ReportRules
 pub mod Held
 pub mod HeldRows
 pub mod Puts
@@ -13,3 +21,4 @@ pub mod Openings
 pub mod HeldItems
 pub mod Good
 pub mod Left
+pub mod Loaded

@@ -10,9 +10,9 @@ use Rattle.wb_model.specs.declared.registry.Lists.{Lists}
 use Rattle.wb_model.specs.Openings.{registry_of}
 use Rattle.wb_model.specs.Settings.{is_recipient}
 use Rattle.wb_model.specs.SetUps.{has_tenant, same_user_name}
-use Rattle.wb_row_rules.specs.declared.faults.RowFault.{RowFault}
+use Rattle.wb_rows.specs.declared.faults.RowFault.{RowFault}
 use Rattle.wb_rows.specs.Blame.{first_breaking, first_repeated, blamed}
-use Rattle.wb_row_rules.specs.Places.{user_key, form_key, context_key}
+use Rattle.wb_rows.specs.Places.{user_key, form_key, context_key}
 use Rattle.wb_tenants.specs.Sets.{version_of}
 
 -- 1: the tenant that a row's key names has its settings and its numbering

@@ -11,9 +11,9 @@ use Rattle.wb_model.specs.Reopened.{latest}
 use Rattle.wb_model.specs.SetUps.{tenant_ids}
 use Rattle.wb_model.specs.Tables.{Case}
 use Rattle.wb_model.specs.Tenants.{Tenancy}
-use Rattle.wb_row_rules.specs.Reports.{Report}
+use Rattle.wb_rows.specs.Reports.{Report}
 use Rattle.wb_rows.specs.Held.{Held}
-use Rattle.wb_row_rules.specs.ReportRules.{is_numbering_of}
+use Rattle.wb_rows.specs.ReportRules.{is_numbering_of}
 use Rattle.wb_setup.specs.Joined.{joined}
 
 -- ---- the tables of a tenant

@@ -5,8 +5,8 @@ use Rattle.wb_base.specs.declared.rows.Key.{Key}
 use Rattle.wb_base.specs.declared.rows.Row.{Row}
 use Rattle.wb_row_codec.specs.declared.item.Item.{Item}
 use Rattle.wb_row_codec.specs.Items.{item_of}
-use Rattle.wb_row_rules.specs.declared.faults.RowFault.{RowFault}
-use Rattle.wb_row_rules.specs.declared.faults.RowFault.TheVariants.{BadRow}
+use Rattle.wb_rows.specs.declared.faults.RowFault.{RowFault}
+use Rattle.wb_rows.specs.declared.faults.RowFault.TheVariants.{BadRow}
 
 -- an item before others, where its row is good
 abbrev pub with_first : Option Item → Key → Result (List Item) RowFault → Result (List Item) RowFault

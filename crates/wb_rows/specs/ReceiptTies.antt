@@ -11,7 +11,7 @@ use Rattle.wb_row_codec.specs.declared.item.EntryItem.{EntryItem}
 use Rattle.wb_model.specs.Trails.{Submission, submission_in}
 use Rattle.wb_rows.specs.Marks.{same_mark}
 use Rattle.wb_rows.specs.NameTies.{place_cmp, place_total}
-use Rattle.wb_row_rules.specs.ReportRules.{is_same_receipt, same_receipt}
+use Rattle.wb_rows.specs.ReportRules.{is_same_receipt, same_receipt}
 
 -- the tenant and the digest
 abbrev pub digest_cmp : ℕ × Digest → ℕ × Digest → Ordering

@@ -2,17 +2,17 @@
 ghost use Rattle.std.specs.Prelude.{◌≡◌, ◌≢◌, [], IfOk, IfErr, OnOk, Ok, Err, true};
 ghost use Rattle.std.specs.List.{list_all};
 ghost use Rattle.wb_row_codec.specs.Items.{is_in_range};
-ghost use Rattle.wb_row_rules.specs.declared.faults.RowFault.TheVariants as faults;
+ghost use Rattle.wb_rows.specs.declared.faults.RowFault.TheVariants as faults;
 ghost use Rattle.wb_rows.specs.ReadItems.{items_in};
 ghost use Rattle.wb_rows.specs.KeptItems.{with_item, kept_of};
 
+use crate::RowFault;
 use std::alloc::Global;
 use wb_base::{Format, Memory, Row};
 use wb_custody::SealedItem;
 use wb_list::Items;
 use wb_model::{ContextItem, FormItem, Lists, TenantItem, UserItem};
 use wb_row_codec::{EntryItem, Item, NumberingItem, read_item};
-use wb_row_rules::RowFault;
 
 /// What rows of a format stand for, or the first key whose row is not good.
 pub fn read_items(alloc: Global, format: Format, rows: &[Row]) -> Result<Vec<Item>, RowFault>
@@ -32,19 +32,19 @@ pub fn read_items(alloc: Global, format: Format, rows: &[Row]) -> Result<Vec<Ite
 
 /// What rows stand for, kind by kind.
 #[derive(Drop)]
-pub struct Kept {
+pub struct ItemsByKind {
     pub lists: Lists,
     pub numberings: Items<NumberingItem>,
     pub entries: Items<EntryItem>,
     pub sealed: Items<SealedItem>,
 }
 
-impl Kept {
+impl ItemsByKind {
     // Nothing.
-    fn new(alloc: Global) -> Kept
+    fn new(alloc: Global) -> ItemsByKind
         ensures { result ≡ kept_of [] }
     {
-        Kept {
+        ItemsByKind {
             lists: Lists {
                 tenants: Items::new(alloc),
                 users: Items::new(alloc),
@@ -74,10 +74,10 @@ impl Kept {
 }
 
 /// Items kind by kind, in their order.
-pub fn sort_items(alloc: Global, items: Vec<Item>) -> Result<Kept, Memory>
+pub fn sort_items(alloc: Global, items: Vec<Item>) -> Result<ItemsByKind, Memory>
     ensures { IfOk result (λ kept. kept ≡ kept_of items.items) }
 {
-    let mut kept = Kept::new(alloc);
+    let mut kept = ItemsByKind::new(alloc);
     for item in items {
         kept.push(item)?;
     }

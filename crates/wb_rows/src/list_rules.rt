@@ -7,15 +7,15 @@ ghost use Rattle.wb_model.specs.Settings.{is_recipient as is_recipient_in};
 ghost use Rattle.wb_model.specs.SetUps.{same_user_name};
 ghost use Rattle.wb_rows.specs.Blame.{first_breaking, first_repeated as first_repeated_in};
 ghost use Rattle.wb_rows.specs.ListRules.{has_tenant_rows as has_tenant_rows_in, has_version as has_version_in, follows as follows_in, is_right_context as is_right_context_in, list_fault as list_fault_of};
-ghost use Rattle.wb_row_rules.specs.Places.{user_key, form_key, context_key};
+ghost use Rattle.wb_rows.specs.Places.{user_key, form_key, context_key};
 
+use crate::RowFault;
 use crate::repeated::{Marked, first_repeated};
 use std::alloc::Global;
 use wb_base::{Key, Memory, Role, Row, Tenant, Text, UserId};
 use wb_list::TryClone;
 use wb_model::{ContextItem, FormItem, Lists, TenantItem, UserItem};
 use wb_row_codec::NumberingItem;
-use wb_row_rules::RowFault;
 use wb_tenants::Registry;
 
 // Whether a tenant's settings are there. There are at most 64.
@@ -56,7 +56,7 @@ fn first_without_tenant(lists: &Lists, numberings: &[NumberingItem], rows: &[Row
 impl Marked for UserItem {
     ghost use Rattle.std.specs.Prelude.{Some};
     ghost use Rattle.wb_model.specs.SetUps.{same_user_name};
-    ghost use Rattle.wb_row_rules.specs.Places.{user_key};
+    ghost use Rattle.wb_rows.specs.Places.{user_key};
     ghost use Rattle.wb_rows.specs.NameTies.{names_tie};
 
     type Mark = (Tenant, Text);

@@ -12,11 +12,11 @@ ghost use Rattle.wb_model.specs.Pasts.{AllOpened};
 ghost use Rattle.wb_model.specs.Readable.{AreReadable, are_stored};
 ghost use Rattle.wb_model.specs.Rows.{own_rows_in as own_rows_of_tenants, rows as rows_left, rows_in as rows_in_of_tenants, format_row};
 ghost use Rattle.wb_model.specs.SetUps.{AreSetUp, has_tenant, is_tenant_item, is_form_item};
-ghost use Rattle.wb_row_rules.specs.declared.faults.RowFault.TheVariants as faults;
-ghost use Rattle.wb_rows.specs.declared.items.Kept.{Kept as KeptData};
-ghost use Rattle.wb_row_rules.specs.Growing.{IsTrailFault};
+ghost use Rattle.wb_rows.specs.declared.faults.RowFault.TheVariants as faults;
+ghost use Rattle.wb_rows.specs.declared.items.ItemsByKind.{ItemsByKind as ItemsByKindData};
+ghost use Rattle.wb_rows.specs.Growing.{IsTrailFault};
 ghost use Rattle.wb_rows.specs.Good.{AreGood};
-ghost use Rattle.wb_row_rules.specs.Reports.{case_report};
+ghost use Rattle.wb_rows.specs.Reports.{case_report};
 ghost use Rattle.wb_rows.specs.Held.{Held, held_by};
 ghost use Rattle.wb_rows.specs.HeldItems.{items_of};
 ghost use Rattle.wb_rows.specs.HeldRows.{own_rows, rows_in, rows_of};
@@ -26,20 +26,20 @@ ghost use Rattle.wb_base.specs.AnswerList.{is_text};
 ghost use Rattle.wb_base.specs.declared.form.Format.TheVariants.{Plain};
 ghost use Rattle.wb_row_codec.specs.Items.{is_kept_in};
 ghost use Rattle.wb_rows.specs.Openings.{tables_of, tenancies_of, time_of};
-ghost use Rattle.wb_row_rules.specs.Places.{entry_key};
-ghost use Rattle.wb_row_rules.specs.TrailRule.{is_legal_report, reports_of};
+ghost use Rattle.wb_rows.specs.Places.{entry_key};
+ghost use Rattle.wb_rows.specs.TrailRule.{is_legal_report, reports_of};
 ghost use Rattle.wb_setup.specs.Keys.{AreInOrder};
 
-use crate::items::{Kept, read_items, sort_items};
+use crate::items::{ItemsByKind, read_items, sort_items};
 use crate::list_rules::list_fault;
 use crate::report_rules::{Blames, find_blames, first_wrong_seal, report_fault};
 use crate::tables::Tables;
+use crate::{CaseItem, RowFault, reports};
 use std::alloc::Global;
 use wb_base::{Format, Key, Memory, Row, Text};
 use wb_custody::{SealedItem, SealedTable};
 use wb_list::{Items, Sorted};
 use wb_row_codec::{EntryItem, NumberingItem};
-use wb_row_rules::{CaseItem, RowFault, reports};
 use wb_tenants::Registry;
 
 /// The text of the row of the format.
@@ -150,8 +150,8 @@ fn judge_blames(
     blames: Blames,
 ) -> Result<Tables, RowFault>
     requires { list_all is_form_item registry.lists.forms ≡ true }
-    ensures ok { IfOk result (λ tables. (k : KeptData) → k.lists ≡ registry.lists → k.numberings ≡ numberings → k.sealed ≡ sealed.items → AreBlames k blames → judged_reports k (Ok (map case_report cases.items)) ≡ Ok (held_by tables)) }
-    ensures err { IfErr result (λ fault. fault ≢ faults.Memory → (k : KeptData) → k.lists ≡ registry.lists → k.numberings ≡ numberings → k.sealed ≡ sealed.items → AreBlames k blames → judged_reports k (Ok (map case_report cases.items)) ≡ Err fault) }
+    ensures ok { IfOk result (λ tables. (k : ItemsByKindData) → k.lists ≡ registry.lists → k.numberings ≡ numberings → k.sealed ≡ sealed.items → AreBlames k blames → judged_reports k (Ok (map case_report cases.items)) ≡ Ok (held_by tables)) }
+    ensures err { IfErr result (λ fault. fault ≢ faults.Memory → (k : ItemsByKindData) → k.lists ≡ registry.lists → k.numberings ≡ numberings → k.sealed ≡ sealed.items → AreBlames k blames → judged_reports k (Ok (map case_report cases.items)) ≡ Err fault) }
 {
     let seal = first_wrong_seal(alloc, &registry, &cases, sealed.as_slice())?;
     match report_fault(blames, seal) {
@@ -190,7 +190,7 @@ fn judge_reports(
 }
 
 // The tables of what is kept, where the rules hold. All rows are handed in for the first.
-fn judge(alloc: Global, rows: &[Row], kept: Kept) -> Result<Tables, RowFault>
+fn judge(alloc: Global, rows: &[Row], kept: ItemsByKind) -> Result<Tables, RowFault>
     requires tenants { list_all is_tenant_item kept.lists.tenants ≡ true }
     requires forms { list_all is_form_item kept.lists.forms ≡ true }
     requires lists { AreInOrder kept.lists }
@@ -199,7 +199,7 @@ fn judge(alloc: Global, rows: &[Row], kept: Kept) -> Result<Tables, RowFault>
     ensures ok { IfOk result (λ tables. judged_kept rows.now kept ≡ Ok (held_by tables)) }
     ensures err { IfErr result (λ fault. fault ≢ faults.Memory → judged_kept rows.now kept ≡ Err fault) }
 {
-    let Kept {
+    let ItemsByKind {
         lists,
         numberings,
         entries,

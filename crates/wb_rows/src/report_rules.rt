@@ -4,29 +4,29 @@ ghost use Rattle.std.specs.List.{list_all};
 ghost use Rattle.std.specs.Option.{option_or};
 ghost use Rattle.wb_model.specs.SetUps.{is_form_item};
 ghost use Rattle.wb_rows.specs.Blame.{first_breaking, first_repeated as first_repeated_in, blamed};
-ghost use Rattle.wb_row_rules.specs.Reports.{case_report};
-ghost use Rattle.wb_row_rules.specs.Places.{entry_key as entry_key_of, sealed_key as sealed_key_of, numbering_key as numbering_key_of};
-ghost use Rattle.wb_row_rules.specs.ReportRules.{is_right_entry as is_right_entry_in, is_drawn as is_drawn_in, has_its_seal as has_its_seal_in, is_right_seal as is_right_seal_in, same_receipt, is_right_numbering as is_right_numbering_in};
+ghost use Rattle.wb_rows.specs.Reports.{case_report};
+ghost use Rattle.wb_rows.specs.Places.{entry_key as entry_key_of, sealed_key as sealed_key_of, numbering_key as numbering_key_of};
+ghost use Rattle.wb_rows.specs.ReportRules.{is_right_entry as is_right_entry_in, is_drawn as is_drawn_in, has_its_seal as has_its_seal_in, is_right_seal as is_right_seal_in, same_receipt, is_right_numbering as is_right_numbering_in};
 
 use crate::repeated::{Marked, first_repeated};
+use crate::{
+    CaseItem, RowFault, entry_key, has_its_seal, is_drawn, is_right_entry, is_right_numbering,
+    is_right_seal, numbering_key, sealed_key,
+};
 use std::alloc::Global;
 use wb_base::{Digest, Key, Memory, Tenant};
 use wb_custody::SealedItem;
 use wb_list::Sorted;
 use wb_model::Deed;
 use wb_row_codec::{EntryItem, NumberingItem};
-use wb_row_rules::{
-    CaseItem, RowFault, entry_key, has_its_seal, is_drawn, is_right_entry, is_right_numbering,
-    is_right_seal, numbering_key, sealed_key,
-};
 use wb_tenants::Registry;
 
 impl Marked for EntryItem {
     ghost use Rattle.std.specs.Option.{option_map};
     ghost use Rattle.wb_model.specs.Trails.{submission_in};
-    ghost use Rattle.wb_row_rules.specs.Places.{entry_key as entry_key_of};
+    ghost use Rattle.wb_rows.specs.Places.{entry_key as entry_key_of};
     ghost use Rattle.wb_rows.specs.ReceiptTies.{receipts_tie};
-    ghost use Rattle.wb_row_rules.specs.ReportRules.{same_receipt};
+    ghost use Rattle.wb_rows.specs.ReportRules.{same_receipt};
 
     type Mark = (Tenant, Digest);
 
@@ -133,16 +133,6 @@ fn first_wrong_numbering(numberings: &[NumberingItem], entries: &[EntryItem]) ->
     None
 }
 
-// The first of two keys.
-fn first(key: Option<Key>, other: Option<Key>) -> Option<Key>
-    ensures { result ≡ option_or key other }
-{
-    match key {
-        Some(key) => Some(key),
-        None => other,
-    }
-}
-
 /// The first entry, or other row, that breaks each of the rules that look at entries one by one.
 #[derive(Clone, Copy)]
 pub struct Blames {
@@ -179,7 +169,7 @@ pub fn find_blames(
     let undrawn_seal = first_undrawn_seal(numberings, sealed.as_slice());
     Ok(Blames {
         wrong,
-        undrawn: first(undrawn_entry, undrawn_seal),
+        undrawn: undrawn_entry.or(undrawn_seal),
         unsealed: first_unsealed_entry(sealed, entries),
         receipt,
         numbering: first_wrong_numbering(numberings, entries),
@@ -196,7 +186,7 @@ pub fn report_fault(blames: Blames, seal: Option<Key>) -> Option<RowFault>
     if let Some(key) = blames.undrawn {
         return Some(RowFault::BadSet(7, key));
     }
-    if let Some(key) = first(blames.unsealed, seal) {
+    if let Some(key) = blames.unsealed.or(seal) {
         return Some(RowFault::BadSet(8, key));
     }
     if let Some(key) = blames.receipt {

@@ -1,7 +1,7 @@
 //! Tables written as rows.
 ghost use Rattle.std.specs.Prelude.{◌≡◌, ◌++◌, IfOk, OnOk, map};
 ghost use Rattle.wb_custody.specs.SealedAnswers.{answers_of};
-ghost use Rattle.wb_row_rules.specs.Reports.{case_report};
+ghost use Rattle.wb_rows.specs.Reports.{case_report};
 ghost use Rattle.wb_rows.specs.Held.{held_by};
 ghost use Rattle.wb_rows.specs.HeldRows.{settings_row as settings_row_of, numbering_row as numbering_row_of, user_row as user_row_of, form_row as form_row_of, context_row as context_row_of, trail_rows, sealed_rows, list_rows, own_rows, rows_of};
 ghost use Rattle.wb_base.specs.declared.form.Format.TheVariants.{Weighed};
@@ -10,14 +10,16 @@ ghost use Rattle.wb_model.specs.Rows.{converted, entries_from, sealed_row as sea
 ghost use Rattle.wb_model.specs.SetUps.{AreSetUp};
 ghost use Rattle.wb_rows.specs.Openings.{tenancies_of};
 
+use crate::CaseItem;
 use crate::tables::Tables;
 use std::alloc::Global;
 use wb_base::{Change, Format, Memory, Row};
 use wb_custody::SealedTable;
 use wb_model::{ContextItem, FormItem, TenantItem, UserItem};
-use wb_row_codec::{NumberingItem, entry_row, format_row, numbering_row, sealed_row};
-use wb_row_rules::CaseItem;
-use wb_tenants::{context_row, form_row, settings_row, user_row};
+use wb_row_codec::{
+    NumberingItem, context_row, entry_row, form_row, format_row, numbering_row, sealed_row,
+    settings_row, user_row,
+};
 
 /// What has a row.
 trait Rowed {

@@ -10,10 +10,9 @@ use std::sync::Wait;
 use std::sync::ledger::{Blank, Ledger};
 use std::test::Fail;
 use wb_base::MemKeeper;
-use wb_desk::Desk;
+use wb_desk::{Desk, Kept, Origin, Pass};
 use wb_front::{Ended, serve_connection};
 use wb_gate::LockGate;
-use wb_ledger::{Kept, Origin, Pass};
 use wb_transport::{MemLink, MemTicker};
 use wb_wire::{Routes, WireFault};
 

@@ -13,9 +13,8 @@ use std::sync::Wait;
 use std::sync::ledger::{Blank, Ledger};
 use std::test::Fail;
 use wb_base::{MemKeeper, Words};
-use wb_desk::Desk;
+use wb_desk::{Desk, Kept, Origin, Pass, Tally};
 use wb_gate::{Gate, LockGate, Turn, close};
-use wb_ledger::{Kept, Origin, Pass, Tally};
 use wb_model::{Asked, Told};
 use wb_wire::{Routes, read_request};
 

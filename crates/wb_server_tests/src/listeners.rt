@@ -11,9 +11,8 @@ use std::sync::Wait;
 use std::sync::ledger::{Blank, Ledger};
 use std::test::Fail;
 use wb_base::MemKeeper;
-use wb_desk::Desk;
+use wb_desk::{Desk, Origin};
 use wb_front::{Station, Worked, work};
-use wb_ledger::Origin;
 use wb_transport::{MemLink, MemListener, MemTicker};
 use wb_wire::Routes;
 

@@ -11,12 +11,11 @@ use std::sync::Wait;
 use std::test::Fail;
 use std::thread::Threads;
 use wb_base::{Change, Keeper, Key, MemKeeper, MemSource, Row, Text};
-use wb_cli::{Plan, PlanFault, plan};
+use wb_cli::{Plan, PlanFault, Status, plan};
 use wb_front::Station;
 use wb_rows::RowFault;
-use wb_serve::serve;
+use wb_server::serve;
 use wb_setup::SetupFault;
-use wb_start::Status;
 use wb_transport::{MemListener, MemTicker};
 
 const SERVE: &str = "serve --setup s --listen 127.0.0.1:80 --workers 2";
@@ -103,18 +102,22 @@ fn words_of(alloc: Global, line: &str) -> Result<Vec<Text>, Fail> {
     Ok(words)
 }
 
+// How many workers a plan asks for: those of a host that serves, and two where none is asked for.
+fn workers(plan: &Plan) -> u32
+    ensures { (text : List ℕ) (at : List ℕ) (count : ℕ) (lock : LockOf) (store : Option (List ℕ)) → Serve text at count lock store ≡ plan.now → count ≡ result }
+{
+    match plan {
+        Plan::Serve { workers, .. } => *workers,
+        _ => 2,
+    }
+}
+
 // How many stations there are for the words: as many as workers, and two where the words ask for none.
 fn workers_of(alloc: Global, words: &[Text]) -> Result<u32, Fail>
     ensures { IfOk result (λ workers. (text : List ℕ) (at : List ℕ) (count : ℕ) (lock : LockOf) (store : Option (List ℕ)) → Asks words.now (Serve text at count lock store) → count ≡ workers) }
 {
     match plan(alloc, words) {
-        Ok(Plan::Serve { workers, .. }) => Ok(workers),
-        Ok(Plan::Play { .. }) => Ok(2),
-        Ok(Plan::Make(_)) => Ok(2),
-        Ok(Plan::Tally(_)) => Ok(2),
-        Ok(Plan::Notices { .. }) => Ok(2),
-        Ok(Plan::Register { .. }) => Ok(2),
-        Ok(Plan::Forecast { .. }) => Ok(2),
+        Ok(plan) => Ok(workers(&plan)),
         Err(PlanFault::Usage) => Ok(2),
         Err(PlanFault::Memory) => Err("no memory".into()),
     }

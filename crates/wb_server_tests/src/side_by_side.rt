@@ -12,9 +12,9 @@ use std::thread::Threads;
 use wb_base::{Failed, MemKeeper};
 use wb_cli::Lock;
 use wb_front::Station;
+use wb_server::{ServeEnd, serve_all, serve_in_order};
 use wb_transport::{Link, Listener, MemTicker};
 use wb_wire::Routes;
-use wb_workers::{ServeEnd, serve_all, serve_in_order};
 
 /// A link with two submissions. It holds its second back until the other link has a reply, for a million looks.
 #[derive(Drop)]

@@ -3,56 +3,57 @@ ghost use Rattle.std.specs.Prelude.{◌≡◌, Some, None};
 ghost use Rattle.toml.specs.View.{view};
 ghost use Rattle.wb_setup.specs.TomlValues.{under, whole};
 ghost use Rattle.wb_setup.specs.Given.{recipients as recipients_of, user_of, form_of, context_of, tenant_of, tenants_of, day as day_of, calendar as calendar_of, has_format as format_test};
-ghost use Rattle.wb_setup.specs.Gives.{Gives};
+ghost use Rattle.wb_json.specs.Gives.{Gives};
 
 use crate::given::{GivenContext, GivenForm, GivenTenant, GivenUser};
 use crate::parts::{Part, list_if_under, list_under, read_list};
 use crate::toml_values::{
-    PartNo, any_text_under, flag_if_under, flag_under, has_only, number_under, read_user_id,
-    rights_under, role_under, salt_under, tenant_id_under, text_under, user_id_under, whole_under,
+    any_text_under, flag_if_under, flag_under, has_only, number_under, read_user_id, rights_under,
+    role_under, salt_under, tenant_id_under, text_under, user_id_under, whole_under,
 };
 use std::alloc::Global;
 use toml::Value;
 use wb_base::{Calendar, Day, UserId, are_holidays};
+use wb_json::ReadError;
 use wb_list::Items;
 use wb_terms::read_date;
 
 impl Part for UserId {
     ghost reading = { whole 1 256 };
 
-    fn read(_alloc: Global, value: &Value) -> Result<UserId, PartNo> {
+    fn read(_alloc: Global, value: &Value) -> Result<UserId, ReadError> {
         read_user_id(value)
     }
 }
 
 // The recipients that a value is.
-fn read_recipients(alloc: Global, value: &Value) -> Result<Items<UserId>, PartNo>
+fn read_recipients(alloc: Global, value: &Value) -> Result<Items<UserId>, ReadError>
     ensures { Gives (recipients_of (view value.now)) result }
 {
     let users = read_list(alloc, value)?;
     if 1 <= users.len() && users.len() <= 32 {
         Ok(users)
     } else {
-        Err(PartNo::Other)
+        Err(ReadError::Other)
     }
 }
 
 // The recipients under a key.
-fn recipients_under(alloc: Global, value: &Value, key: &str) -> Result<Items<UserId>, PartNo>
+fn recipients_under(alloc: Global, value: &Value, key: &str) -> Result<Items<UserId>, ReadError>
     ensures { Gives (under key.now recipients_of (view value.now)) result }
 {
     match value.get(key) {
         Some(found) => read_recipients(alloc, found),
-        None => Err(PartNo::Other),
+        None => Err(ReadError::Other),
     }
 }
 
 impl Part for GivenUser {
     ghost reading = { user_of };
 
-    fn read(alloc: Global, value: &Value) -> Result<GivenUser, PartNo> {
+    fn read(alloc: Global, value: &Value) -> Result<GivenUser, ReadError> {
         if !has_only(value, &["enabled", "id", "may", "name", "password", "role"]) {
-            return Err(PartNo::Other);
+            return Err(ReadError::Other);
         }
         let id = user_id_under(value, "id")?;
         let name = text_under(alloc, value, "name", 1, 64)?;
@@ -74,9 +75,9 @@ impl Part for GivenUser {
 impl Part for GivenForm {
     ghost reading = { form_of };
 
-    fn read(alloc: Global, value: &Value) -> Result<GivenForm, PartNo> {
+    fn read(alloc: Global, value: &Value) -> Result<GivenForm, ReadError> {
         if !has_only(value, &["form", "id"]) {
-            return Err(PartNo::Other);
+            return Err(ReadError::Other);
         }
         let id = whole_under(value, "id", 1, 16)?;
         let json = any_text_under(alloc, value, "form")?;
@@ -87,12 +88,12 @@ impl Part for GivenForm {
 impl Part for GivenContext {
     ghost reading = { context_of };
 
-    fn read(alloc: Global, value: &Value) -> Result<GivenContext, PartNo> {
+    fn read(alloc: Global, value: &Value) -> Result<GivenContext, ReadError> {
         if !has_only(
             value,
             &["form", "id", "name", "open", "recipients", "retention"],
         ) {
-            return Err(PartNo::Other);
+            return Err(ReadError::Other);
         }
         let id = whole_under(value, "id", 1, 64)?;
         let name = text_under(alloc, value, "name", 1, 128)?;
@@ -114,16 +115,16 @@ impl Part for GivenContext {
 impl Part for Day {
     ghost reading = { day_of };
 
-    fn read(alloc: Global, value: &Value) -> Result<Day, PartNo> {
+    fn read(alloc: Global, value: &Value) -> Result<Day, ReadError> {
         match value.as_str() {
-            Some(text) => read_date(text.as_bytes()).ok_or(PartNo::Other),
-            None => Err(PartNo::Other),
+            Some(text) => read_date(text.as_bytes()).ok_or(ReadError::Other),
+            None => Err(ReadError::Other),
         }
     }
 }
 
 // Whether a tenant's due days roll, and past which holidays.
-fn calendar(alloc: Global, value: &Value) -> Result<Calendar, PartNo>
+fn calendar(alloc: Global, value: &Value) -> Result<Calendar, ReadError>
     ensures { Gives (calendar_of (view value.now)) result }
 {
     let rolls = flag_if_under(value, "roll")?;
@@ -131,14 +132,14 @@ fn calendar(alloc: Global, value: &Value) -> Result<Calendar, PartNo>
     if are_holidays(days.as_slice()) {
         Ok(Calendar::of(rolls, days.into_vec()))
     } else {
-        Err(PartNo::Other)
+        Err(ReadError::Other)
     }
 }
 
 impl Part for GivenTenant {
     ghost reading = { tenant_of };
 
-    fn read(alloc: Global, value: &Value) -> Result<GivenTenant, PartNo> {
+    fn read(alloc: Global, value: &Value) -> Result<GivenTenant, ReadError> {
         if !has_only(
             value,
             &[
@@ -156,7 +157,7 @@ impl Part for GivenTenant {
                 "user",
             ],
         ) {
-            return Err(PartNo::Other);
+            return Err(ReadError::Other);
         }
         let id = tenant_id_under(value, "id")?;
         let name = text_under(alloc, value, "name", 1, 128)?;
@@ -199,14 +200,14 @@ fn has_format(value: &Value) -> bool
 }
 
 /// The tenants of a document, in its order.
-pub fn read_tenants(alloc: Global, value: &Value) -> Result<Items<GivenTenant>, PartNo>
+pub fn read_tenants(alloc: Global, value: &Value) -> Result<Items<GivenTenant>, ReadError>
     ensures { Gives (tenants_of (view value.now)) result }
 {
     if !has_only(value, &["host", "tenant"]) {
-        return Err(PartNo::Other);
+        return Err(ReadError::Other);
     }
     if !has_format(value) {
-        return Err(PartNo::Other);
+        return Err(ReadError::Other);
     }
     list_under(alloc, value, "tenant")
 }

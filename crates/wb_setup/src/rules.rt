@@ -8,17 +8,16 @@ ghost use Rattle.wb_model.specs.SetUps.{are_apart};
 ghost use Rattle.wb_model.specs.Fits.{are_distinct as distinct_test};
 ghost use Rattle.wb_model.specs.Targets.{same_role};
 ghost use Rattle.wb_setup.specs.Rules.{same_tenant, same_user, same_name, same_form, same_context, is_form_of, is_reader, has_form as has_form_test, has_reader as has_reader_test, fits_readers as fits_readers_test, rule_2 as rule_2_of, rule_3 as rule_3_of, rule_4 as rule_4_of, rule_5 as rule_5_of, rule_7 as rule_7_of, rule_8 as rule_8_of, rule_9 as rule_9_of, form_in as form_of, first_version as first_version_of, first_versions as first_versions_of, forms_of as all_forms_of};
-ghost use Rattle.wb_setup.specs.Gives.{Gives};
+ghost use Rattle.wb_json.specs.Gives.{Gives};
 
 use crate::given::{GivenContext, GivenForm, GivenTenant, GivenUser};
-use crate::toml_values::PartNo;
 use serde_json::Value;
 use std::alloc::Global;
 use wb_base::{Form, FormFault, Role, Tenant, UserId};
 use wb_form::FormText;
+use wb_json::{ReadError, read_json};
 use wb_list::Items;
 use wb_model::FormItem;
-use wb_request_json::{BodyNo, read_json};
 
 /// In what two items are the same.
 trait Sameness<T> {
@@ -151,34 +150,31 @@ pub fn rule_5(tenants: &[GivenTenant]) -> bool
 }
 
 // The form that a text is.
-fn read_form(alloc: Global, given: &GivenForm) -> Result<Form, PartNo>
+fn read_form(alloc: Global, given: &GivenForm) -> Result<Form, ReadError>
     ensures { Gives (form_of given.now) result }
 {
-    match read_json(alloc, given.json.as_bytes()) {
-        Ok(value) => form_of_value(alloc, &value),
-        Err(BodyNo::Other) => Err(PartNo::Other),
-        Err(BodyNo::Memory) => Err(PartNo::Memory),
-    }
+    let value = read_json(alloc, given.json.as_bytes())?;
+    form_of_value(alloc, &value)
 }
 
 // The form that a value is.
-fn form_of_value(alloc: Global, value: &Value) -> Result<Form, PartNo>
+fn form_of_value(alloc: Global, value: &Value) -> Result<Form, ReadError>
     ensures { Gives (result_ok (form_by (view value.now))) result }
 {
     match Form::read(alloc, value) {
         Ok(form) => Ok(form),
         Err(fault) => {
             if fault.code == FormFault::MEMORY {
-                Err(PartNo::Memory)
+                Err(ReadError::Memory)
             } else {
-                Err(PartNo::Other)
+                Err(ReadError::Other)
             }
         }
     }
 }
 
 // It as version 1 of a tenant's form.
-fn first_version(alloc: Global, tenant: Tenant, given: &GivenForm) -> Result<FormItem, PartNo>
+fn first_version(alloc: Global, tenant: Tenant, given: &GivenForm) -> Result<FormItem, ReadError>
     ensures { Gives (first_version_of tenant given.now) result }
 {
     let form = read_form(alloc, given)?;
@@ -196,9 +192,9 @@ fn push_forms(
     forms: &mut Items<FormItem>,
     tenant: Tenant,
     given: &[GivenForm],
-) -> Result<(), PartNo>
+) -> Result<(), ReadError>
     ensures ok { OnOk result (option_map (λ xs. forms.old ++ xs) (first_versions_of tenant given.now) ≡ Some forms.new) }
-    ensures other { result ≡ Err PartNo.Other → first_versions_of tenant given.now ≡ None }
+    ensures other { result ≡ Err ReadError.Other → first_versions_of tenant given.now ≡ None }
 {
     for form in given {
         forms.push(first_version(alloc, tenant, form)?)?;
@@ -207,7 +203,7 @@ fn push_forms(
 }
 
 /// Rule 6: the forms of all tenants, each in its first version.
-pub fn read_forms(alloc: Global, tenants: &[GivenTenant]) -> Result<Items<FormItem>, PartNo>
+pub fn read_forms(alloc: Global, tenants: &[GivenTenant]) -> Result<Items<FormItem>, ReadError>
     ensures { Gives (all_forms_of tenants.now) result }
 {
     let mut forms = Items::new(alloc);

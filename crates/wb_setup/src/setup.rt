@@ -11,9 +11,10 @@ use crate::given::GivenTenant;
 use crate::put::lists_of;
 use crate::reading::read_tenants;
 use crate::rules::{read_forms, rule_2, rule_3, rule_4, rule_5, rule_7, rule_8, rule_9};
-use crate::toml_values::{PartNo, read_document};
+use crate::toml_values::read_document;
 use std::alloc::Global;
 use wb_base::Memory;
+use wb_json::ReadError;
 use wb_list::Items;
 use wb_model::{FormItem, Lists};
 
@@ -82,8 +83,8 @@ fn with_tenants(alloc: Global, tenants: &[GivenTenant]) -> Result<Lists, SetupFa
     }
     match read_forms(alloc, tenants) {
         Ok(forms) => with_forms(alloc, tenants, forms),
-        Err(PartNo::Other) => Err(SetupFault::Rule(6)),
-        Err(PartNo::Memory) => Err(SetupFault::Memory),
+        Err(ReadError::Other) => Err(SetupFault::Rule(6)),
+        Err(ReadError::Memory) => Err(SetupFault::Memory),
     }
 }
 
@@ -98,13 +99,13 @@ impl Setup {
     {
         let value = match read_document(alloc, bytes) {
             Ok(value) => value,
-            Err(PartNo::Other) => return Err(SetupFault::Text),
-            Err(PartNo::Memory) => return Err(SetupFault::Memory),
+            Err(ReadError::Other) => return Err(SetupFault::Text),
+            Err(ReadError::Memory) => return Err(SetupFault::Memory),
         };
         let tenants = match read_tenants(alloc, &value) {
             Ok(tenants) => tenants,
-            Err(PartNo::Other) => return Err(SetupFault::Rule(1)),
-            Err(PartNo::Memory) => return Err(SetupFault::Memory),
+            Err(ReadError::Other) => return Err(SetupFault::Rule(1)),
+            Err(ReadError::Memory) => return Err(SetupFault::Memory),
         };
         match with_tenants(alloc, tenants.as_slice()) {
             Ok(lists) => Ok(Setup { lists }),

@@ -67,7 +67,7 @@ pub fn reply_limit(since: Instant, now: Instant) -> io::Result<Duration>
 }
 
 // What is left of a limit of so many seconds that began at a moment. Where nothing is left, it fails.
-fn left_of(seconds: u64, since: Instant, now: Instant) -> io::Result<Duration>
+pub(crate) fn left_of(seconds: u64, since: Instant, now: Instant) -> io::Result<Duration>
     ensures { MatchResult result (λ left. (0 < as_nanos left) × (as_nanos left ≡ left_nanos seconds since now)) (λ _. left_nanos seconds since now ≡ 0) }
 {
     let left = Duration::from_secs(seconds).saturating_sub(now.duration_since(since));

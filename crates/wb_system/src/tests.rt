@@ -1,7 +1,7 @@
 //! Tests over loopback, and of what clocks and sources of random bytes tell.
 
 use crate::transfer::{read_some, send_all};
-use crate::{RealTicker, TcpLink, TcpLinks};
+use crate::{RealTicker, TcpCall, TcpDial, TcpLink, TcpLinks};
 use std::io;
 use std::io::{Read, Write};
 use std::net::{Shutdown, TcpListener, TcpStream};
@@ -9,9 +9,9 @@ use std::process::Abort;
 use std::random::RandomSource;
 use std::sync::atomic::{AtomicU64, Ordering};
 use std::test::Fail;
-use std::time::{Clock, Duration};
+use std::time::{Clock, Duration, Instant};
 use wb_base::{Failed, Moment, Words};
-use wb_transport::{Link, Listener, Ticker};
+use wb_transport::{Dial, Link, Listener, Ticker};
 
 // A client of a socket on loopback.
 fn client_of(rt: &HostRuntime, listener: &TcpListener) -> Result<TcpStream, Fail> {
@@ -201,6 +201,82 @@ fn a_link_without_a_clock_fails(rt: HostRuntime) -> Result<(), Fail> {
     assert_eq!(rt; link.read(&mut [0; 4]), Err(Failed));
     assert_eq!(rt; link.write_all(b"a"), Err(Failed));
     assert_eq!(rt; link.faults(), 2);
+    Ok(())
+}
+
+#[test]
+fn a_call_goes_both_ways_to_the_endpoint_that_is_dialed(rt: HostRuntime) -> Result<(), Fail> {
+    let listener = TcpListener::bind(&rt, "127.0.0.1:0")?;
+    let port = listener.local_addr()?.port();
+    let endpoint = format!(in rt.alloc(); "127.0.0.1:{port}")?;
+    let mut dial = TcpDial::new(&rt, &rt);
+    let mut call = dial.dial(endpoint.as_str()).expect(&rt, "a link");
+    may_go(&dial);
+    may_go(&call);
+    assert_eq!(rt; call.write_all(b"ping"), Ok(()));
+    let (mut peer, _) = listener.accept()?;
+    let mut got = [0; 4];
+    peer.read_exact(&mut got)?;
+    assert_eq!(rt; &got, b"ping");
+    peer.write_all(b"pong")?;
+    drop(peer);
+    assert_eq!(rt; call.read(&mut got), Ok(4));
+    assert_eq!(rt; &got, b"pong");
+    assert_eq!(rt; call.read(&mut got), Ok(0));
+    dial.close(call);
+    assert_eq!(rt; dial.faults(), 0);
+    Ok(())
+}
+
+#[test]
+fn an_endpoint_that_takes_no_connection_is_a_fault(rt: HostRuntime) -> Result<(), Fail> {
+    let listener = TcpListener::bind(&rt, "127.0.0.1:0")?;
+    let port = listener.local_addr()?.port();
+    drop(listener);
+    let endpoint = format!(in rt.alloc(); "127.0.0.1:{port}")?;
+    let mut dial = TcpDial::new(&rt, &rt);
+    for (endpoint, count) in [(endpoint.as_str(), 1), ("127.0.0.1", 2), ("[::1]:x", 3)] {
+        assert!(rt; dial.dial(endpoint).is_err());
+        assert_eq!(rt; dial.faults(), count);
+    }
+    Ok(())
+}
+
+#[test]
+fn a_connection_and_a_call_have_their_limits(rt: HostRuntime) -> Result<(), Fail> {
+    let listener = TcpListener::bind(&rt, "127.0.0.1:0")?;
+    let port = listener.local_addr()?.port();
+    let endpoint = format!(in rt.alloc(); "127.0.0.1:{port}")?;
+    assert!(rt;
+        TcpDial::new(&rt, &Hasty::new(2))
+            .dial(endpoint.as_str())
+            .is_err()
+    );
+    let clock = Hasty::new(1);
+    let mut call = TcpDial::new(&rt, &clock)
+        .dial(endpoint.as_str())
+        .expect(&rt, "a link");
+    // The connection was there at second 2, and the writes begin at 3 to 11.
+    for _ in 0..9 {
+        assert_eq!(rt; call.write_all(b"part"), Ok(()));
+    }
+    assert_eq!(rt; call.write_all(b"part"), Err(Failed));
+    assert_eq!(rt; call.read(&mut [0; 1]), Err(Failed));
+    assert_eq!(rt; call.faults(), 2);
+    Ok(())
+}
+
+#[test]
+fn a_call_waits_no_longer_than_what_is_left(rt: HostRuntime) -> Result<(), Fail> {
+    let listener = TcpListener::bind(&rt, "127.0.0.1:0")?;
+    let clock = Hasty::new(9);
+    let since = Instant::now(&clock)?;
+    let mut call = TcpCall::new(&clock, client_of(&rt, &listener)?, since);
+    // One second is left, and nothing comes.
+    let start = rt.monotonic()?;
+    assert_eq!(rt; call.read(&mut [0; 4]), Err(Failed));
+    let waited = rt.monotonic()?.saturating_sub(start);
+    assert!(rt; Duration::from_millis(900) < waited && waited < Duration::from_secs(4));
     Ok(())
 }
 

@@ -39,7 +39,7 @@ use Rattle.wb_tables.specs.Indexed.{IsIndexed, AreCustodied, AreFewRequests, exp
 use Rattle.wb_tables.specs.Lives.{case_of}
 use Rattle.wb_base.specs.Calendars.{Calendar}
 use Rattle.wb_tables.specs.Lives.{AreEarly, HasEarlyDays}
-use Rattle.wb_tables.specs.Noted.{IsActed, IsMoved, IsNoted, IsReady}
+use Rattle.wb_tables.specs.Noted.{IsActed, IsMoved, IsNoted, IsReadyNote}
 use Rattle.wb_tables.specs.declared.noting.NotedEntry.{NotedEntry}
 use Rattle.wb_tables.specs.declared.tenancy.Report.{Report as KeptCase}
 use Rattle.wb_tables.proofs.CaseLists.{number_of, report-found}
@@ -423,7 +423,7 @@ act_room calendar desk trail (acts.Label text) = tt
 act_room calendar desk trail _ = tt
 
 pub acted_ready : (calendar : Calendar) (n at : ℕ) (by : Actor) (act : Act) (cs : List KeptCase) (x y : KeptCase) (answer : Result Entry CaseFault) → find (has_key nat_cmp number_of n) cs ≡ Some x → y.number ≡ x.number → IsActed calendar at by act x y answer
-    → IfOk answer (λ e. right_actor e.deed e.by ≡ true → IsReady n e (insert_item nat_cmp number_of cs y))
+    → IfOk answer (λ e. right_actor e.deed e.by ≡ true → IsReadyNote n e (insert_item nat_cmp number_of cs y))
 acted_ready calendar n at by act cs x y (Err fault) found number acted = tt
 acted_ready calendar n at by act cs x y (Ok e) found number acted = λ actor.
     let deed = ap (λ (z : Entry). z.deed) acted.plan.1 in
@@ -439,7 +439,7 @@ acted_custodied calendar n at by act cs x y answer all found acted =
     custodied_changed cs y all (ap (λ (d : Desk). d.items) acted.desk ∙ (custodied_found (has_key nat_cmp number_of n) cs x all found ∙ sym (ap requests acted.items)))
 
 pub moved_ready : (n at : ℕ) (by : Actor) (move : Move) (cs : List KeptCase) (x y : KeptCase) (answer : Result Entry CustodyFault) → find (has_key nat_cmp number_of n) cs ≡ Some x → y.number ≡ x.number → IsMoved at by move x y answer
-    → IfOk answer (λ e. IsReady n e (insert_item nat_cmp number_of cs y))
+    → IfOk answer (λ e. IsReadyNote n e (insert_item nat_cmp number_of cs y))
 moved_ready n at by move cs x y (Err fault) found number made = tt
 moved_ready n at by move cs x y (Ok e) found number made = record {
   report = y;

@@ -31,11 +31,11 @@ proposal_of (proposals.ToContext c next) = settings.ToContext c next
 proposal_of (proposals.ToForm f form) = settings.ToForm f (Ok form)
 
 -- it is in its ranges: the recipients of a context are distinct and it keeps its reports for a day at least, and a form is good
-abbrev pub IsSound : Proposal → Type 0
-IsSound (proposals.ToTenant next) = Unit {0}
-IsSound (proposals.ToUser u next) = Unit {0}
-IsSound (proposals.ToContext c next) = (are_distinct next.recipients ≡ true) × (1 ≤ next.retention)
-IsSound (proposals.ToForm f form) = is_good form ≡ true
+abbrev pub IsSoundProposal : Proposal → Type 0
+IsSoundProposal (proposals.ToTenant next) = Unit {0}
+IsSoundProposal (proposals.ToUser u next) = Unit {0}
+IsSoundProposal (proposals.ToContext c next) = (are_distinct next.recipients ≡ true) × (1 ≤ next.retention)
+IsSoundProposal (proposals.ToForm f form) = is_good form ≡ true
 
 -- the first rule that refuses it
 abbrev pub fault_of : Registry → Proposal → Option AdminFault
@@ -66,7 +66,7 @@ HasPlace c (proposals.ToContext id next) = 0 < c.contexts
 HasPlace c (proposals.ToForm f form) = 0 < c.forms
 
 -- what `plan` leaves and `set` asks for: it is in its ranges, which `plan` asks for too, nothing refuses it, and there is room for it
-pub record IsReady (c : Configured) (next : Proposal) : Type 0 where
-  pub sound : IsSound next
+pub record IsReadyToSet (c : Configured) (next : Proposal) : Type 0 where
+  pub sound : IsSoundProposal next
   pub fault : fault_of c.registry next ≡ None
   pub room : HasPlace c next

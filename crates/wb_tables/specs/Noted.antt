@@ -20,17 +20,17 @@ use Rattle.wb_tables.specs.declared.noting.NotedEntry.{NotedEntry}
 use Rattle.wb_tables.specs.declared.tenancy.Report.{Report}
 
 -- there is room on a report for an entry, which is by whom it may be
-pub record IsRoomy (e : Entry) (r : Report) : Type 0 where
+pub record HasRoomToNote (e : Entry) (r : Report) : Type 0 where
   pub room : 0 < r.case.spare
   pub few : needed_by e.deed ≤ 32
   pub desk : HasRoom r.desk e.deed
   pub actor : right_actor e.deed e.by ≡ true
 
 -- the report of a number is there, with room for an entry, which is no submission
-pub record IsReady (n : ℕ) (e : Entry) (reports : List Report) : Type 0 where
+pub record IsReadyNote (n : ℕ) (e : Entry) (reports : List Report) : Type 0 where
   pub report : Report
   pub found : find (has_key nat_cmp (λ (r : Report). r.number) n) reports ≡ Some report
-  pub roomy : IsRoomy e report
+  pub roomy : HasRoomToNote e report
   pub later : submission_in e.deed ≡ None
 
 -- an act was planned on a calendar: the report is as it was, but for its room
@@ -46,7 +46,7 @@ pub record IsMoved (at : ℕ) (by : Actor) (move : Move) (old new : Report) (ans
   pub items : new.case.items ≡ old.case.items
   pub requests : new.desk.items ≡ old.desk.items
   pub plan : custody.GivesPlan (length old.case.items) (has_identity old.case.items) old.desk.items at by move answer
-  pub roomy : IfOk answer (λ e. IsRoomy e new)
+  pub roomy : IfOk answer (λ e. HasRoomToNote e new)
 
 -- an entry was noted, before which the report expired on one day and after which on another, and after which it has requests or none
 pub record IsNoted (e : Entry) (old new : Report) (answer : NotedEntry) : Type 0 where

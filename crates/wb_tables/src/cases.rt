@@ -15,7 +15,7 @@ ghost use Rattle.wb_model.specs.Trails.{has_identity, submitted};
 ghost use Rattle.wb_model.specs.declared.entry.Entry.{Entry as EntryData};
 ghost use Rattle.wb_tables.specs.Indexed.{AreCustodied, AreExpired, AreFewRequests, IsTakenOut, expiry_of, has_requests, moved};
 ghost use Rattle.wb_tables.specs.Lives.{AreEarly, HasEarlyDays, case_of, lives_on};
-ghost use Rattle.wb_tables.specs.Noted.{IsReady};
+ghost use Rattle.wb_tables.specs.Noted.{IsReadyNote};
 ghost use Rattle.wb_tables.specs.Receipted.{HasOwnReceipt, is_submitted};
 ghost use Rattle.wb_terms.specs.Index.{same_term};
 ghost use Rattle.wb_terms.specs.declared.term_index.Term.{Term as TermData};
@@ -211,7 +211,7 @@ impl Cases {
         ensures tenant { self.new.tenant ≡ self.old.tenant }
         ensures cases { map case_of self.new.items ≡ map case_of self.old.items }
         ensures plan { (trail : List EntryData) → report_by number (map case_of self.old.items) ≡ Some (record { number = number; trail = trail }) → GivesPlan calendar.now trail at by act result }
-        ensures ready { IfOk result (λ entry. right_actor entry.deed entry.by ≡ true → IsReady number entry self.new.items) }
+        ensures ready { IfOk result (λ entry. right_actor entry.deed entry.by ≡ true → IsReadyNote number entry self.new.items) }
     {
         self.cases.change(
             &number.get(),
@@ -239,14 +239,14 @@ impl Cases {
         ensures tenant { self.new.tenant ≡ self.old.tenant }
         ensures cases { map case_of self.new.items ≡ map case_of self.old.items }
         ensures plan { (trail : List EntryData) → report_by number (map case_of self.old.items) ≡ Some (record { number = number; trail = trail }) → custody.GivesPlan (length trail) (has_identity trail) (requests trail) at by move_ result }
-        ensures ready { IfOk result (λ entry. IsReady number entry self.new.items) }
+        ensures ready { IfOk result (λ entry. IsReadyNote number entry self.new.items) }
     {
         self.cases.change(&number.get(), Moving { at, by, move_ })
     }
 
     /// Puts an entry on the report of a number, into room that was made there and here. It takes no memory.
     pub fn note(&mut self, number: Number, entry: Entry)
-        requires ready { IsReady number entry self.old.items }
+        requires ready { IsReadyNote number entry self.old.items }
         requires room { 0 < self.old.spare }
         ensures tenant { self.new.tenant ≡ self.old.tenant }
         ensures cases { map case_of self.new.items ≡ map (noted number entry) (map case_of self.old.items) }

@@ -4,7 +4,7 @@ ghost use Rattle.std.specs.Option.{option_copied};
 ghost use Rattle.wb_model.specs.Openings.{registry_of};
 ghost use Rattle.wb_model.specs.Tables.{user as user_by, user_named as user_called, context as context_by, newest_form as newest_form_by, disablings as disablings_of};
 ghost use Rattle.wb_model.specs.Settings.{configured};
-ghost use Rattle.wb_tables.specs.Configured.{IsReady, IsSound, fault_of, row_of, setting_of};
+ghost use Rattle.wb_tables.specs.Configured.{IsReadyToSet, IsSoundProposal, fault_of, row_of, setting_of};
 ghost use Rattle.wb_tenants.specs.Sets.{HasTenant, version_of};
 
 use crate::proposal::Proposal;
@@ -119,13 +119,13 @@ impl Configuration {
     /// The row that what is asked to be set will have, with the room for it, or the first rule that refuses it. What the
     /// tenant is set up with stays as it is.
     pub fn plan(&mut self, next: &Proposal) -> Result<Row, AdminFault>
-        requires sound { IsSound next.now }
+        requires sound { IsSoundProposal next.now }
         ensures tenant { self.new.tenant ≡ self.old.tenant }
         ensures registry { self.new.registry ≡ self.old.registry }
         ensures fault { IfErr result (λ fault. fault ≢ AdminFault.Memory → fault_of self.old.registry next.now ≡ Some fault) }
         ensures wants { result ≡ Err AdminFault.Memory → fault_of self.old.registry next.now ≡ None }
         ensures row { IfOk result (λ kept. kept ≡ row_of self.old.tenant self.old.registry next.now) }
-        ensures ready { OnOk result (IsReady self.new next.now) }
+        ensures ready { OnOk result (IsReadyToSet self.new next.now) }
     {
         match next {
             Proposal::ToTenant(next) => self.registry.plan_settings(self.tenant, next),
@@ -137,7 +137,7 @@ impl Configuration {
 
     /// Sets what was asked and planned. It takes no memory and cannot fail.
     pub fn set(&mut self, next: Proposal)
-        requires ready { IsReady self.old next }
+        requires ready { IsReadyToSet self.old next }
         ensures tenant { self.new.tenant ≡ self.old.tenant }
         ensures registry { self.new.registry ≡ configured (setting_of self.old.tenant self.old.registry next) self.old.registry }
     {

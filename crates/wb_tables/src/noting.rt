@@ -92,9 +92,9 @@ pub(crate) fn expires(report: &Report) -> Day
 impl ItemChange<BoxedReport> for Noting {
     type Answer = NotedEntry;
 
-    ghost use Rattle.wb_tables.specs.Noted.{IsRoomy, IsNoted};
+    ghost use Rattle.wb_tables.specs.Noted.{HasRoomToNote, IsNoted};
 
-    ghost asks = { λ noting report. IsRoomy noting.0 report };
+    ghost asks = { λ noting report. HasRoomToNote noting.0 report };
 
     ghost makes = { λ noting old new answer. IsNoted noting.0 old new answer };
 

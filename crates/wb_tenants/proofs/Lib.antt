@@ -1,7 +1,6 @@
 pub mod TenantRuns
 pub mod LookUps
 pub mod Versions
-pub mod PlainRows
 pub mod Others
 pub mod TenantParts
 pub mod Kept

@@ -10,10 +10,10 @@ ghost use Rattle.wb_tenants.specs.Sets.{HasTenant, with_context};
 
 use crate::Registry;
 use crate::copies::copy_context;
-use crate::rows::context_row;
 use wb_base::{Memory, Role, Row, Tenant, UserId};
 use wb_list::Items;
 use wb_model::{AdminFault, ContextItem, ContextSet};
+use wb_row_codec::context_row;
 
 // Distinct ids in their order. It takes no memory.
 fn in_order(users: Items<UserId>) -> Items<UserId>

@@ -9,9 +9,9 @@ ghost use Rattle.wb_model.specs.Tables.{newest_form as newest_form_in};
 ghost use Rattle.wb_tenants.specs.Sets.{HasTenant, with_form};
 
 use crate::Registry;
-use crate::rows::form_row;
 use wb_base::{Form, Format, Memory, Row, Tenant};
 use wb_model::{AdminFault, FormItem};
+use wb_row_codec::form_row;
 
 impl Registry {
     // The number of the newest version of a form, 0 where there is none.

@@ -9,7 +9,6 @@ mod joined;
 mod laws;
 mod owned;
 mod registry;
-mod rows;
 mod settings;
 mod spare;
 mod tenant_part;
@@ -23,5 +22,4 @@ pub use laws::{
     settings_are_set_in_their_tenant_alone,
 };
 pub use registry::Registry;
-pub use rows::{context_row, form_row, settings_row, user_row};
 pub use wb_setup::{Setup, SetupFault};

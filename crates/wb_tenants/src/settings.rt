@@ -10,11 +10,11 @@ ghost use Rattle.wb_tenants.specs.Sets.{HasTenant, is_tenant, settings_in, set_t
 use crate::Registry;
 use crate::copies::copy_settings;
 use crate::joined::Added;
-use crate::rows::settings_row;
 use std::mem;
 use wb_base::{Memory, Row, Tenant};
 use wb_list::Items;
 use wb_model::{AdminFault, SettingsSet, TenantItem};
+use wb_row_codec::settings_row;
 use wb_setup::place;
 
 // Sets new settings of a tenant.

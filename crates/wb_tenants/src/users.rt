@@ -11,10 +11,10 @@ ghost use Rattle.wb_tenants.specs.Sets.{HasTenant, set_user as user_set, with_us
 
 use crate::Registry;
 use crate::copies::copy_user;
-use crate::rows::user_row;
 use wb_access::digest;
 use wb_base::{Digest, Memory, Row, Salt, Tenant, Text, UserId};
 use wb_model::{AdminFault, UserItem, UserSet};
+use wb_row_codec::user_row;
 
 // Another of these users who has the name.
 fn other_named<'a>(users: &'a [UserItem], id: UserId, next: &UserSet) -> Option<&'a UserItem>

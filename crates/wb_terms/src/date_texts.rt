@@ -2,8 +2,8 @@
 ghost use Rattle.std.specs.Prelude.{◌≡◌, ◌<◌, IfSome};
 ghost use Rattle.wb_base.specs.DateTexts.{date_text as date_text_of, day_if_real, number_of, read_date as read_date_of};
 
-use crate::days::date_of;
-use jiff_core::civil::Date;
+use crate::days::{date_of, day_on};
+use jiff::civil::Date;
 use wb_base::Day;
 
 /// The text of a day's date: ten ASCII bytes `YYYY-MM-DD`.
@@ -11,7 +11,8 @@ pub fn date_text(day: Day) -> [u8; 10]
     ensures { result ≡ date_text_of day }
 {
     let date = date_of(day);
-    let year = date.year as u16;
+    let year = date.year() as u16;
+    let (month, day_of_month) = (date.month() as u8, date.day() as u8);
     let (century, rest) = (year / 100, year % 100);
     [
         b'0' + (century / 10) as u8,
@@ -19,11 +20,11 @@ pub fn date_text(day: Day) -> [u8; 10]
         b'0' + (rest / 10) as u8,
         b'0' + (rest % 10) as u8,
         b'-',
-        b'0' + date.month / 10,
-        b'0' + date.month % 10,
+        b'0' + month / 10,
+        b'0' + month % 10,
         b'-',
-        b'0' + date.day / 10,
-        b'0' + date.day % 10,
+        b'0' + day_of_month / 10,
+        b'0' + day_of_month % 10,
     ]
 }
 
@@ -50,7 +51,7 @@ fn real_day(year: u16, month: u8, day: u8) -> Option<Day>
         return None;
     }
     match Date::new(year as i16, month as i8, day as i8) {
-        Ok(date) => Some(Day::new(date.to_unix_epoch_day())),
+        Ok(date) => Some(day_on(date)),
         Err(_) => None,
     }
 }

@@ -3,10 +3,10 @@ ghost use Rattle.std.specs.Prelude.{◌≡◌, ◌≤◌, ◌≤ℤ◌, ◌+ℤ�
 ghost use Rattle.jiff_core.specs.Calendar.{IsBetween};
 ghost use Rattle.wb_base.specs.Calendars.{end, after_weekend as next_open, after_holiday as next_after};
 ghost use Rattle.wb_base.specs.Days.{IsDay, IsEarlyDay};
-ghost use Rattle.wb_base.specs.Terms.{months_later, feedback_months as months_of, ack_due as ack_due_of, expiry as expiry_of, feedback_due as feedback_due_of};
+ghost use Rattle.wb_base.specs.Terms.{feedback_months as months_of, ack_due as ack_due_of, expiry as expiry_of, feedback_due as feedback_due_of};
 
-use crate::days::date_of;
-use jiff_core::civil::Date;
+use crate::days::{date_of, days_after, months_after};
+use jiff::civil::Weekday;
 use wb_base::{Calendar, Day};
 
 /// The day itself, or the Monday after it where it is a Saturday or a Sunday.
@@ -17,10 +17,9 @@ fn after_weekend(day: Day) -> Day
     ensures low { neg_ℤ (pos 1) ≤ℤ result }
     ensures high { result ≤ℤ (day +ℤ pos 2) }
 {
-    // 1970-01-01 was a Thursday.
-    match (day.days() + 3).rem_euclid(7) {
-        5 => Day::new(day.days() + 2),
-        6 => Day::new(day.days() + 1),
+    match date_of(day).weekday() {
+        Weekday::Saturday => days_after(day, 2),
+        Weekday::Sunday => days_after(day, 1),
         _ => day,
     }
 }
@@ -34,7 +33,7 @@ fn after_holiday(day: Day, holiday: Day) -> Day
     ensures high { result ≤ℤ (day +ℤ pos 3) }
 {
     if holiday.days() == day.days() {
-        after_weekend(Day::new(holiday.days() + 1))
+        after_weekend(days_after(holiday, 1))
     } else {
         day
     }
@@ -62,21 +61,7 @@ pub fn ack_due(received: Day, calendar: &Calendar) -> Day
     requires { IsEarlyDay received }
     ensures { result ≡ ack_due_of received calendar.now }
 {
-    roll(Day::new(received.days() + 7), calendar)
-}
-
-/// The day so many months after a day: the same day of the month, or the month's last where it lacks that day.
-fn months_after(day: Day, months: u32) -> Day
-    requires day { IsBetween (neg_ℤ (pos 1)) (pos 1_190_007) day }
-    requires low { 3 ≤ months }
-    requires high { months ≤ 6 }
-    ensures value { result ≡ months_later months day }
-    ensures bounds { IsBetween (neg_ℤ (pos 1)) (pos 1_190_690) result }
-{
-    let date = date_of(day);
-    let month = date.year as u32 * 12 + (date.month as u32 - 1) + months;
-    let later = Date::constrain((month / 12) as i16, (month % 12 + 1) as u8, date.day);
-    Day::new(later.to_unix_epoch_day())
+    roll(days_after(received, 7), calendar)
 }
 
 /// How many months there are for feedback.
@@ -100,7 +85,7 @@ pub fn feedback_due(
     requires acknowledged { IfSome acknowledged IsEarlyDay }
     ensures { result ≡ feedback_due_of received acknowledged extended calendar.now }
 {
-    let from = acknowledged.unwrap_or(Day::new(received.days() + 7));
+    let from = acknowledged.unwrap_or(days_after(received, 7));
     roll(months_after(from, feedback_months(extended)), calendar)
 }
 
@@ -111,5 +96,5 @@ pub fn expiry(from: Day, retention: u16) -> Day
     requires high { retention ≤ 3650 }
     ensures { result ≡ expiry_of from retention }
 {
-    Day::new(from.days() + retention as i32)
+    days_after(from, retention)
 }

@@ -11,12 +11,12 @@ use Rattle.wb_model.specs.Scripts.{Loss, NotLost, ByKeeper, ByMemory, Unread, Pl
 use Rattle.wb_tables.specs.Standing.{hosts_of}
 use Rattle.wb_desk.specs.Kept.{MayLose}
 use Rattle.wb_desk.specs.Turns.{StandsFor}
-use Rattle.wb_ledger.specs.Hosted.{Hosted}
-use Rattle.wb_ledger.specs.Turned.{CameTo}
+use Rattle.wb_desk.specs.Hosted.{Hosted}
+use Rattle.wb_desk.specs.Turned.{CameTo}
 use Rattle.wb_ticket_lock.specs.Histories.{Leads}
 use Rattle.wb_model.specs.Tenants.{Hosts}
 use Rattle.wb_gate.specs.Turns.{IsAsked}
-use Rattle.wb_ticket.specs.Owned.{Answered, TurnEntry, IsTurnOf, answered}
+use Rattle.wb_ticket.specs.Owned.{AskedAndTold, TurnEntry, IsTurnOf, answered}
 use Rattle.wb_ticket.specs.Scripts.{AreAnswered, IsScript, IsSpent, place_of}
 
 may : (past : Past AllOpened) (f : Frame) (loss : Loss) → MayLose past f loss → IsPossible past (place_of f loss) (Asks f.asked) loss
@@ -31,7 +31,7 @@ loss_of past f bytes ByKeeper h = tt
 loss_of past f bytes ByMemory h = tt
 loss_of past f bytes (Unread close) h = absurd h
 
-spent_first : (past : Past AllOpened) (a : Answered) (more : List Answered) (ps : List Place) → IsSpent past a → AreAnswered past more ps → AreAnswered past (a ∷ more) ps
+spent_first : (past : Past AllOpened) (a : AskedAndTold) (more : List AskedAndTold) (ps : List Place) → IsSpent past a → AreAnswered past more ps → AreAnswered past (a ∷ more) ps
 spent_first past a more [] e h = (e, h)
 spent_first past a more (p ∷ ps) e h = inl (e, h)
 
@@ -39,19 +39,19 @@ rose_on : (n m before mid now : ℕ) → RoseBy n before mid → RoseBy m mid no
 rose_on n m before mid now first then = omega (arith, first, then)
 
 -- none was left
-record IsNone (x : Hosted) (a : Answered) (y : Hosted) : Type 0 where
+record IsNone (x : Hosted) (a : AskedAndTold) (y : Hosted) : Type 0 where
   pub last : 1_000_000_000_000_000 ≤ x.desk.turns
   pub said : a.1 ≡ turns_spent
   pub hosts : hosts_of y.desk ≡ hosts_of x.desk
   pub faults : y.faults ≡ x.faults
 
 -- what a turn came to: one step of what the host stands for, or none was left
-abbrev CameSo : Hosted → Answered → Hosted → Type 0
+abbrev CameSo : Hosted → AskedAndTold → Hosted → Type 0
 CameSo x a y =
     ((past : Past AllOpened) → StandsFor (hosts_of x.desk) past → (loss : Loss) × CameTo x.faults y.faults past a.0 loss a.1 (hosts_of y.desk))
     ⊎ IsNone x a y
 
-came : (x : Hosted) (a : Answered) (y : Hosted) → IsTurnOf x a y → CameSo x a y
+came : (x : Hosted) (a : AskedAndTold) (y : Hosted) → IsTurnOf x a y → CameSo x a y
 came x a y h = go (nat_lt x.desk.turns 1_000_000_000_000_000) refl
   where
     go : (b : Bool) → nat_lt x.desk.turns 1_000_000_000_000_000 ≡ b → CameSo x a y

@@ -4,7 +4,7 @@ use Rattle.wb_model.specs.Past.{Past}
 use Rattle.wb_model.specs.Pasts.{AllOpened}
 use Rattle.wb_tables.specs.Standing.{Standing, hosts_of}
 use Rattle.wb_desk.specs.Turns.{StandsFor}
-use Rattle.wb_ledger.specs.Hosted.{Hosted}
+use Rattle.wb_desk.specs.Hosted.{Hosted}
 use Rattle.wb_ticket_lock.specs.Histories.{IsSplitInto, Leads}
 use Rattle.wb_ticket.specs.Owned.{TurnEntry, IsTurnOf}
 use Rattle.wb_ticket.specs.Scripts.{IsScript}

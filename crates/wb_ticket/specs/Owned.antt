@@ -3,28 +3,28 @@ use Rattle.std.specs.Prelude.{◌≡◌, ◌++◌, List, [], ◌∷◌}
 use Rattle.atomic_table.specs.Seated.{TableId}
 use Rattle.wb_model.specs.declared.body.Told.{Told}
 use Rattle.wb_model.specs.Requests.{Frame}
-use Rattle.wb_ledger.specs.Hosted.{Hosted, Hand}
-use Rattle.wb_ledger.specs.Turned.{Turned}
+use Rattle.wb_desk.specs.Hosted.{Hosted, Hand}
+use Rattle.wb_desk.specs.Turned.{Turned}
 use Rattle.wb_gate.specs.Turns.{IsAsked}
 use Rattle.wb_ticket_lock.specs.declared.entry.Entry.{Entry}
 
 -- what was asked at a moment with random words, and what was told
-abbrev pub Answered : Type 0
-Answered = Frame × Told
+abbrev pub AskedAndTold : Type 0
+AskedAndTold = Frame × Told
 
 -- a turn that some bytes ask, of a host in which this pass took part
 abbrev pub IsAskedTurn : Frame → Hosted → Hand → Hosted → Hand → Told → Type 0
 IsAskedTurn f host pass host' pass' told = IsAsked f.asked × Turned f host pass host' pass' told
 
 -- such a turn of the host, in which some pass took part
-abbrev pub IsTurnOf : Hosted → Answered → Hosted → Type 0
+abbrev pub IsTurnOf : Hosted → AskedAndTold → Hosted → Type 0
 IsTurnOf host a host' = (pass : Hand) × (pass' : Hand) × IsAskedTurn a.0 host pass host' pass' a.1
 
 -- a turn in its place: the host before it, what was asked and told, and the host after it
 abbrev pub TurnEntry : Type 0
-TurnEntry = Entry Hosted Answered
+TurnEntry = Entry Hosted AskedAndTold
 
-abbrev pub answered : List TurnEntry → List Answered
+abbrev pub answered : List TurnEntry → List AskedAndTold
 answered [] = []
 answered (e ∷ es) = e.deed ∷ answered es
 

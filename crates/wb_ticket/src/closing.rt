@@ -3,8 +3,8 @@ ghost use Rattle.std.specs.Prelude.{◌≡◌, ◌≤◌, ◌+◌, [], All, map,
 ghost use Rattle.wb_model.specs.Drawn.{numbers_of};
 ghost use Rattle.wb_model.specs.Rows.{rows_of};
 ghost use Rattle.wb_tables.specs.Standing.{hosts_of};
-ghost use Rattle.wb_ledger.specs.GoneOn.{IsLater};
-ghost use Rattle.wb_ledger.specs.Hosted.{turns_of, numbers_drawn, parts_of};
+ghost use Rattle.wb_desk.specs.GoneOn.{IsLater};
+ghost use Rattle.wb_desk.specs.Hosted.{turns_of, numbers_drawn, parts_of};
 ghost use Rattle.wb_ticket.specs.OneHistory.{IsLastOf};
 
 use crate::gate::TicketGate;
@@ -15,7 +15,7 @@ use std::alloc::Global;
 use std::marker::Model;
 use std::sync::ledger::Ledger;
 use wb_base::{Keeper, Memory};
-use wb_ledger::{Closed, Origin, Pass};
+use wb_desk::{Closed, Origin, Pass};
 use wb_ticket_lock::close;
 
 /// Room for the seats of a gate that is closed, so that closing wants no memory. It is seen as the number of seats for which there is room.

@@ -9,8 +9,8 @@ use std::marker::Model;
 use std::sync::Wait;
 use std::sync::ledger::Ledger;
 use wb_base::Keeper;
+use wb_desk::Origin;
 use wb_gate::{Gate, Turn};
-use wb_ledger::Origin;
 use wb_model::Told;
 use wb_ticket_lock::enter;
 
@@ -22,7 +22,7 @@ pub struct TicketGate<K: Keeper, A: Origin, B: Ledger> {
 
 impl<K: Keeper, A: Origin, B: Ledger> Model for TicketGate<K, A, B> {
     ghost use Rattle.std.specs.Prelude.{◌≡◌};
-    ghost use Rattle.wb_ledger.specs.Hosted.{Hosted};
+    ghost use Rattle.wb_desk.specs.Hosted.{Hosted};
     ghost use Rattle.wb_ticket_lock.specs.Seats.{Locked};
 
     ghost Value = { Locked Hosted };

@@ -1,6 +1,6 @@
 //! How a gate is made.
 ghost use Rattle.std.specs.Prelude.{◌≡◌, ◌<◌, ◌≤◌, [], All, IfOk, IfErr, vec_len, vec_capacity};
-ghost use Rattle.wb_ledger.specs.Hosted.{fresh};
+ghost use Rattle.wb_desk.specs.Hosted.{fresh};
 
 use crate::closing::ClosingRoom;
 use crate::gate::TicketGate;
@@ -9,7 +9,7 @@ use crate::turns::{HostLock, HostSeat};
 use std::alloc::Global;
 use std::sync::ledger::Ledger;
 use wb_base::Keeper;
-use wb_ledger::{Kept, Origin, Pass};
+use wb_desk::{Kept, Origin, Pass};
 use wb_ticket_lock::over;
 
 /// A gate with all its seats, and the room that is wanted to close it.

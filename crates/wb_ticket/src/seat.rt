@@ -3,7 +3,7 @@ use crate::turns::HostSeat;
 use std::marker::Model;
 use std::sync::ledger::Ledger;
 use wb_base::Keeper;
-use wb_ledger::{Origin, Pass};
+use wb_desk::{Origin, Pass};
 
 /// A seat of a gate, with a pass of one part to its host.
 #[derive(Drop)]

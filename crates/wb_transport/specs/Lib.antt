@@ -1,2 +1,4 @@
 pub mod Lines
 pub mod MemoryLinks
+pub mod Dials
+pub mod MemoryDials

@@ -2,15 +2,16 @@
 ghost use Rattle.std.specs.Prelude.{◌≡◌};
 ghost use Rattle.serde_json.specs.View.{view};
 ghost use Rattle.wb_model.specs.RouteBodies.{bare as bare_of, shaped as shaped_of};
-ghost use Rattle.wb_request_json.specs.Gives.{Gives};
+ghost use Rattle.wb_json.specs.Gives.{Gives};
 ghost use Rattle.wb_wire.specs.Places.{at_place};
 
 use crate::segments::number_under;
 use serde_json::Value;
 use std::alloc::Global;
+use wb_json::ReadError;
 use wb_model::{Command, Route};
 use wb_request_json::{
-    BodyNo, ask, comment, context_set, decide, extend, feedback, identity, label, login, new_form,
+    ask, comment, context_set, decide, extend, feedback, identity, label, login, new_form,
     new_status, own_comment, settings_set, share, submission, transfer, user_set,
 };
 
@@ -69,7 +70,7 @@ pub fn shaped(
     route: Route,
     numbers: &Numbers,
     value: &Value,
-) -> Result<Command, BodyNo>
+) -> Result<Command, ReadError>
     ensures { Gives (shaped_of route (at_place numbers.now) (view value.now)) result }
 {
     let t = numbers.at(b"{t}");
@@ -103,6 +104,6 @@ pub fn shaped(
             next: context_set(alloc, value)?,
         }),
         Route::SetForm => new_form(alloc, t, numbers.at(b"{f}"), value),
-        _ => Err(BodyNo::Other),
+        _ => Err(ReadError::Other),
     }
 }

@@ -1,59 +1,92 @@
 //! The table of paths: their methods, and what each asks.
 ghost use Rattle.std.specs.Prelude.{◌≡◌, length, map, drop, option_map};
 ghost use Rattle.wb_model.specs.Routes.{paths as paths_of, patterns, path_at as row_of, route as route_of};
-ghost use Rattle.wb_wire.specs.Paths.{path_of, patterns_of, methods_of};
+ghost use Rattle.wb_wire.specs.Paths.{path_of, patterns_of, methods_of, name_of};
 
+use http::Method;
 use wb_model::{PathNo, Route};
 
-/// A method of a path, and what it asks.
-pub struct Method {
-    pub name: &'static str,
-    pub route: Route,
-}
-
-/// A path, in which a name in braces stands for a number, and its methods in the order of `Allow`.
+/// A path, in which a name in braces stands for a number, and what its methods ask, in the order of `Allow`.
 pub struct Path {
     pub pattern: &'static str,
-    pub methods: &'static [Method],
+    pub methods: &'static [Route],
 }
 
 macro_rules! path {
-    ($pattern:literal, $($name:literal $route:ident),+) => {
-        Path { pattern: $pattern, methods: &[$(Method { name: $name, route: Route::$route }),+] }
+    ($pattern:literal, $($route:ident),+) => {
+        Path { pattern: $pattern, methods: &[$(Route::$route),+] }
     };
 }
 
 static PATHS: [Path; 29] = [
-    path!("/health", "GET" Health),
-    path!("/t/{t}", "GET" Public),
-    path!("/t/{t}/contexts/{c}", "GET" ContextOf),
-    path!("/t/{t}/sessions", "POST" Login, "DELETE" Logout),
-    path!("/t/{t}/reports", "POST" Submit, "GET" List),
-    path!("/t/{t}/report", "GET" OwnReport),
-    path!("/t/{t}/report/comments", "POST" OwnComment),
-    path!("/t/{t}/report/identity", "PUT" GiveIdentity),
-    path!("/t/{t}/due", "GET" DueList),
-    path!("/t/{t}/reports/{n}", "GET" ReadReport, "DELETE" Delete),
-    path!("/t/{t}/reports/{n}/comments", "POST" Comment),
-    path!("/t/{t}/reports/{n}/label", "PUT" Label),
-    path!("/t/{t}/reports/{n}/status", "PUT" SetStatus),
-    path!("/t/{t}/reports/{n}/acknowledgement", "POST" Acknowledge),
-    path!("/t/{t}/reports/{n}/feedback", "POST" Feedback),
-    path!("/t/{t}/reports/{n}/readers", "POST" Share),
-    path!("/t/{t}/reports/{n}/readers/{u}", "DELETE" Unshare),
-    path!("/t/{t}/reports/{n}/transfer", "POST" Transfer),
-    path!("/t/{t}/reports/{n}/postponement", "POST" Postpone),
-    path!("/t/{t}/reports/{n}/access", "POST" Ask),
-    path!("/t/{t}/reports/{n}/identity", "GET" ReadIdentity),
-    path!("/t/{t}/access", "GET" Requests),
-    path!("/t/{t}/access/{n}/{k}", "POST" Decide),
-    path!("/t/{t}/admin", "GET" Admin),
-    path!("/t/{t}/admin/settings", "PUT" SetSettings),
-    path!("/t/{t}/admin/users/{u}", "PUT" SetUser),
-    path!("/t/{t}/admin/contexts/{c}", "PUT" SetContext),
-    path!("/t/{t}/admin/forms/{f}", "PUT" SetForm),
-    path!("/t/{t}/reports/{n}/extension", "POST" Extend),
+    path!("/health", Health),
+    path!("/t/{t}", Public),
+    path!("/t/{t}/contexts/{c}", ContextOf),
+    path!("/t/{t}/sessions", Login, Logout),
+    path!("/t/{t}/reports", Submit, List),
+    path!("/t/{t}/report", OwnReport),
+    path!("/t/{t}/report/comments", OwnComment),
+    path!("/t/{t}/report/identity", GiveIdentity),
+    path!("/t/{t}/due", DueList),
+    path!("/t/{t}/reports/{n}", ReadReport, Delete),
+    path!("/t/{t}/reports/{n}/comments", Comment),
+    path!("/t/{t}/reports/{n}/label", Label),
+    path!("/t/{t}/reports/{n}/status", SetStatus),
+    path!("/t/{t}/reports/{n}/acknowledgement", Acknowledge),
+    path!("/t/{t}/reports/{n}/feedback", Feedback),
+    path!("/t/{t}/reports/{n}/readers", Share),
+    path!("/t/{t}/reports/{n}/readers/{u}", Unshare),
+    path!("/t/{t}/reports/{n}/transfer", Transfer),
+    path!("/t/{t}/reports/{n}/postponement", Postpone),
+    path!("/t/{t}/reports/{n}/access", Ask),
+    path!("/t/{t}/reports/{n}/identity", ReadIdentity),
+    path!("/t/{t}/access", Requests),
+    path!("/t/{t}/access/{n}/{k}", Decide),
+    path!("/t/{t}/admin", Admin),
+    path!("/t/{t}/admin/settings", SetSettings),
+    path!("/t/{t}/admin/users/{u}", SetUser),
+    path!("/t/{t}/admin/contexts/{c}", SetContext),
+    path!("/t/{t}/admin/forms/{f}", SetForm),
+    path!("/t/{t}/reports/{n}/extension", Extend),
 ];
+
+/// The method that asks this (RFC 9110, section 9).
+pub fn method_of(route: Route) -> Method
+    ensures { result ≡ name_of route }
+{
+    match route {
+        Route::Health
+        | Route::Public
+        | Route::ContextOf
+        | Route::List
+        | Route::OwnReport
+        | Route::DueList
+        | Route::ReadReport
+        | Route::ReadIdentity
+        | Route::Requests
+        | Route::Admin => Method::GET,
+        Route::Login
+        | Route::Submit
+        | Route::OwnComment
+        | Route::Comment
+        | Route::Acknowledge
+        | Route::Feedback
+        | Route::Share
+        | Route::Transfer
+        | Route::Postpone
+        | Route::Extend
+        | Route::Ask
+        | Route::Decide => Method::POST,
+        Route::GiveIdentity
+        | Route::Label
+        | Route::SetStatus
+        | Route::SetSettings
+        | Route::SetUser
+        | Route::SetContext
+        | Route::SetForm => Method::PUT,
+        Route::Logout | Route::Delete | Route::Unshare => Method::DELETE,
+    }
+}
 
 // All paths, in the order of their numbers.
 fn paths() -> &'static [Path]
@@ -77,13 +110,13 @@ pub fn row(number: PathNo) -> Option<&'static Path>
     paths().get(number.number() as usize - 1)
 }
 
-/// What a method of a path asks.
-pub fn route(name: &[u8], methods: &[Method]) -> Option<Route>
+/// What a method of a path asks. It takes no memory, whatever the method.
+pub fn route(name: &[u8], methods: &[Route]) -> Option<Route>
     ensures { result ≡ route_of name.now (methods_of methods.now) }
 {
-    for method in methods {
-        if method.name.as_bytes() == name {
-            return Some(method.route);
+    for route in methods {
+        if method_of(*route).as_str().as_bytes() == name {
+            return Some(*route);
         }
     }
     None

@@ -6,13 +6,14 @@ ghost use Rattle.wb_model.specs.Replies.{head_text, output_line, allow_line, clo
 ghost use Rattle.wb_model.specs.Routes.{methods as methods_by, method_names};
 ghost use Rattle.wb_wire.specs.Paths.{methods_of, more_name};
 
-use crate::paths::{Method, row};
+use crate::paths::{method_of, row};
 use crate::{Head, Line, PathNo};
 use http::StatusCode;
 use itoa::Buffer;
+use wb_model::Route;
 
-// The methods of a path.
-fn methods(path: PathNo) -> &'static [Method]
+// What the methods of a path ask.
+fn methods(path: PathNo) -> &'static [Route]
     ensures methods { methods_of result.now ≡ methods_by path }
     ensures short { length (method_names (methods_of result.now)) ≤ 12 }
 {
@@ -23,23 +24,23 @@ fn methods(path: PathNo) -> &'static [Method]
 }
 
 // The names of more methods, each after a comma and a space.
-fn put_more(head: &mut Head, methods: &[Method])
+fn put_more(head: &mut Head, methods: &[Route])
     requires { length head.old + length (flat_map more_name (methods_of methods.now)) ≤ 256 }
     ensures { head.new ≡ head.old ++ flat_map more_name (methods_of methods.now) }
 {
-    for method in methods {
+    for route in methods {
         head.put(b", ");
-        head.put(method.name.as_bytes());
+        head.put(method_of(*route).as_str().as_bytes());
     }
 }
 
 // The names of methods, parted by a comma and a space.
-fn put_methods(head: &mut Head, methods: &[Method])
+fn put_methods(head: &mut Head, methods: &[Route])
     requires { length head.old + length (method_names (methods_of methods.now)) ≤ 256 }
     ensures { head.new ≡ head.old ++ method_names (methods_of methods.now) }
 {
     if let [first, more @ ..] = methods {
-        head.put(first.name.as_bytes());
+        head.put(method_of(*first).as_str().as_bytes());
         put_more(head, more);
     }
 }

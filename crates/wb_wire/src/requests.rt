@@ -24,8 +24,8 @@ use httparse::spans::{EMPTY_HEADER_SPAN, HeaderSpan, parse_request};
 use serde_json::Value;
 use std::alloc::Global;
 use wb_form::good_forms_are_those_that_are_read;
+use wb_json::{ReadError, read_json};
 use wb_model::{Asked, Command, PathNo, Route, answers_that_are_read_stand_in_order};
-use wb_request_json::{BodyNo, read_json};
 
 /// Why a request is not read, and whether the connection closes after the reply.
 #[derive(Clone, Copy, Debug, PartialEq, Eq)]
@@ -106,8 +106,8 @@ fn body(alloc: Global, said: Option<u64>, rest: &[u8]) -> Result<Value, WireFaul
     }
     match read_json(alloc, rest) {
         Ok(value) => Ok(value),
-        Err(BodyNo::Other) => Err(WireFault::BadJson),
-        Err(BodyNo::Memory) => Err(WireFault::Memory),
+        Err(ReadError::Other) => Err(WireFault::BadJson),
+        Err(ReadError::Memory) => Err(WireFault::Memory),
     }
 }
 
@@ -125,8 +125,8 @@ fn with_body(
     let value = body(alloc, said, rest)?;
     match shaped(alloc, route, numbers, &value) {
         Ok(command) => Ok(command),
-        Err(BodyNo::Other) => Err(WireFault::BadShape),
-        Err(BodyNo::Memory) => Err(WireFault::Memory),
+        Err(ReadError::Other) => Err(WireFault::BadShape),
+        Err(ReadError::Memory) => Err(WireFault::Memory),
     }
 }
 

@@ -20,7 +20,7 @@ use Rattle.wb_desk.specs.Kept.{Took}
 use Rattle.wb_desk.specs.Turns.{StandsFor}
 use Rattle.wb_wire.specs.declared.responses.Response.{Response}
 use Rattle.wb_wire.specs.Responses.{reply_of}
-use Rattle.whistle.specs.Answered.{IsAnswer}
+use Rattle.whistle.specs.Answered.{IsAnswerTo}
 
 abbrev pub as_place : ScriptFrame → Reading → Loss → Place
 as_place frame reading loss = record { moment = frame.moment; words = frame.words; reading = reading; loss = loss }
@@ -30,7 +30,7 @@ asked_frame frame a = record { moment = frame.moment; words = frame.words; asked
 
 module _ (honest : Type 0) (holds holds' : List Row → Type 0) where
   abbrev pub Answers : Past AllOpened → ScriptFrame → Response → Hosts → ℕ → ℕ → Type 0
-  Answers past frame answer after before now = (place : Place) × IsAnswer honest holds holds' past frame answer after before now place
+  Answers past frame answer after before now = (place : Place) × IsAnswerTo honest holds holds' past frame answer after before now place
 
   -- a request that was read
   pub asked : (past : Past AllOpened) (frame : ScriptFrame) (told : Told) (a : Asked) (after : Hosts) (before now : ℕ) → Reads frame.bytes (Asks a) → (loss : Loss) × Took honest holds holds' before now past (asked_frame frame a) loss told after

@@ -7,7 +7,7 @@ use Rattle.wb_model.specs.FrameTexts.{frame_text, texts}
 use Rattle.wb_wire.specs.SetupText.{setup_line, setup_text}
 use Rattle.whistle.specs.declared.sample_setup.TheConstants.{HARBOUR}
 use Rattle.whistle.specs.Generated.{frame_at, frames_from, generated}
-use Rattle.wb_start.proofs.SinkLemmas.{front_more, front_after}
+use Rattle.wb_cli.proofs.SinkLemmas.{front_more, front_after}
 
 -- eight parts, put one after another
 pub eight : (a b c d e f g h : List ℕ) → (((((((a ++ b) ++ c) ++ d) ++ e) ++ f) ++ g) ++ h) ≡ a ++ (b ++ (c ++ (d ++ (e ++ (f ++ (g ++ h))))))

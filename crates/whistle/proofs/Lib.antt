@@ -1,3 +1,4 @@
+pub mod OpeningLemmas
 pub mod AnswerLemmas
 pub mod SinkLemmas
 pub mod GeneratedLemmas

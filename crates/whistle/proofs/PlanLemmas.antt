@@ -4,8 +4,8 @@ use Rattle.wb_base.specs.declared.rows.Row.{Row}
 use Rattle.wb_rows.specs.Held.{Held}
 use Rattle.wb_cli.specs.declared.plans.Plan.{Plan}
 use Rattle.wb_cli.specs.declared.plans.Plan.TheVariants.{Register, Forecast}
-use Rattle.wb_start.specs.declared.status.Status.{Status}
-use Rattle.wb_start.specs.declared.status.Status.TheVariants.{Usage}
+use Rattle.wb_cli.specs.declared.status.Status.{Status}
+use Rattle.wb_cli.specs.declared.status.Status.TheVariants.{Usage}
 use Rattle.wb_export.specs.Exports.{Exported}
 
 abbrev tenant_in : Plan → ℕ

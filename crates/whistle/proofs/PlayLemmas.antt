@@ -19,12 +19,14 @@ use Rattle.wb_wire.specs.FrameReading.{Progress, after_next}
 use Rattle.wb_desk.specs.Turns.{StandsFor}
 use Rattle.wb_wire.specs.declared.responses.Response.{Response}
 use Rattle.wb_wire.specs.Responses.{reply_of}
-use Rattle.whistle.specs.Answered.{IsAnswer}
+use Rattle.whistle.specs.Answered.{IsAnswerTo}
 use Rattle.wb_wire.specs.SetupText.{setup_line, setup_text, IsSetup, NoSetup}
 use Rattle.wb_wire.specs.SetupReading.{after_setup}
-use Rattle.wb_start.specs.Starts.{IsOpenedBy, Opens, unread}
+use Rattle.wb_desk.specs.Openings.{IsOpenedBy}
+use Rattle.wb_server.specs.Opens.{Opens}
+use Rattle.whistle.specs.Starts.{unread}
 use Rattle.whistle.specs.Played.{HasPlayed}
-use Rattle.whistle.specs.Runs.{script_text, Played, Wrote, BrokeOff}
+use Rattle.whistle.specs.Runs.{script_text, PlayedFrames, Wrote, BrokeOff}
 use Rattle.wb_promise.specs.Promises.{AllAsPromised}
 use Rattle.whistle.proofs.TurnLemmas.{IsReadBy, more, output_more, none_played, one_more, stands_more}
 
@@ -108,7 +110,7 @@ module _ (loaded : List Row) (setup : List ℕ) (start : Past AllOpened) where
     -- a turn whose reply was written
     pub advance : AllAsPromised loaded setup start → (left' held' : Option (List ℕ)) (keeper' : ℕ) (honest : Type 0) (holds' : List Row → Type 0) (hosts : Hosts) (reader : Progress) (frames : List ScriptFrame) (places : List Place) → Standing left' held' keeper' honest holds' hosts reader frames places
         → (left'' held'' : Option (List ℕ)) (keeper'' : ℕ) (honest' : Type 0) (holds'' : List Row → Type 0) → (honest' → honest) → (after : Hosts) (frame : ScriptFrame) (answer : Response) (place : Place) → IsFrame frame → Consumes left' left'' (frame_text frame)
-        → IsAnswer honest' holds' holds'' (past_after start places) frame answer after keeper' keeper'' place → IsReadBy after → Appends held' held'' (written (reply_of answer))
+        → IsAnswerTo honest' holds' holds'' (past_after start places) frame answer after keeper' keeper'' place → IsReadBy after → Appends held' held'' (written (reply_of answer))
         → (reader' : Progress) → reader' ≡ after_next reader (Some frame) → Standing left'' held'' keeper'' honest' holds'' after reader' (more frames frame) (more places place)
     advance promise left' held' keeper' honest holds' hosts reader frames places so_far left'' held'' keeper'' honest' holds'' back after frame answer place is_frame taken is read told reader' goes =
         record {
@@ -125,8 +127,8 @@ module _ (loaded : List Row) (setup : List ℕ) (start : Past AllOpened) where
     -- a turn whose reply was not wholly written
     pub stuck : AllAsPromised loaded setup start → (left' held' : Option (List ℕ)) (keeper' : ℕ) (honest : Type 0) (holds' : List Row → Type 0) (hosts : Hosts) (reader : Progress) (frames : List ScriptFrame) (places : List Place) → Standing left' held' keeper' honest holds' hosts reader frames places
         → (left'' held'' : Option (List ℕ)) (keeper'' : ℕ) (honest' : Type 0) (holds'' : List Row → Type 0) → (honest' → honest) → (after : Hosts) (frame : ScriptFrame) (answer : Response) (place : Place) → IsFrame frame → Consumes left' left'' (frame_text frame)
-        → IsAnswer honest' holds' holds'' (past_after start places) frame answer after keeper' keeper'' place → IsReadBy after → AppendsFront held' held'' (written (reply_of answer)) → (source source' sink sink' : ℕ)
-        → Played left left'' held held'' source source' sink sink' keeper keeper'' honest' holds holds'' loaded setup start (more frames frame) (more places place) × Consumes left left'' (script_text setup (more frames frame)) × BrokeOff left left'' held held'' source source' sink sink' keeper keeper'' honest' holds holds'' loaded setup start (more places place)
+        → IsAnswerTo honest' holds' holds'' (past_after start places) frame answer after keeper' keeper'' place → IsReadBy after → AppendsFront held' held'' (written (reply_of answer)) → (source source' sink sink' : ℕ)
+        → PlayedFrames left left'' held held'' source source' sink sink' keeper keeper'' honest' holds holds'' loaded setup start (more frames frame) (more places place) × Consumes left left'' (script_text setup (more frames frame)) × BrokeOff left left'' held held'' source source' sink sink' keeper keeper'' honest' holds holds'' loaded setup start (more places place)
     stuck promise left' held' keeper' honest holds' hosts reader frames places so_far left'' held'' keeper'' honest' holds'' back after frame answer place is_frame taken is read told source source' sink sink' =
         let consumed : Consumes left left'' (script_text setup (more frames frame)) = subst (Consumes left left'') (sym (script_more setup frames frame)) (Consumes-trans left left' left'' _ _ so_far.taken taken) in (
           record {

@@ -23,15 +23,17 @@ use Rattle.wb_rows.specs.Left.{left}
 use Rattle.wb_wire.specs.declared.responses.Response.{Response}
 use Rattle.whistle.specs.declared.counting.StatusCount.{StatusCount}
 use Rattle.whistle.specs.declared.sample_setup.TheConstants.{HARBOUR}
-use Rattle.wb_start.specs.declared.status.Status.{Status}
-use Rattle.wb_start.specs.declared.status.Status.TheVariants.{Done, Usage, ReadFault, WriteFault, NoMemory, BadFrame, Setup, OpenFault, KeptRows, TooLong, ListenFault, OutboxRows, NotThere, OutboxFault}
-use Rattle.whistle.specs.Answered.{IsAnswer}
+use Rattle.wb_cli.specs.declared.status.Status.{Status}
+use Rattle.wb_cli.specs.declared.status.Status.TheVariants.{Done, Usage, ReadFault, WriteFault, NoMemory, BadFrame, Setup, OpenFault, KeptRows, TooLong, ListenFault, OutboxRows, NotThere, OutboxFault}
+use Rattle.whistle.specs.Answered.{IsAnswerTo}
 use Rattle.whistle.specs.Counted.{IsCounted}
 use Rattle.whistle.specs.Generated.{frame_at, frames_from}
 use Rattle.whistle.specs.Played.{HasPlayed}
-use Rattle.wb_start.specs.Starts.{IsOpenedBy, Opens, Refuses, KeepsRows}
+use Rattle.wb_desk.specs.Openings.{IsOpenedBy}
+use Rattle.wb_server.specs.Opens.{Opens, Refuses}
+use Rattle.wb_rows.specs.Loaded.{KeepsRows}
 use Rattle.whistle.specs.TallyText.{counted, tally_text}
-use Rattle.whistle.specs.Tallies.{PlayedTurns, IsTallyOf, Stopped, Tallied}
+use Rattle.whistle.specs.Tallies.{PlayedTurns, IsTallyOf, StoppedTally, Tallied}
 use Rattle.wb_promise.specs.Promises.{AllAsPromised}
 use Rattle.whistle.proofs.TurnLemmas.{IsReadBy, more, replies_more, none_played, one_more, stands_more}
 use Rattle.whistle.proofs.PlayLemmas.{length_more}
@@ -75,7 +77,7 @@ module _ (keeper : ℕ) (holds : List Row → Type 0) where
   -- one more turn
   module _ (keeper' : ℕ) (honest : Type 0) (holds' : List Row → Type 0) (hosts : Hosts) (rows : List StatusCount) (turns : ℕ) (so_far : SoFar keeper' honest holds' hosts rows turns) (promise : AllAsPromised so_far.played.loaded HARBOUR.now so_far.played.start)
       (keeper'' : ℕ) (honest' : Type 0) (holds'' : List Row → Type 0) (back : honest' → honest) (after : Hosts) (frame : ScriptFrame) (is_frame : frame ≡ frame_at (turns + 1)) (answer : Response) (place : Place)
-      (is : IsAnswer honest' holds' holds'' (past_after so_far.played.start so_far.played.places) frame answer after keeper' keeper'' place) (read : IsReadBy after)
+      (is : IsAnswerTo honest' holds' holds'' (past_after so_far.played.start so_far.played.places) frame answer after keeper' keeper'' place) (read : IsReadBy after)
     where
       frames_are : frames_from 1 (turns + 1) ≡ more (frames_from 1 turns) frame
       frames_are = map-range_with_len_more frame_at 1 turns (turns + 1) (omega arith) ∙ ap (λ f. more (frames_from 1 turns) f) (sym is_frame)
@@ -119,16 +121,16 @@ module _ (keeper : ℕ) (holds : List Row → Type 0) where
 
 module _ (keeper keeper' : ℕ) (honest : Type 0) (holds holds' : List Row → Type 0) where
   -- the generated setup was refused
-  pub not_opened : (turns : ℕ) (setup : List ℕ) (status : Status) → setup ≡ HARBOUR.now → Refuses keeper keeper' honest holds holds' setup status × KeepsRows keeper keeper' honest holds holds' → Stopped keeper keeper' honest holds holds' turns status
+  pub not_opened : (turns : ℕ) (setup : List ℕ) (status : Status) → setup ≡ HARBOUR.now → Refuses keeper keeper' honest holds holds' setup status × KeepsRows honest holds holds' → StoppedTally keeper keeper' honest holds holds' turns status
   not_opened turns setup status same both = inl (record { cause = subst (λ (text : List ℕ). Refuses keeper keeper' honest holds holds' text status) same both.0; rows_as_they_were = both.1 })
 
   -- and not since the words are no form
-  pub not_usage : (turns : ℕ) (status : Status) → Stopped keeper keeper' honest holds holds' turns status → status ≢ Usage
+  pub not_usage : (turns : ℕ) (status : Status) → StoppedTally keeper keeper' honest holds holds' turns status → status ≢ Usage
   not_usage turns status (inl none) e = subst (λ (s : Status). Refuses keeper keeper' honest holds holds' HARBOUR.now s) e none.cause
   not_usage turns status (inr some) e = grind (arith, some.0, e)
 
   -- nothing is written then
-  pub none_told : (turns : ℕ) (status : Status) (held held' : Option (List ℕ)) (sink sink' : ℕ) → Stopped keeper keeper' honest holds holds' turns status → Keeps held held' → Tallied keeper keeper' honest holds holds' held held' sink sink' turns status
+  pub none_told : (turns : ℕ) (status : Status) (held held' : Option (List ℕ)) (sink sink' : ℕ) → StoppedTally keeper keeper' honest holds holds' turns status → Keeps held held' → Tallied keeper keeper' honest holds holds' held held' sink sink' turns status
   none_told turns Done held held' sink sink' (inl none) keeps = absurd none.cause
   none_told turns Done held held' sink sink' (inr some) keeps = grind (arith, some.0)
   none_told turns WriteFault held held' sink sink' (inl none) keeps = absurd none.cause

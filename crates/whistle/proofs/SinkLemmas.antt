@@ -7,7 +7,7 @@ use Rattle.wb_base.specs.Outside.{AppendsFront}
 use Rattle.wb_model.specs.Playing.{written}
 use Rattle.wb_model.specs.Replies.{head_text, output_line}
 use Rattle.wb_model.specs.Scripts.{Reply}
-use Rattle.wb_start.proofs.SinkLemmas.{front_more, front_after}
+use Rattle.wb_cli.proofs.SinkLemmas.{front_more, front_after}
 
 -- a reply's four writes, up to the first that fails
 module _ (r : Reply) (line head body : List ℕ) (is_line : line ≡ output_line r.told.status (length head + length body)) (is_head : head ≡ head_text r.told.status r.allow (length body) r.close) (is_body : body ≡ r.told.body) where

@@ -3,16 +3,16 @@ use Rattle.std.proofs.Common.{◌≡◌, ◌⊎◌, inl, inr, ℕ, List, Option,
 use Rattle.wb_base.specs.declared.rows.Row.{Row}
 use Rattle.wb_base.specs.Outside.{Rose}
 use Rattle.wb_model.specs.declared.registry.Lists.{Lists}
-use Rattle.wb_row_rules.specs.declared.faults.RowFault.{RowFault}
+use Rattle.wb_rows.specs.declared.faults.RowFault.{RowFault}
 use Rattle.wb_rows.specs.Held.{Held}
 use Rattle.wb_rows.specs.Judged.{judged}
 use Rattle.wb_setup.specs.declared.setup.SetupFault.{SetupFault}
 use Rattle.wb_setup.specs.Setups.{setup as lists_in}
 use Rattle.whistle.specs.declared.sample_setup.TheConstants.{HARBOUR}
-use Rattle.wb_start.specs.declared.status.Status.{Status}
-use Rattle.wb_start.specs.declared.status.Status.TheVariants.{Done, Usage, ReadFault, WriteFault, NoMemory, BadFrame, Setup, OpenFault, KeptRows, TooLong, ListenFault, OutboxRows, NotThere, OutboxFault}
-use Rattle.wb_start.specs.Starts.{Refuses}
-use Rattle.whistle.specs.Tallies.{Stopped, Tallied}
+use Rattle.wb_cli.specs.declared.status.Status.{Status}
+use Rattle.wb_cli.specs.declared.status.Status.TheVariants.{Done, Usage, ReadFault, WriteFault, NoMemory, BadFrame, Setup, OpenFault, KeptRows, TooLong, ListenFault, OutboxRows, NotThere, OutboxFault}
+use Rattle.wb_server.specs.Opens.{Refuses}
+use Rattle.whistle.specs.Tallies.{StoppedTally, Tallied}
 
 setup_stands : (text : List ℕ) (lists : Lists) (fault : SetupFault) → lists_in text ≡ Ok lists → lists_in text ≡ Err fault → ⊥
 setup_stands text lists fault reads refused = grind (arith, reads, refused)
@@ -40,7 +40,7 @@ module _ (keeper keeper' : ℕ) (honest : Type 0) (holds holds' : List Row → T
   not_opened NotThere refuses = absurd refuses
   not_opened OutboxFault refuses = absurd refuses
 
-  stopped : (turns : ℕ) (status : Status) → Stopped keeper keeper' honest holds holds' turns status → Comes status
+  stopped : (turns : ℕ) (status : Status) → StoppedTally keeper keeper' honest holds holds' turns status → Comes status
   stopped turns status (inl none) = not_opened status none.cause
   stopped turns status (inr some) = inr (inl some.0)
 

@@ -6,7 +6,7 @@ use Rattle.std.proofs.KnownBytes.{Appends-trans, Appends-nil}
 use Rattle.wb_base.specs.Outside.{AppendsFront}
 use Rattle.whistle.specs.declared.counting.StatusCount.{StatusCount}
 use Rattle.whistle.specs.TallyText.{status_line}
-use Rattle.wb_start.proofs.SinkLemmas.{front_more, front_after}
+use Rattle.wb_cli.proofs.SinkLemmas.{front_more, front_after}
 
 abbrev lines : List StatusCount → List ℕ
 lines rows = flat_map status_line rows

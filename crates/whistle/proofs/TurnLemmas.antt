@@ -10,7 +10,7 @@ use Rattle.wb_model.specs.Rows.{rows}
 use Rattle.wb_model.specs.Tenants.{Hosts}
 use Rattle.wb_desk.specs.Turns.{StandsFor}
 use Rattle.wb_wire.specs.declared.responses.Response.{Response}
-use Rattle.whistle.specs.Answered.{IsAnswer}
+use Rattle.whistle.specs.Answered.{IsAnswerTo}
 use Rattle.whistle.specs.Played.{HasPlayed}
 use Rattle.wb_promise.specs.Promises.{AllAsPromised}
 use Rattle.wb_rows.specs.Judged.{judged}
@@ -72,7 +72,7 @@ module _ (loaded : List Row) (setup : List ℕ) (start : Past AllOpened) (keeper
 
   -- one more frame
   pub one_more : AllAsPromised loaded setup start → (keeper' : ℕ) (honest : Type 0) (holds' : List Row → Type 0) (frames : List ScriptFrame) (places : List Place) → HasPlayed keeper keeper' honest holds holds' loaded setup start frames places
-      → (keeper'' : ℕ) (honest' : Type 0) (holds'' : List Row → Type 0) → (honest' → honest) → (after : Hosts) (frame : ScriptFrame) (answer : Response) (place : Place) → IsAnswer honest' holds' holds'' (past_after start places) frame answer after keeper' keeper'' place → IsReadBy after
+      → (keeper'' : ℕ) (honest' : Type 0) (holds'' : List Row → Type 0) → (honest' → honest) → (after : Hosts) (frame : ScriptFrame) (answer : Response) (place : Place) → IsAnswerTo honest' holds' holds'' (past_after start places) frame answer after keeper' keeper'' place → IsReadBy after
       → HasPlayed keeper keeper'' honest' holds holds'' loaded setup start (more frames frame) (more places place)
   one_more promise keeper' honest holds' frames places so_far keeper'' honest' holds'' back after frame answer place is read =
       let placed : ArePlacesOf (more frames frame) (more places place) = placed_more frames places frame place so_far.placed is.of_frame in

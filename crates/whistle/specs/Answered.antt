@@ -14,7 +14,7 @@ use Rattle.wb_wire.specs.declared.responses.Response.{Response}
 
 -- the answer is what comes of this place over the past, and the host then stands for the past after it; with the keeper's count before and
 -- now, and the rows that it holds before and now where it is honest
-pub record IsAnswer (honest : Type 0) (holds holds' : List Row → Type 0) (past : Past AllOpened) (frame : ScriptFrame) (answer : Response) (after : Hosts) (keeper keeper' : ℕ) (place : Place) : Type 0 where
+pub record IsAnswerTo (honest : Type 0) (holds holds' : List Row → Type 0) (past : Past AllOpened) (frame : ScriptFrame) (answer : Response) (after : Hosts) (keeper keeper' : ℕ) (place : Place) : Type 0 where
   pub of_frame : IsPlaceOf frame place
   pub possible : IsPossible past place place.reading place.loss
   pub reply : reply_of answer ≡ (play past place).reply

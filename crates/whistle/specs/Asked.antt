@@ -5,9 +5,9 @@ use Rattle.wb_base.specs.declared.rows.Row.{Row}
 use Rattle.wb_base.specs.Outside.{AppendsFront, Rose}
 use Rattle.wb_cli.specs.declared.plans.Plan.TheVariants.{Play, Make, Tally, Register, Forecast}
 use Rattle.wb_cli.specs.CommandLine.{Asks, IsRunForm}
-use Rattle.wb_start.specs.declared.status.Status.{Status}
-use Rattle.wb_start.specs.declared.status.Status.TheVariants.{Done, Usage, WriteFault, NoMemory}
-use Rattle.wb_start.specs.Starts.{KeepsRows}
+use Rattle.wb_cli.specs.declared.status.Status.{Status}
+use Rattle.wb_cli.specs.declared.status.Status.TheVariants.{Done, Usage, WriteFault, NoMemory}
+use Rattle.wb_rows.specs.Loaded.{KeepsRows}
 use Rattle.wb_export.specs.Exports.{Exported, IsForecastOf, IsRegisterOf, has_recipient, has_tenant}
 use Rattle.whistle.specs.Generated.{generated}
 use Rattle.whistle.specs.Runs.{Ran}
@@ -42,5 +42,5 @@ pub record Did (left left' held held' : Option (List ℕ)) (source source' sink 
   pub play : (store : Option (List ℕ)) → Asks words (Play store) → Ran left left' held held' source source' sink sink' keeper keeper' honest holds holds' status
   pub make : (turns : ℕ) → Asks words (Make turns) → Writes held held' sink sink' turns status × ReadsNothing left left' source source' × KeepsNothing keeper keeper' honest holds holds'
   pub tally : (turns : ℕ) → Asks words (Tally turns) → Tallied keeper keeper' honest holds holds' held held' sink sink' turns status × ReadsNothing left left' source source'
-  pub register : (t u moment : ℕ) (store : Option (List ℕ)) → Asks words (Register t u moment store) → Exported keeper keeper' honest holds held held' sink sink' (has_recipient t u) (IsRegisterOf t u moment) status × KeepsRows keeper keeper' honest holds holds' × ReadsNothing left left' source source'
-  pub forecast : (t : ℕ) (day : ℤ) (store : Option (List ℕ)) → Asks words (Forecast t day store) → Exported keeper keeper' honest holds held held' sink sink' (has_tenant t) (IsForecastOf t day) status × KeepsRows keeper keeper' honest holds holds' × ReadsNothing left left' source source'
+  pub register : (t u moment : ℕ) (store : Option (List ℕ)) → Asks words (Register t u moment store) → Exported keeper keeper' honest holds held held' sink sink' (has_recipient t u) (IsRegisterOf t u moment) status × KeepsRows honest holds holds' × ReadsNothing left left' source source'
+  pub forecast : (t : ℕ) (day : ℤ) (store : Option (List ℕ)) → Asks words (Forecast t day store) → Exported keeper keeper' honest holds held held' sink sink' (has_tenant t) (IsForecastOf t day) status × KeepsRows honest holds holds' × ReadsNothing left left' source source'

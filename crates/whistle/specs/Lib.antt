@@ -1,3 +1,4 @@
+pub mod Starts
 pub mod Answered
 pub mod Played
 pub mod Runs

@@ -11,10 +11,11 @@ use Rattle.wb_model.specs.Pasts.{AllOpened}
 use Rattle.wb_model.specs.Playing.{written, output}
 use Rattle.wb_model.specs.Scripts.{Place, play, script_replies, past_after}
 use Rattle.wb_wire.specs.SetupText.{setup_text, IsSetup}
-use Rattle.wb_start.specs.Starts.{IsOpenedBy, OpensNone}
+use Rattle.wb_desk.specs.Openings.{IsOpenedBy}
+use Rattle.whistle.specs.Starts.{OpensNone}
 use Rattle.whistle.specs.Played.{HasPlayed}
-use Rattle.wb_start.specs.declared.status.Status.{Status}
-use Rattle.wb_start.specs.declared.status.Status.TheVariants.{Done, ReadFault, WriteFault, NoMemory, BadFrame, TooLong}
+use Rattle.wb_cli.specs.declared.status.Status.{Status}
+use Rattle.wb_cli.specs.declared.status.Status.TheVariants.{Done, ReadFault, WriteFault, NoMemory, BadFrame, TooLong}
 
 -- the text of a script: the setup's frame, and frame after frame
 abbrev pub script_text : List ℕ → List ScriptFrame → List ℕ
@@ -26,14 +27,14 @@ module _ (left left' held held' : Option (List ℕ)) (source source' sink sink' 
   -- of a host that was opened over these loaded rows with this setup, and stands for this past before its first turn
   module _ (loaded : List Row) (setup : List ℕ) (start : Past AllOpened) where
     -- the input begins with the setup and these frames, and the host played them as these places
-    pub record Played (frames : List ScriptFrame) (places : List Place) : Type 0 where
+    pub record PlayedFrames (frames : List ScriptFrame) (places : List Place) : Type 0 where
       pub good : AllByRecursion IsFrame frames
       pub begins : IfSome left (λ text. (rest : List ℕ) × (text ≡ script_text setup frames ++ rest))
       pub turns : HasPlayed keeper keeper' honest holds holds' loaded setup start frames places
 
     -- and wrote each reply
     pub record Wrote (frames : List ScriptFrame) (places : List Place) : Type 0 where
-      pub played : Played frames places
+      pub played : PlayedFrames frames places
       pub written : Appends held held' (output (script_replies start places))
 
     -- and wrote each reply but the last whole, and of the last a part that begins at its front
@@ -51,18 +52,18 @@ module _ (left left' held held' : Option (List ℕ)) (source source' sink sink' 
     TookThen frames = (part : List ℕ) × Consumes left left' (script_text setup frames ++ part) × NoFrame part
 
     -- so were 2^40 bytes in all, and one more
-    abbrev pub TookAll : List ScriptFrame → Type 0
-    TookAll frames = (part : List ℕ) × (next : ℕ) × Consumes left left' (script_text setup frames ++ part ++ next ∷ []) × NoFrame part × (length (script_text setup frames ++ part) ≡ 2 ^ 40)
+    abbrev pub TookTooMuch : List ScriptFrame → Type 0
+    TookTooMuch frames = (part : List ℕ) × (next : ℕ) × Consumes left left' (script_text setup frames ++ part ++ next ∷ []) × NoFrame part × (length (script_text setup frames ++ part) ≡ 2 ^ 40)
 
     -- what the run did with the frames, by its status
     abbrev pub Plays : Status → Type 0
     Plays Done = (frames : List ScriptFrame) × (places : List Place) × Wrote frames places × IfSome left (λ text. text ≡ script_text setup frames)
     Plays ReadFault = (frames : List ScriptFrame) × (places : List Place) × Wrote frames places × Rose source source' × TookThen frames
-    Plays WriteFault = (frames : List ScriptFrame) × (places : List Place) × Played frames places × Rose sink sink' × Consumes left left' (script_text setup frames) × BrokeOff places
+    Plays WriteFault = (frames : List ScriptFrame) × (places : List Place) × PlayedFrames frames places × Rose sink sink' × Consumes left left' (script_text setup frames) × BrokeOff places
     Plays NoMemory = (frames : List ScriptFrame) × (places : List Place) × Wrote frames places × TookThen frames
     Plays (BadFrame n) = (frames : List ScriptFrame) × (places : List Place) × Wrote frames places × TookThen frames × (n ≡ length frames + 1)
         × IfSome left (λ text. (rest : List ℕ) × (text ≡ script_text setup frames ++ rest) × IsBroken rest)
-    Plays TooLong = (frames : List ScriptFrame) × (places : List Place) × Wrote frames places × TookAll frames
+    Plays TooLong = (frames : List ScriptFrame) × (places : List Place) × Wrote frames places × TookTooMuch frames
     Plays status = ⊥
 
   -- a run that opened no host: nothing is written, and what is kept is as it was

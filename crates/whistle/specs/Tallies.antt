@@ -9,13 +9,15 @@ use Rattle.wb_model.specs.Pasts.{AllOpened, standing_hosts}
 use Rattle.wb_model.specs.Scripts.{Place, script_replies, past_after}
 use Rattle.whistle.specs.declared.counting.StatusCount.{StatusCount}
 use Rattle.whistle.specs.declared.sample_setup.TheConstants.{HARBOUR}
-use Rattle.wb_start.specs.declared.status.Status.{Status}
-use Rattle.wb_start.specs.declared.status.Status.TheVariants.{Done, WriteFault, NoMemory}
+use Rattle.wb_cli.specs.declared.status.Status.{Status}
+use Rattle.wb_cli.specs.declared.status.Status.TheVariants.{Done, WriteFault, NoMemory}
 use Rattle.whistle.specs.Counted.{AreCountsOf}
 use Rattle.whistle.specs.Generated.{frames_from}
 use Rattle.whistle.specs.Played.{HasPlayed}
 use Rattle.whistle.specs.TallyText.{tally_text}
-use Rattle.wb_start.specs.Starts.{IsOpenedBy, KeepsRows, Refuses}
+use Rattle.wb_desk.specs.Openings.{IsOpenedBy}
+use Rattle.wb_server.specs.Opens.{Refuses}
+use Rattle.wb_rows.specs.Loaded.{KeepsRows}
 
 -- what the keeper counted before and counts now, and the rows that it holds before and now, where it is honest
 module _ (keeper keeper' : ℕ) (honest : Type 0) (holds holds' : List Row → Type 0) where
@@ -34,11 +36,11 @@ module _ (keeper keeper' : ℕ) (honest : Type 0) (holds holds' : List Row → T
   -- the generated setup opened no host, and what is kept is as it was
   pub record OpenedNone (status : Status) : Type 0 where
     pub cause : Refuses keeper keeper' honest holds holds' HARBOUR.now status
-    pub rows_as_they_were : KeepsRows keeper keeper' honest holds holds'
+    pub rows_as_they_were : KeepsRows honest holds holds'
 
   -- why there is no tally: no host was opened, or there was no memory after some of the turns
-  abbrev pub Stopped : ℕ → Status → Type 0
-  Stopped turns status = OpenedNone status ⊎ ((status ≡ NoMemory) × ((played : ℕ) × (played ≤ turns) × PlayedTurns played))
+  abbrev pub StoppedTally : ℕ → Status → Type 0
+  StoppedTally turns status = OpenedNone status ⊎ ((status ≡ NoMemory) × ((played : ℕ) × (played ≤ turns) × PlayedTurns played))
 
   -- what the sink held before and holds now, with its count before and now
   module _ (held held' : Option (List ℕ)) (sink sink' : ℕ) where
@@ -46,4 +48,4 @@ module _ (keeper keeper' : ℕ) (honest : Type 0) (holds holds' : List Row → T
     abbrev pub Tallied : ℕ → Status → Type 0
     Tallied turns Done = (p : PlayedTurns turns) × ((text : List ℕ) × IsTallyOf turns p text × Appends held held' text)
     Tallied turns WriteFault = (p : PlayedTurns turns) × ((text : List ℕ) × IsTallyOf turns p text × AppendsFront held held' text) × Rose sink sink'
-    Tallied turns status = Stopped turns status × Keeps held held'
+    Tallied turns status = StoppedTally turns status × Keeps held held'

@@ -12,7 +12,7 @@ ghost use Rattle.wb_rows.specs.Left.{left};
 ghost use Rattle.wb_tables.specs.Standing.{hosts_of};
 ghost use Rattle.wb_desk.specs.Turns.{StandsFor};
 ghost use Rattle.wb_wire.specs.Responses.{reply_of};
-ghost use Rattle.whistle.specs.Answered.{IsAnswer};
+ghost use Rattle.whistle.specs.Answered.{IsAnswerTo};
 
 use std::alloc::Global;
 use wb_base::{Failed, Keeper, Sink};
@@ -29,7 +29,7 @@ pub fn answer_frame<K: Keeper>(
     frame: &ScriptFrame,
 ) -> Response
     requires { desk.old.turns < 1_000_000_000_000_000 }
-    ensures answer { (past : Past AllOpened) → StandsFor (hosts_of desk.old) past → (place : Place) × IsAnswer (K.honest keeper.new) (K.holds keeper.old) (K.holds keeper.new) past frame.now result (hosts_of desk.new) (K.count keeper.old) (K.count keeper.new) place }
+    ensures answer { (past : Past AllOpened) → StandsFor (hosts_of desk.old) past → (place : Place) × IsAnswerTo (K.honest keeper.new) (K.holds keeper.old) (K.holds keeper.new) past frame.now result (hosts_of desk.new) (K.count keeper.old) (K.count keeper.new) place }
     // The rows of what the host holds then are refused by no rule, and are read as that.
     ensures read_back { (past : Past AllOpened) → StandsFor (hosts_of desk.new) past → judged (rows past) ≡ Ok (left past) }
     ensures turns { desk.new.turns ≤ desk.old.turns + 1 }

@@ -1,16 +1,16 @@
 //! How the program ends: the words that it was called with, the number of its status, and its line on standard error.
 ghost use Rattle.std.specs.Prelude.{◌≡◌, ◌≢◌, drop, map, string_bytes, IfOk};
 ghost use Rattle.std.specs.Vec.Iter.{into_iter_items};
-ghost use Rattle.wb_start.specs.declared.status.Status.{Status};
+ghost use Rattle.wb_cli.specs.declared.status.Status.{Status};
 ghost use Rattle.whistle.specs.Exits.{TellsLine};
 ghost use Rattle.whistle.specs.Asked.{Did};
-ghost use Rattle.wb_start.specs.Statuses.{status_number};
+ghost use Rattle.wb_cli.specs.Statuses.{status_number};
 
 use crate::running::run;
 use std::alloc::Global;
 use std::env::Args;
 use wb_base::{Keeper, Memory, Sink, Source, Text};
-use wb_start::{Status, exit_line};
+use wb_cli::{Status, exit_line};
 
 // Each word as a text.
 fn texts_of(alloc: Global, rest: Args) -> Result<Vec<Text>, Memory>

@@ -12,9 +12,9 @@ use std::net::{Net, TcpListener, TcpStream};
 use std::sync::Wait;
 use std::thread::Threads;
 use wb_base::{Keeper, StdSink, StdSource, Text};
+use wb_cli::Status;
 use wb_front::Station;
-use wb_serve::{Served, serve};
-use wb_start::Status;
+use wb_server::{Served, serve};
 use wb_system::{RealTicker, TcpLinks};
 
 // A station over links of TCP, the system's clock and its random bytes.

@@ -13,10 +13,11 @@ ghost use Rattle.wb_wire.specs.SetupText.{IsSetup};
 ghost use Rattle.whistle.specs.Runs.{Ran, script_text};
 
 use crate::answering::{answer_frame, write_response};
+use crate::opening::open;
 use std::alloc::Global;
 use wb_base::{Keeper, Memory, Sink, Source};
+use wb_cli::Status;
 use wb_promise::{a_desk_leaves_rows_that_are_read, each_script_is_as_promised};
-use wb_start::{Status, open};
 use wb_wire::{FrameNo, FrameReader, Routes, one_frame, one_setup};
 
 // Plays the setup's frame and frame after frame.

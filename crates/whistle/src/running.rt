@@ -10,6 +10,7 @@ ghost use Rattle.wb_rows.specs.Held.{Held};
 ghost use Rattle.wb_rows.specs.Judged.{judged};
 ghost use Rattle.wb_setup.specs.Setups.{setup as lists_in};
 ghost use Rattle.wb_wire.specs.SetupText.{IsSetup};
+ghost use Rattle.wb_cli.specs.declared.plans.Plan.{Plan as PlanOf};
 ghost use Rattle.wb_cli.specs.declared.plans.Plan.TheVariants.{Play, Tally, Register, Forecast};
 ghost use Rattle.wb_cli.specs.CommandLine.{Asks};
 ghost use Rattle.wb_export.specs.Exports.{has_recipient, has_tenant};
@@ -21,9 +22,8 @@ use crate::playing::play_script;
 use crate::tallying::tally;
 use std::alloc::Global;
 use wb_base::{Keeper, Sink, Source, Text};
-use wb_cli::{Plan, PlanFault, plan};
+use wb_cli::{Plan, PlanFault, Status, plan};
 use wb_export::{export_forecast, export_register};
-use wb_start::Status;
 
 // Writes the script of so many turns.
 fn make_script<W: Sink>(turns: u32, sink: &mut W) -> Status
@@ -34,6 +34,42 @@ fn make_script<W: Sink>(turns: u32, sink: &mut W) -> Status
     match make(turns, sink) {
         Ok(()) => Status::Done,
         Err(_) => Status::WriteFault,
+    }
+}
+
+// Does what a plan asks, which is the one that the words say.
+fn run_plan<S: Source, W: Sink, K: Keeper>(
+    alloc: Global,
+    words: &[Text],
+    plan: &Plan,
+    source: &mut S,
+    sink: &mut W,
+    keeper: &mut K,
+) -> Status
+    requires ok { Asks words.now plan.now }
+    requires only { (other : PlanOf) → Asks words.now other → other ≡ plan.now }
+    ensures did { Did (S.left source.old) (S.left source.new) (W.held sink.old) (W.held sink.new) (S.count source.old) (S.count source.new) (W.count sink.old) (W.count sink.new) (K.count keeper.old) (K.count keeper.new) (K.honest keeper.new) (K.holds keeper.old) (K.holds keeper.new) words.now result }
+    ensures back { K.honest keeper.new → K.honest keeper.old }
+    ensures read_on { result ≢ Status.ReadFault → S.count source.new ≡ S.count source.old }
+    ensures written_on { result ≢ Status.WriteFault → W.count sink.new ≡ W.count sink.old }
+    ensures complete { (store : Option (List ℕ)) (setup : List ℕ) (lists : Lists) (frames : List ScriptFrame) (kept : List KeptRow) (held : Held) → Asks words.now (Play store) → IsSetup setup → lists_in setup ≡ Ok lists → AllByRecursion IsFrame frames → S.left source.old ≡ Some (script_text setup frames) → length (script_text setup frames) < 2 ^ 40 → K.honest keeper.new → K.holds keeper.old kept → judged kept ≡ Ok held → (Rose (S.count source.old) (S.count source.new) → ⊥) → (Rose (W.count sink.old) (W.count sink.new) → ⊥) → (Rose (K.count keeper.old) (K.count keeper.new) → ⊥) → (result ≡ Status.Done) ⊎ (result ≡ Status.NoMemory) }
+    ensures complete_tally { (turns : ℕ) (kept : List KeptRow) (held : Held) → Asks words.now (Tally turns) → K.honest keeper.new → K.holds keeper.old kept → judged kept ≡ Ok held → (Rose (W.count sink.old) (W.count sink.new) → ⊥) → (result ≡ Status.Done) ⊎ ((result ≡ Status.NoMemory) ⊎ ((result ≡ Status.OpenFault) × Rose (K.count keeper.old) (K.count keeper.new))) }
+    ensures complete_register { (t u moment : ℕ) (store : Option (List ℕ)) (kept : List KeptRow) (held : Held) → Asks words.now (Register t u moment store) → K.honest keeper.new → K.holds keeper.old kept → judged kept ≡ Ok held → has_recipient t u held ≡ true → (Rose (W.count sink.old) (W.count sink.new) → ⊥) → (Rose (K.count keeper.old) (K.count keeper.new) → ⊥) → (result ≡ Status.Done) ⊎ (result ≡ Status.NoMemory) }
+    ensures complete_forecast { (t : ℕ) (day : ℤ) (store : Option (List ℕ)) (kept : List KeptRow) (held : Held) → Asks words.now (Forecast t day store) → K.honest keeper.new → K.holds keeper.old kept → judged kept ≡ Ok held → has_tenant t held ≡ true → (Rose (W.count sink.old) (W.count sink.new) → ⊥) → (Rose (K.count keeper.old) (K.count keeper.new) → ⊥) → (result ≡ Status.Done) ⊎ (result ≡ Status.NoMemory) }
+{
+    match plan {
+        Plan::Play { .. } => play_script(alloc, source, sink, keeper),
+        Plan::Make(turns) => make_script(*turns, sink),
+        Plan::Tally(turns) => tally(alloc, *turns, sink, keeper),
+        Plan::Register {
+            tenant,
+            user,
+            moment,
+            ..
+        } => export_register(alloc, *tenant, *user, *moment, sink, keeper),
+        Plan::Forecast { tenant, day, .. } => export_forecast(alloc, *tenant, *day, sink, keeper),
+        Plan::Serve { .. } => Status::Usage,
+        Plan::Notices { .. } => Status::Usage,
     }
 }
 
@@ -62,23 +98,9 @@ pub fn run<S: Source, W: Sink, K: Keeper>(
     ensures complete_register { (t u moment : ℕ) (store : Option (List ℕ)) (kept : List KeptRow) (held : Held) → Asks words.now (Register t u moment store) → K.honest keeper.new → K.holds keeper.old kept → judged kept ≡ Ok held → has_recipient t u held ≡ true → (Rose (W.count sink.old) (W.count sink.new) → ⊥) → (Rose (K.count keeper.old) (K.count keeper.new) → ⊥) → (result ≡ Status.Done) ⊎ (result ≡ Status.NoMemory) }
     ensures complete_forecast { (t : ℕ) (day : ℤ) (store : Option (List ℕ)) (kept : List KeptRow) (held : Held) → Asks words.now (Forecast t day store) → K.honest keeper.new → K.holds keeper.old kept → judged kept ≡ Ok held → has_tenant t held ≡ true → (Rose (W.count sink.old) (W.count sink.new) → ⊥) → (Rose (K.count keeper.old) (K.count keeper.new) → ⊥) → (result ≡ Status.Done) ⊎ (result ≡ Status.NoMemory) }
 {
-    let plan = match plan(alloc, words) {
-        Ok(plan) => plan,
-        Err(PlanFault::Usage) => return Status::Usage,
-        Err(PlanFault::Memory) => return Status::NoMemory,
-    };
-    match &plan {
-        Plan::Play { .. } => play_script(alloc, source, sink, keeper),
-        Plan::Make(turns) => make_script(*turns, sink),
-        Plan::Tally(turns) => tally(alloc, *turns, sink, keeper),
-        Plan::Register {
-            tenant,
-            user,
-            moment,
-            ..
-        } => export_register(alloc, *tenant, *user, *moment, sink, keeper),
-        Plan::Forecast { tenant, day, .. } => export_forecast(alloc, *tenant, *day, sink, keeper),
-        Plan::Serve { .. } => Status::Usage,
-        Plan::Notices { .. } => Status::Usage,
+    match plan(alloc, words) {
+        Ok(plan) => run_plan(alloc, words, &plan, source, sink, keeper),
+        Err(PlanFault::Usage) => Status::Usage,
+        Err(PlanFault::Memory) => Status::NoMemory,
     }
 }

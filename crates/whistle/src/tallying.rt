@@ -1,7 +1,7 @@
 //! Generated scripts that are played and tallied.
 ghost use Rattle.std.specs.Prelude.{◌≡◌, ◌≢◌, ◌≤◌, IfOk, IfErr};
 ghost use Rattle.whistle.specs.TallyText.{counted, tally_text};
-ghost use Rattle.whistle.specs.Tallies.{PlayedTurns, IsTallyOf, Stopped, Tallied};
+ghost use Rattle.whistle.specs.Tallies.{PlayedTurns, IsTallyOf, StoppedTally, Tallied};
 
 use crate::answering::answer_frame;
 use crate::counting::{StatusCount, count_reply};
@@ -10,9 +10,10 @@ use crate::sample_setup::HARBOUR;
 use crate::tally_lines::write_tally;
 use std::alloc::Global;
 use wb_base::{Keeper, Memory, Sink};
+use wb_cli::Status;
 use wb_list::Sorted;
 use wb_promise::{a_desk_leaves_rows_that_are_read, each_script_is_as_promised};
-use wb_start::{Status, open_by};
+use wb_server::open_by;
 use wb_tables::Counts;
 use wb_wire::Routes;
 
@@ -32,7 +33,7 @@ fn play_turns<K: Keeper>(
 ) -> Result<Told, Status>
     requires { turns ≤ 20_000 }
     ensures ok { IfOk result (λ told. (played : PlayedTurns (K.count keeper.old) (K.count keeper.new) (K.honest keeper.new) (K.holds keeper.old) (K.holds keeper.new) turns) × IsTallyOf (K.count keeper.old) (K.count keeper.new) (K.honest keeper.new) (K.holds keeper.old) (K.holds keeper.new) turns played (tally_text turns told.statuses.items (counted told.held))) }
-    ensures err { IfErr result (λ status. Stopped (K.count keeper.old) (K.count keeper.new) (K.honest keeper.new) (K.holds keeper.old) (K.holds keeper.new) turns status) }
+    ensures err { IfErr result (λ status. StoppedTally (K.count keeper.old) (K.count keeper.new) (K.honest keeper.new) (K.holds keeper.old) (K.holds keeper.new) turns status) }
     ensures back { K.honest keeper.new → K.honest keeper.old }
 {
     each_script_is_as_promised();

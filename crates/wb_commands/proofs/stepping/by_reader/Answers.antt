@@ -6,7 +6,7 @@ use Rattle.wb_model.specs.Tables.{TheUser}
 use Rattle.wb_tables.specs.declared.tenancy.Who.TheVariants as kept
 use Rattle.wb_tables.specs.Kept.{case_of, place_of, tables_of}
 use Rattle.wb_queries.specs.Looks.{at_of}
-use Rattle.wb_commands.specs.Steps.{IsAsked}
+use Rattle.wb_commands.specs.Steps.{IsAskedOnReport}
 use Rattle.wb_commands.proofs.Families.{answers_fit, erased_fit, erased_step, identity_step, names_unanswered, sealed_there}
 use Rattle.wb_commands.proofs.Steps.{asked_step}
 use Rattle.wb_commands.proofs.stepping.by_reader.Goals as goal
@@ -26,7 +26,7 @@ returns-in_ok-asking-in-Ask-clause-step c =
     IfOk-weaker c.writing.result _ _
     (λ step h. asked_step c.args.tenancy.now.configuration.tenant (purged c.args.at.now.time (tables_of c.args.sealed.now.items (place_of c.args.tenancy.now))) (at_of c.args.at.now) c.args.asked.now (kept.User c.args.user) c.args.report.now asks step
     (names_unanswered g trail c.args.asked.now c.requires.suits) c.requires.there
-    (subst (λ y. IsAsked (at_of c.args.at.now) g (Some (TheUser c.args.user)) c.args.asked.now.session trail y asks) (sym c.in-Ask.is) (c.in_ok-asking-in-Ask.ensures.asked (at_of c.args.at.now) c.args.asked.now.session trail c.in-Ask.t c.in-Ask.n))
+    (subst (λ y. IsAskedOnReport (at_of c.args.at.now) g (Some (TheUser c.args.user)) c.args.asked.now.session trail y asks) (sym c.in-Ask.is) (c.in_ok-asking-in-Ask.ensures.asked (at_of c.args.at.now) c.args.asked.now.session trail c.in-Ask.t c.in-Ask.n))
     c.in_ok-asking-in-Ask.ensures.sound h) c.writing.ensures
 
 pub returns-in_ok-asks-in-Decide-clause-step : goal.returns-in_ok-asks-in-Decide-clause-step
@@ -37,7 +37,7 @@ returns-in_ok-asks-in-Decide-clause-step c =
     IfOk-weaker c.writing-in-Decide.result _ _
     (λ step h. asked_step c.args.tenancy.now.configuration.tenant (purged c.args.at.now.time (tables_of c.args.sealed.now.items (place_of c.args.tenancy.now))) (at_of c.args.at.now) c.args.asked.now (kept.User c.args.user) c.args.report.now asks step
     (names_unanswered g trail c.args.asked.now c.requires.suits) c.requires.there
-    (subst (λ y. IsAsked (at_of c.args.at.now) g (Some (TheUser c.args.user)) c.args.asked.now.session trail y asks) (sym c.in-Decide.is) (c.in_ok-asks-in-Decide.ensures.asked (at_of c.args.at.now) c.args.user c.args.asked.now.session c.in-Decide.t c.in-Decide.n))
+    (subst (λ y. IsAskedOnReport (at_of c.args.at.now) g (Some (TheUser c.args.user)) c.args.asked.now.session trail y asks) (sym c.in-Decide.is) (c.in_ok-asks-in-Decide.ensures.asked (at_of c.args.at.now) c.args.user c.args.asked.now.session c.in-Decide.t c.in-Decide.n))
     (c.in_ok-asks-in-Decide.ensures.sound c.args.user) h) c.writing-in-Decide.ensures
 
 pub returns-in_ok-acting-in_default : goal.returns-in_ok-acting-in_default

@@ -9,7 +9,7 @@ use Rattle.wb_model.specs.Tables.{TheReporter}
 use Rattle.wb_tables.specs.declared.tenancy.Who.TheVariants as kept
 use Rattle.wb_tables.specs.Kept.{case_of, place_of, tables_of}
 use Rattle.wb_queries.specs.Looks.{at_of}
-use Rattle.wb_commands.specs.Steps.{IsAsked}
+use Rattle.wb_commands.specs.Steps.{IsAskedOnReport}
 use Rattle.wb_commands.proofs.Families.{given_step, own_step, sealed_there, unanswered}
 use Rattle.wb_commands.proofs.Steps.{asked_step}
 use Rattle.wb_commands.proofs.stepping.by_reporter.Goals as goal
@@ -30,7 +30,7 @@ returns-in_ok-commenting-in-OwnComment-clause-step c =
     IfOk-weaker c.writing.result _ _
     (λ step h. asked_step c.args.tenancy.now.configuration.tenant (purged c.args.at.now.time (tables_of c.args.sealed.now.items (place_of c.args.tenancy.now))) (at_of c.args.at.now) c.args.asked.now (kept.Reporter c.args.report.now.number) c.args.report.now asks step
     (unanswered g trail c.args.asked.now (commands.OwnComment c.in-OwnComment.t c.in-OwnComment.text) c.in-OwnComment.is refl refl refl) c.requires.there
-    (subst (λ y. IsAsked (at_of c.args.at.now) g (Some (TheReporter c.args.report.now.number)) c.args.asked.now.session trail y asks) (sym c.in-OwnComment.is) (c.in_ok-commenting-in-OwnComment.ensures.asked (at_of c.args.at.now) g c.args.report.now.number c.in-OwnComment.t c.args.asked.now.session trail))
+    (subst (λ y. IsAskedOnReport (at_of c.args.at.now) g (Some (TheReporter c.args.report.now.number)) c.args.asked.now.session trail y asks) (sym c.in-OwnComment.is) (c.in_ok-commenting-in-OwnComment.ensures.asked (at_of c.args.at.now) g c.args.report.now.number c.in-OwnComment.t c.args.asked.now.session trail))
     c.in_ok-commenting-in-OwnComment.ensures.sound h) c.writing.ensures
 
 pub returns-in-GiveIdentity-clause-step : goal.returns-in-GiveIdentity-clause-step

@@ -8,7 +8,7 @@ use Rattle.wb_model.proofs.Leaving.{apart_filter}
 use Rattle.wb_tables.specs.Kept.{case_of, live_plain, place_of, plain_of, tables_of}
 use Rattle.wb_tables.specs.Logins.{who_seen}
 use Rattle.wb_queries.specs.Looks.{at_of}
-use Rattle.wb_commands.specs.Steps.{IsStep}
+use Rattle.wb_commands.specs.Steps.{IsDraftOf}
 use Rattle.wb_commands.proofs.Families.{few_filtered, few_there, found_passes}
 use Rattle.wb_commands.proofs.Suits.{reporter_number, target_there}
 use Rattle.wb_commands.proofs.stepping.on.Goals as goal
@@ -53,4 +53,4 @@ returns-in-Reporter-clause-step c =
     let who = ap who_seen c.in-Reporter.is in
     let on : target p c.args.asked.now.session (outline c.args.asked.now.command) ≡ On (TheReporter c.in-Reporter.field-0) case = c.requires.target ∙ ap (λ w. On w case) who in
     let same = who ∙ ap TheReporter (reporter_number p c.args.asked.now.session c.args.asked.now.command c.in-Reporter.field-0 case on) in
-    IfOk-weaker c.by_reporter.result _ _ (λ step h. subst (λ w. IsStep c.args.tenancy.now.configuration.tenant (purged c.args.at.now.time (tables_of c.args.sealed.now.items (place_of c.args.tenancy.now))) (at_of c.args.at.now) c.args.asked.now (On w case) step) (sym same) h) c.by_reporter.ensures.step
+    IfOk-weaker c.by_reporter.result _ _ (λ step h. subst (λ w. IsDraftOf c.args.tenancy.now.configuration.tenant (purged c.args.at.now.time (tables_of c.args.sealed.now.items (place_of c.args.tenancy.now))) (at_of c.args.at.now) c.args.asked.now (On w case) step) (sym same) h) c.by_reporter.ensures.step

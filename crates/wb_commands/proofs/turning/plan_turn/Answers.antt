@@ -8,7 +8,7 @@ use Rattle.wb_model.specs.Targets.{target}
 use Rattle.wb_tables.specs.Kept.{PlainTenancy, live_plain, place_of, plain_of, tables_of}
 use Rattle.wb_tables.proofs.Lookups.{there-found}
 use Rattle.wb_queries.specs.Looks.{at_of}
-use Rattle.wb_commands.specs.Steps.{IsStep, IsWriting}
+use Rattle.wb_commands.specs.Steps.{IsDraftOf, IsWriting}
 use Rattle.wb_commands.proofs.Families.{writing_found, written_fit}
 use Rattle.wb_commands.proofs.Results.{ok_both}
 use Rattle.wb_commands.proofs.Steps.{written_plan}
@@ -19,7 +19,7 @@ write_in-requires-clause-there c =
     let x = c.args.tenancy.now in
     let p = live_plain c.args.at.now.time (plain_of x) in
     let to = target p c.args.asked.now.session (outline c.args.asked.now.command) in
-    let h : IsWriting p (at_of c.args.at.now) c.args.asked.now to c.in-Writes.writing = subst (IsStep x.configuration.tenant (purged c.args.at.now.time (tables_of c.args.sealed.now.items (place_of x))) (at_of c.args.at.now) c.args.asked.now to) c.in-Writes.is c.in_ok-plan.ensures.step in
+    let h : IsWriting p (at_of c.args.at.now) c.args.asked.now to c.in-Writes.writing = subst (IsDraftOf x.configuration.tenant (purged c.args.at.now.time (tables_of c.args.sealed.now.items (place_of x))) (at_of c.args.at.now) c.args.asked.now to) c.in-Writes.is c.in_ok-plan.ensures.step in
     there-found c.in-Writes.writing.number (plain_of x).cases ∙ ap is_some (writing_found x c.args.at.now.time (at_of c.args.at.now) c.args.asked.now to c.in-Writes.writing h c.requires.place.cases)
 
 pub returns-in-Writes-clause-plan : goal.returns-in-Writes-clause-plan
@@ -28,7 +28,7 @@ returns-in-Writes-clause-plan c =
     let p = live_plain c.args.at.now.time (plain_of x) in
     let t = purged c.args.at.now.time (tables_of c.args.sealed.now.items (place_of x)) in
     let to = target p c.args.asked.now.session (outline c.args.asked.now.command) in
-    let h : IsWriting p (at_of c.args.at.now) c.args.asked.now to c.in-Writes.writing = subst (IsStep x.configuration.tenant t (at_of c.args.at.now) c.args.asked.now to) c.in-Writes.is c.in_ok-plan.ensures.step in
+    let h : IsWriting p (at_of c.args.at.now) c.args.asked.now to c.in-Writes.writing = subst (IsDraftOf x.configuration.tenant t (at_of c.args.at.now) c.args.asked.now to) c.in-Writes.is c.in_ok-plan.ensures.step in
     let found = writing_found x c.args.at.now.time (at_of c.args.at.now) c.args.asked.now to c.in-Writes.writing h c.requires.place.cases in
     IfOk-weaker c.write_in.result _ _ (λ plan f. written_plan x.configuration.tenant t (at_of c.args.at.now) c.args.asked.now to c.in-Writes.writing plan h (f h.case.trail found)) c.write_in.ensures.plan
 
@@ -37,7 +37,7 @@ returns-in-Writes-clause-roomy c =
     let x = c.args.tenancy.now in
     let p = live_plain c.args.at.now.time (plain_of x) in
     let to = target p c.args.asked.now.session (outline c.args.asked.now.command) in
-    let h : IsWriting p (at_of c.args.at.now) c.args.asked.now to c.in-Writes.writing = subst (IsStep x.configuration.tenant (purged c.args.at.now.time (tables_of c.args.sealed.now.items (place_of x))) (at_of c.args.at.now) c.args.asked.now to) c.in-Writes.is c.in_ok-plan.ensures.step in
+    let h : IsWriting p (at_of c.args.at.now) c.args.asked.now to c.in-Writes.writing = subst (IsDraftOf x.configuration.tenant (purged c.args.at.now.time (tables_of c.args.sealed.now.items (place_of x))) (at_of c.args.at.now) c.args.asked.now to) c.in-Writes.is c.in_ok-plan.ensures.step in
     let found = writing_found x c.args.at.now.time (at_of c.args.at.now) c.args.asked.now to c.in-Writes.writing h c.requires.place.cases in
     let there = there-found c.in-Writes.writing.number p.cases ∙ ap is_some h.there in
     ok_both c.write_in.result

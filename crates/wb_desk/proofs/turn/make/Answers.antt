@@ -1,11 +1,11 @@
 use Rattle.std.proofs.Common.{◌≡◌, None, refl, sym, ap, ◌∙◌, subst}
 use Rattle.wb_model.specs.Changes.{Begins, Notes, Deletes, LogsIn, LogsOut, Configures}
 use Rattle.wb_model.specs.Host.{changed}
-use Rattle.wb_commands.specs.Plans.{IsFit, HasRoom, begins, given_of}
+use Rattle.wb_commands.specs.Plans.{IsFit, HasRoomFor, begins, given_of}
 use Rattle.wb_tables.specs.Configured.{setting_of}
 use Rattle.wb_tables.specs.Kept.{place_of, plain_of, tables_of}
 use Rattle.wb_tables.specs.Logins.{login_of, who_seen}
-use Rattle.wb_desk.specs.Ready.{IsOwn, planned_change}
+use Rattle.wb_desk.specs.Ready.{IsOwnMutation, planned_change}
 use Rattle.wb_desk.proofs.Changes.{tables_made}
 use Rattle.wb_desk.proofs.turn.make.Goals as goal
 
@@ -24,13 +24,13 @@ pub open_case-requires-clause-submitted : goal.open_case-requires-clause-submitt
 open_case-requires-clause-submitted c = (subst (IsFit c.args.time c.args.tenancy.now) c.in-Begins.is c.requires.room.fit).3
 
 pub open_case-requires-clause-own : goal.open_case-requires-clause-own
-open_case-requires-clause-own c = subst (IsOwn (plain_of c.args.tenancy.now)) c.in-Begins.is c.requires.own
+open_case-requires-clause-own c = subst (IsOwnMutation (plain_of c.args.tenancy.now)) c.in-Begins.is c.requires.own
 
 pub open_case-requires-clause-room : goal.open_case-requires-clause-room
-open_case-requires-clause-room c = (subst (HasRoom c.args.tenancy.now c.args.sealed.now.spare) c.in-Begins.is c.requires.room.room).0
+open_case-requires-clause-room c = (subst (HasRoomFor c.args.tenancy.now c.args.sealed.now.spare) c.in-Begins.is c.requires.room.room).0
 
 pub open_case-requires-clause-sealed_room : goal.open_case-requires-clause-sealed_room
-open_case-requires-clause-sealed_room c = (subst (HasRoom c.args.tenancy.now c.args.sealed.now.spare) c.in-Begins.is c.requires.room.room).1
+open_case-requires-clause-sealed_room c = (subst (HasRoomFor c.args.tenancy.now c.args.sealed.now.spare) c.in-Begins.is c.requires.room.room).1
 
 pub returns-in-Begins-clause-tables : goal.returns-in-Begins-clause-tables
 returns-in-Begins-clause-tables c =
@@ -43,13 +43,13 @@ returns-in-Begins-clause-tables c =
 -- ---- a report gets an entry
 
 pub note_entry-requires-clause-ready : goal.note_entry-requires-clause-ready
-note_entry-requires-clause-ready c = (subst (HasRoom c.args.tenancy.now c.args.sealed.now.spare) c.in-Notes.is c.requires.room.room).0
+note_entry-requires-clause-ready c = (subst (HasRoomFor c.args.tenancy.now c.args.sealed.now.spare) c.in-Notes.is c.requires.room.room).0
 
 pub note_entry-requires-clause-room : goal.note_entry-requires-clause-room
-note_entry-requires-clause-room c = (subst (HasRoom c.args.tenancy.now c.args.sealed.now.spare) c.in-Notes.is c.requires.room.room).1
+note_entry-requires-clause-room c = (subst (HasRoomFor c.args.tenancy.now c.args.sealed.now.spare) c.in-Notes.is c.requires.room.room).1
 
 pub note_entry-requires-clause-sealed_room : goal.note_entry-requires-clause-sealed_room
-note_entry-requires-clause-sealed_room c = (subst (HasRoom c.args.tenancy.now c.args.sealed.now.spare) c.in-Notes.is c.requires.room.room).2
+note_entry-requires-clause-sealed_room c = (subst (HasRoomFor c.args.tenancy.now c.args.sealed.now.spare) c.in-Notes.is c.requires.room.room).2
 
 pub returns-in-Notes-clause-tables : goal.returns-in-Notes-clause-tables
 returns-in-Notes-clause-tables c =
@@ -67,7 +67,7 @@ returns-in-Deletes-clause-tables c =
 -- ---- a session begins, or ends
 
 pub log_in-requires-clause-room : goal.log_in-requires-clause-room
-log_in-requires-clause-room c = subst (HasRoom c.args.tenancy.now c.args.sealed.now.spare) c.in-LogsIn.is c.requires.room.room
+log_in-requires-clause-room c = subst (HasRoomFor c.args.tenancy.now c.args.sealed.now.spare) c.in-LogsIn.is c.requires.room.room
 
 pub log_in-requires-clause-later : goal.log_in-requires-clause-later
 log_in-requires-clause-later c = subst (IsFit c.args.time c.args.tenancy.now) c.in-LogsIn.is c.requires.room.fit
@@ -81,12 +81,12 @@ pub returns-in-LogsOut-clause-tables : goal.returns-in-LogsOut-clause-tables
 returns-in-LogsOut-clause-tables c =
     subst (λ change. tables_of c.args.sealed.now.items (place_of c.log_out.new.tenancy) ≡ changed c.args.time (planned_change c.args.tenancy.now change) (given_of change) (tables_of c.args.sealed.now.items (place_of c.args.tenancy.now))) (sym c.in-LogsOut.is)
     (tables_made c.args.sealed.now.items c.args.sealed.now.items (place_of c.args.tenancy.now) (place_of c.log_out.new.tenancy) c.args.time (LogsOut c.in-LogsOut.turn (who_seen c.in-LogsOut.field-1)) (given_of c.args.change) c.log_out.ensures.id
-    (c.log_out.ensures.plain c.args.time (who_seen c.in-LogsOut.field-1) (subst (IsOwn (plain_of c.args.tenancy.now)) c.in-LogsOut.is c.requires.own)) (λ k. refl))
+    (c.log_out.ensures.plain c.args.time (who_seen c.in-LogsOut.field-1) (subst (IsOwnMutation (plain_of c.args.tenancy.now)) c.in-LogsOut.is c.requires.own)) (λ k. refl))
 
 -- ---- a setting is put in
 
 pub configure-requires : goal.configure-requires
-configure-requires c = record { ready = subst (HasRoom c.args.tenancy.now c.args.sealed.now.spare) c.in-Configures.is c.requires.room.room }
+configure-requires c = record { ready = subst (HasRoomFor c.args.tenancy.now c.args.sealed.now.spare) c.in-Configures.is c.requires.room.room }
 
 pub returns-in-Configures-clause-tables : goal.returns-in-Configures-clause-tables
 returns-in-Configures-clause-tables c =

@@ -2,7 +2,8 @@ use Rattle.std.proofs.Common.{◌≡◌, ◌∙◌}
 use Rattle.serde_json.specs.View.{view}
 use Rattle.wb_transport.specs.Lines.{Line}
 use Rattle.wb_etcd.specs.Transactions.{request_text}
-use Rattle.wb_etcd.specs.Exchanges.{connection, exchanged, after_close}
+use Rattle.wb_transport.specs.Dials.{after_close}
+use Rattle.wb_etcd.specs.Exchanges.{connection, exchanged}
 use Rattle.wb_etcd.proofs.Asking.{asks, is_out}
 use Rattle.wb_etcd.proofs.exchange.ask.Goals as goal
 

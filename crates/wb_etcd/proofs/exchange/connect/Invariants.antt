@@ -1,5 +1,6 @@
 use Rattle.std.proofs.Common.{◌≡◌, Some, None, drop}
-use Rattle.wb_etcd.specs.Exchanges.{Dialed, connection}
+use Rattle.wb_transport.specs.Dials.{Dialed}
+use Rattle.wb_etcd.specs.Exchanges.{connection}
 use Rattle.wb_etcd.proofs.exchange.connect.Given as goal
 
 -- the endpoints that are left give what all of them give

@@ -7,5 +7,5 @@ use Rattle.wb_etcd.proofs.requests.fits.Given as goal
 abbrev pub invariant-loop-change : goal.invariant-loop-change
 invariant-loop-change l = record {
   counted : l.count ≡ sum_by operations (take l.change-index l.changes);
-  fits : l.count ≤ 128;
+  fits : l.count ≤ 32_768;
 }

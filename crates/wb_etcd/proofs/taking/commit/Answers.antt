@@ -4,7 +4,8 @@ use Rattle.serde_json.specs.View.{view}
 use Rattle.wb_transport.specs.Lines.{Line}
 use Rattle.wb_etcd.specs.Transactions.{operations, batch_text, request_text}
 use Rattle.wb_etcd.specs.Answers.{is_made}
-use Rattle.wb_etcd.specs.Exchanges.{connection, exchanged, after_close}
+use Rattle.wb_transport.specs.Dials.{after_close}
+use Rattle.wb_etcd.specs.Exchanges.{connection, exchanged}
 use Rattle.wb_etcd.specs.Holding.{transaction_path, operation_limit}
 use Rattle.wb_etcd.proofs.Asking.{asks, is_out}
 use Rattle.wb_etcd.proofs.taking.commit.Goals as goal

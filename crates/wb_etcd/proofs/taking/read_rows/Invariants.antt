@@ -1,6 +1,6 @@
 use Rattle.std.proofs.Common.{◌≡◌, List, [], Some}
 use Rattle.wb_base.specs.declared.rows.Row.{Row}
-use Rattle.wb_etcd.specs.Exchanges.{Dialed}
+use Rattle.wb_transport.specs.Dials.{Dialed}
 use Rattle.wb_etcd.specs.Holding.{ReadsAll}
 use Rattle.wb_etcd.proofs.taking.read_rows.Given as goal
 

@@ -1,5 +1,5 @@
 use Rattle.std.proofs.Common.{◌≡◌, ◌++◌, drop, map, filter}
-use Rattle.wb_row_rules.specs.Reports.{case_report}
+use Rattle.wb_rows.specs.Reports.{case_report}
 use Rattle.wb_rows.specs.Openings.{cases_of}
 use Rattle.wb_export.specs.Forecasts.{expires_by, expiring}
 use Rattle.wb_export.proofs.forecasts.expiring_by.Given as goal

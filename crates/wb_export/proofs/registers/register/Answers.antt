@@ -7,12 +7,12 @@ use Rattle.wb_model.specs.Tables.{Case, is_live}
 use Rattle.wb_model.specs.Trails.{reads}
 use Rattle.wb_model.proofs.Found.{filter_both}
 use Rattle.wb_tenants.specs.Sets.{is_tenant}
-use Rattle.wb_row_rules.specs.Reports.{case_report}
+use Rattle.wb_rows.specs.Reports.{case_report}
 use Rattle.wb_rows.specs.Openings.{case_of, cases_of}
 use Rattle.wb_export.specs.Csv.{csv_text}
 use Rattle.wb_export.specs.Registers.{register_header, register_line}
 use Rattle.wb_export.proofs.Entries.{all_done, lines_of, with_line, without_line}
-use Rattle.wb_row_rules.proofs.Fitting.{found-fits, offset-fits}
+use Rattle.wb_rows.proofs.Fitting.{found-fits, offset-fits}
 use Rattle.wb_export.proofs.registers.register.Goals as goal
 use Rattle.wb_export.proofs.registers.register.Goals.{then-is_in+in_ok-line_of+in_ok-put, else-is_in}
 

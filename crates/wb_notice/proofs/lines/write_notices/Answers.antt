@@ -2,7 +2,7 @@ use Rattle.std.proofs.Common.{length, ◌∙◌, subst}
 use Rattle.std.specs.List.{flat_map}
 use Rattle.std.specs.Prelude.{OnErr}
 use Rattle.wb_base.specs.Outside.{AppendsFront}
-use Rattle.wb_start.proofs.SinkLemmas.{front_if_err, front_more}
+use Rattle.wb_cli.proofs.SinkLemmas.{front_if_err, front_more}
 use Rattle.wb_notice.specs.Notifies.{count_line, notice_line}
 use Rattle.wb_notice.proofs.lines.write_notices.Goals as goal
 

@@ -2,7 +2,7 @@ use Rattle.std.proofs.Common.{◌≡◌, find, Some, None, rules, to_z, of_z, w3
 use Rattle.wb_base.specs.Days.{IsOffset}
 use Rattle.wb_model.specs.SetUps.{is_tenant_item}
 use Rattle.wb_tenants.specs.Sets.{is_tenant}
-use Rattle.wb_row_rules.proofs.Fitting.{found-fits, offset-fits}
+use Rattle.wb_rows.proofs.Fitting.{found-fits, offset-fits}
 use Rattle.wb_notice.proofs.LiveOnes.{found_any, none_any}
 use Rattle.wb_notice.proofs.live.is_live_report.Goals as goal
 

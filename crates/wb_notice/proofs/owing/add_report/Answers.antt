@@ -1,7 +1,7 @@
 use Rattle.std.proofs.Common.{◌++◌, ap, ◌∙◌}
 use Rattle.std.specs.List.{flat_map}
 use Rattle.wb_model.specs.Openings.{registry_of}
-use Rattle.wb_row_rules.specs.Reports.{case_report}
+use Rattle.wb_rows.specs.Reports.{case_report}
 use Rattle.wb_rows.specs.Openings.{case_of}
 use Rattle.wb_notice.specs.declared.users.Addressee.{Addressee}
 use Rattle.wb_notice.specs.Owed.{addressees, notices_to}

@@ -2,7 +2,7 @@ use Rattle.std.proofs.Common.{◌≡◌, ◌++◌, true, false, sym, ap, ◌∙�
 use Rattle.std.proofs.lemmas.Bool.{and_parts, eqb-true}
 use Rattle.std.specs.Prelude.{◌==◌}
 use Rattle.wb_model.specs.Openings.{registry_of}
-use Rattle.wb_row_rules.specs.Reports.{case_report}
+use Rattle.wb_rows.specs.Reports.{case_report}
 use Rattle.wb_rows.specs.Openings.{case_of}
 use Rattle.wb_notice.specs.Owed.{addressees, is_live_on, notices_on}
 use Rattle.wb_notice.proofs.OwedOnes.{later_actors, own_actors, is_told, told_as, told_more}

@@ -1,5 +1,5 @@
 use Rattle.std.proofs.Common.{◌≡◌, ◌++◌, drop}
-use Rattle.wb_row_rules.specs.Reports.{case_report}
+use Rattle.wb_rows.specs.Reports.{case_report}
 use Rattle.wb_rows.specs.Openings.{case_of}
 use Rattle.wb_notice.specs.Owed.{notices_to}
 use Rattle.wb_notice.proofs.owing.add_user.Given as goal

@@ -7,8 +7,8 @@ use Rattle.wb_model.specs.Legal.{is_legal, reckoning}
 use Rattle.wb_model.specs.Openings.{registry_of}
 use Rattle.wb_model.specs.SetUps.{is_tenant_item}
 use Rattle.wb_model.specs.Tables.{Case}
-use Rattle.wb_row_rules.specs.Reports.{case_report}
-use Rattle.wb_row_rules.proofs.Fitting.{offset-fits}
+use Rattle.wb_rows.specs.Reports.{case_report}
+use Rattle.wb_rows.proofs.Fitting.{offset-fits}
 use Rattle.wb_rows.specs.Held.{held_by}
 use Rattle.wb_rows.specs.Openings.{cases_of}
 use Rattle.wb_notice.specs.Owed.{is_live_on, notices_of, notices_on, unsealed}

@@ -2,7 +2,7 @@ use Rattle.std.proofs.Common.{List, map, sym, ap, ◌∙◌}
 use Rattle.std.specs.Prelude.{max}
 use Rattle.wb_row_codec.specs.declared.item.NumberingItem.{NumberingItem}
 use Rattle.wb_model.specs.Reopened.{latest}
-use Rattle.wb_row_rules.specs.Reports.{case_report}
+use Rattle.wb_rows.specs.Reports.{case_report}
 use Rattle.wb_rows.specs.Openings.{report_moments}
 use Rattle.wb_recovery.proofs.LaterMoments.{latest_append}
 use Rattle.wb_recovery.proofs.moments.latest_kept.Goals as goal

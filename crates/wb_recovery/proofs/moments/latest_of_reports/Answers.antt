@@ -2,7 +2,7 @@ use Rattle.std.proofs.Common.{◌≡◌, ◌<◌, ◌+◌, ◌∷◌, List, leng
 use Rattle.std.specs.Prelude.{max}
 use Rattle.wb_model.specs.declared.entry.Entry.{Entry}
 use Rattle.wb_model.specs.Reopened.{latest}
-use Rattle.wb_row_rules.specs.Reports.{case_report}
+use Rattle.wb_rows.specs.Reports.{case_report}
 use Rattle.wb_rows.specs.Openings.{report_moments}
 use Rattle.wb_recovery.proofs.LaterMoments.{some_later}
 use Rattle.wb_recovery.proofs.moments.latest_of_reports.Goals as goal

@@ -1,7 +1,7 @@
 use Rattle.std.proofs.Common.{◌≡◌, drop, map}
 use Rattle.std.specs.Prelude.{max}
 use Rattle.wb_model.specs.Reopened.{latest}
-use Rattle.wb_row_rules.specs.Reports.{case_report}
+use Rattle.wb_rows.specs.Reports.{case_report}
 use Rattle.wb_rows.specs.Openings.{report_moments}
 use Rattle.wb_recovery.proofs.moments.latest_of_reports.Given as goal
 

@@ -1,6 +1,6 @@
 use Rattle.std.proofs.Common.{◌≡◌, map, find, None, sym, ◌∙◌, subst}
 use Rattle.std.specs.Prelude.{slice_index_or}
-use Rattle.wb_row_rules.specs.Reports.{case_report}
+use Rattle.wb_rows.specs.Reports.{case_report}
 use Rattle.wb_tables.specs.Kept.{place_of}
 use Rattle.wb_tables.specs.Places.{is_tenant}
 use Rattle.wb_recovery.proofs.KeptReports.{place_found, report_set, none_same, on_ok}

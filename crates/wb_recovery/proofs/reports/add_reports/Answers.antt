@@ -1,7 +1,7 @@
 use Rattle.std.proofs.Common.{◌≡◌, true, List, map, sym, ap, ◌∙◌, subst, arith}
 use Rattle.std.specs.List.{AllByRecursion, list_all}
-use Rattle.wb_row_rules.specs.Reports.{Report, case_report}
-use Rattle.wb_row_rules.specs.TrailRule.{is_legal_report}
+use Rattle.wb_rows.specs.Reports.{Report, case_report}
+use Rattle.wb_rows.specs.TrailRule.{is_legal_report}
 use Rattle.wb_tables.specs.Kept.{place_of}
 use Rattle.wb_recovery.specs.HeldPlaces.{AreToCome, with_reports}
 use Rattle.wb_recovery.proofs.KeptReports.{Rise, still_rise, all_still_come, found_below, found_own, legal_left, reports_step, none_left, none_of}

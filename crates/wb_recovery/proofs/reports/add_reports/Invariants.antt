@@ -1,8 +1,8 @@
 use Rattle.std.proofs.Common.{◌≡◌, true, map}
 use Rattle.std.specs.List.{AllByRecursion, list_all}
 use Rattle.wb_model.specs.declared.registry.Lists.{Lists}
-use Rattle.wb_row_rules.specs.Reports.{case_report}
-use Rattle.wb_row_rules.specs.TrailRule.{is_legal_report}
+use Rattle.wb_rows.specs.Reports.{case_report}
+use Rattle.wb_rows.specs.TrailRule.{is_legal_report}
 use Rattle.wb_tables.specs.Kept.{place_of}
 use Rattle.wb_recovery.specs.HeldPlaces.{AreToCome, with_reports}
 use Rattle.wb_recovery.proofs.KeptReports.{Rise}

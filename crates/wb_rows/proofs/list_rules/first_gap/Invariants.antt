@@ -1,5 +1,5 @@
 use Rattle.std.proofs.Common.{◌≡◌, drop}
-use Rattle.wb_row_rules.specs.Places.{form_key}
+use Rattle.wb_rows.specs.Places.{form_key}
 use Rattle.wb_rows.specs.Blame.{first_breaking}
 use Rattle.wb_rows.specs.ListRules.{follows}
 use Rattle.wb_rows.proofs.list_rules.first_gap.Given as goal

@@ -1,5 +1,5 @@
 use Rattle.std.proofs.Common.{◌≡◌, drop}
-use Rattle.wb_row_rules.specs.Places.{context_key}
+use Rattle.wb_rows.specs.Places.{context_key}
 use Rattle.wb_rows.specs.Blame.{first_breaking}
 use Rattle.wb_rows.specs.ListRules.{is_right_context}
 use Rattle.wb_rows.proofs.list_rules.first_wrong_context.Given as goal

@@ -3,17 +3,17 @@ use Rattle.std.specs.Option.{option_or}
 use Rattle.wb_custody.specs.declared.sealed.SealedItem.{SealedItem}
 use Rattle.wb_row_codec.specs.declared.item.EntryItem.{EntryItem}
 use Rattle.wb_row_codec.specs.declared.item.NumberingItem.{NumberingItem}
-use Rattle.wb_rows.specs.declared.items.Kept.{Kept}
+use Rattle.wb_rows.specs.declared.items.ItemsByKind.{ItemsByKind}
 use Rattle.wb_rows.specs.declared.report_rules.Blames.{Blames}
 use Rattle.wb_rows.specs.Blame.{first_breaking, first_repeated}
 use Rattle.wb_rows.specs.Judged.{AreBlames, judged_reports}
-use Rattle.wb_row_rules.specs.Places.{entry_key, numbering_key, sealed_key}
-use Rattle.wb_row_rules.specs.ReportRules.{is_right_entry, is_drawn, has_its_seal, same_receipt, is_right_numbering}
+use Rattle.wb_rows.specs.Places.{entry_key, numbering_key, sealed_key}
+use Rattle.wb_rows.specs.ReportRules.{is_right_entry, is_drawn, has_its_seal, same_receipt, is_right_numbering}
 use Rattle.wb_rows.proofs.Judging.{ok-then, err-then}
 use Rattle.wb_rows.proofs.reading.judge_reports.Goals as goal
 
 -- what was found in these lists is that of what is kept
-are_blames : (k : Kept) (b : Blames) (numbers : List NumberingItem) (entries : List EntryItem) (sealed : List SealedItem) → numbers ≡ k.numberings → entries ≡ k.entries → sealed ≡ k.sealed
+are_blames : (k : ItemsByKind) (b : Blames) (numbers : List NumberingItem) (entries : List EntryItem) (sealed : List SealedItem) → numbers ≡ k.numberings → entries ≡ k.entries → sealed ≡ k.sealed
     → b.wrong ≡ first_breaking (is_right_entry k.lists) entry_key entries
     → b.undrawn ≡ option_or (first_breaking (λ x. is_drawn numbers x.tenant x.number) entry_key entries) (first_breaking (λ x. is_drawn numbers x.tenant x.number) sealed_key sealed)
     → b.unsealed ≡ first_breaking (has_its_seal sealed) entry_key entries
@@ -30,7 +30,7 @@ are_blames k b numbers entries sealed n e s wrong undrawn unsealed receipt numbe
 
 pub returns-in-Ok-clause-ok : goal.returns-in-Ok-clause-ok
 returns-in-Ok-clause-ok c =
-    let k : Kept = record { lists = c.args.registry.lists; numberings = c.args.numberings; entries = c.args.entries; sealed = c.args.sealed } in
+    let k : ItemsByKind = record { lists = c.args.registry.lists; numberings = c.args.numberings; entries = c.args.entries; sealed = c.args.sealed } in
     let sealed = c.of-sealed.ensures ∙ c.into_vec.ensures in
     let found = c.in_ok-blames.ensures in
     let are = are_blames k c.in_ok-blames.blames _ _ _ c.as_slice.ensures c.as_slice-2.ensures sealed found.wrong found.undrawn found.unsealed found.receipt found.numbering in
@@ -38,7 +38,7 @@ returns-in-Ok-clause-ok c =
 
 pub returns-in-Ok-clause-err : goal.returns-in-Ok-clause-err
 returns-in-Ok-clause-err c =
-    let k : Kept = record { lists = c.args.registry.lists; numberings = c.args.numberings; entries = c.args.entries; sealed = c.args.sealed } in
+    let k : ItemsByKind = record { lists = c.args.registry.lists; numberings = c.args.numberings; entries = c.args.entries; sealed = c.args.sealed } in
     let sealed = c.of-sealed.ensures ∙ c.into_vec.ensures in
     let found = c.in_ok-blames.ensures in
     let are = are_blames k c.in_ok-blames.blames _ _ _ c.as_slice.ensures c.as_slice-2.ensures sealed found.wrong found.undrawn found.unsealed found.receipt found.numbering in

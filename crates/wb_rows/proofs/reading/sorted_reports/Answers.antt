@@ -1,5 +1,5 @@
 use Rattle.std.proofs.Common.{sym, ap, ◌∙◌}
-use Rattle.wb_row_rules.specs.TrailRule.{reports_of}
+use Rattle.wb_rows.specs.TrailRule.{reports_of}
 use Rattle.wb_rows.proofs.ReportOrder.{cases-order}
 use Rattle.wb_rows.proofs.reading.sorted_reports.Goals as goal
 

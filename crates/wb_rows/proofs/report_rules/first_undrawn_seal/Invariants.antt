@@ -1,7 +1,7 @@
 use Rattle.std.proofs.Common.{◌≡◌, drop}
 use Rattle.wb_rows.specs.Blame.{first_breaking}
-use Rattle.wb_row_rules.specs.Places.{sealed_key}
-use Rattle.wb_row_rules.specs.ReportRules.{is_drawn}
+use Rattle.wb_rows.specs.Places.{sealed_key}
+use Rattle.wb_rows.specs.ReportRules.{is_drawn}
 use Rattle.wb_rows.proofs.report_rules.first_undrawn_seal.Given as goal
 
 -- what is left breaks the rule first where all does

@@ -1,7 +1,7 @@
 use Rattle.std.proofs.Common.{◌≡◌, drop}
 use Rattle.wb_rows.specs.Blame.{first_breaking}
-use Rattle.wb_row_rules.specs.Places.{entry_key}
-use Rattle.wb_row_rules.specs.ReportRules.{is_right_entry}
+use Rattle.wb_rows.specs.Places.{entry_key}
+use Rattle.wb_rows.specs.ReportRules.{is_right_entry}
 use Rattle.wb_rows.proofs.report_rules.first_wrong_entry.Given as goal
 
 -- what is left breaks the rule first where all does

@@ -1,7 +1,7 @@
 use Rattle.std.proofs.Common.{◌≡◌, drop}
 use Rattle.wb_rows.specs.Blame.{first_breaking}
-use Rattle.wb_row_rules.specs.Places.{numbering_key}
-use Rattle.wb_row_rules.specs.ReportRules.{is_right_numbering}
+use Rattle.wb_rows.specs.Places.{numbering_key}
+use Rattle.wb_rows.specs.ReportRules.{is_right_numbering}
 use Rattle.wb_rows.proofs.report_rules.first_wrong_numbering.Given as goal
 
 -- what is left breaks the rule first where all does

@@ -1,8 +1,8 @@
 use Rattle.std.proofs.Common.{◌≡◌, drop, map}
 use Rattle.wb_rows.specs.Blame.{first_breaking}
-use Rattle.wb_row_rules.specs.Reports.{case_report}
-use Rattle.wb_row_rules.specs.Places.{sealed_key}
-use Rattle.wb_row_rules.specs.ReportRules.{is_right_seal}
+use Rattle.wb_rows.specs.Reports.{case_report}
+use Rattle.wb_rows.specs.Places.{sealed_key}
+use Rattle.wb_rows.specs.ReportRules.{is_right_seal}
 use Rattle.wb_rows.proofs.report_rules.first_wrong_seal.Given as goal
 
 -- what is left breaks the rule first where all does

@@ -1,6 +1,6 @@
 use Rattle.std.proofs.Common.{◌≡◌, ◌++◌, drop, map}
 use Rattle.wb_custody.specs.SealedAnswers.{answers_of}
-use Rattle.wb_row_rules.specs.Reports.{case_report}
+use Rattle.wb_rows.specs.Reports.{case_report}
 use Rattle.wb_rows.specs.HeldRows.{sealed_rows}
 use Rattle.wb_rows.proofs.writing.add_all_sealed.Given as goal
 

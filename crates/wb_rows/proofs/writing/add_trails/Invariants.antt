@@ -1,5 +1,5 @@
 use Rattle.std.proofs.Common.{◌≡◌, ◌++◌, drop, map}
-use Rattle.wb_row_rules.specs.Reports.{case_report}
+use Rattle.wb_rows.specs.Reports.{case_report}
 use Rattle.wb_rows.specs.HeldRows.{trail_rows}
 use Rattle.wb_rows.proofs.writing.add_trails.Given as goal
 

@@ -1,15 +1,15 @@
 use Rattle.std.proofs.Common.{◌≡◌, List, All, ap, sym, subst}
-use Rattle.wb_ledger.specs.Hosted.{Hosted}
+use Rattle.wb_desk.specs.Hosted.{Hosted}
 use Rattle.wb_ticket_lock.specs.Histories.{IsSplitInto, Leads}
 use Rattle.wb_ticket_lock.specs.Seats.{Locked, Seated}
-use Rattle.wb_ticket.specs.Owned.{Answered, IsTurnOf, Owned, TurnEntry}
+use Rattle.wb_ticket.specs.Owned.{AskedAndTold, IsTurnOf, Owned, TurnEntry}
 use Rattle.wb_ticket.proofs.Apart.{all_mapped}
 use Rattle.wb_ticket.proofs.closing.close_tickets.Goals as goal
 
 pub close-requires : goal.close-requires
 close-requires g c =
     let id = ap (λ (l : Locked Hosted). l.id) c.gate.view_is in
-    all_mapped (λ (s : Seated Hosted Answered). s.lock) (λ (s : Owned). s.gate) c.gate.inside.lock.id c.take_apart.new.raw.items c.args.seats.items c.take_apart.ensures.raw.1
+    all_mapped (λ (s : Seated Hosted AskedAndTold). s.lock) (λ (s : Owned). s.gate) c.gate.inside.lock.id c.take_apart.new.raw.items c.args.seats.items c.take_apart.ensures.raw.1
     (subst (λ t. All (λ (s : Owned). s.gate ≡ t) c.args.seats.items) (sym id) c.requires.here)
 
 pub returns-clause-history : goal.returns-clause-history

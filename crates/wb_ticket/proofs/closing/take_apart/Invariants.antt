@@ -1,6 +1,6 @@
 use Rattle.std.proofs.Common.{◌≡◌, ◌≤◌, ◌+◌, ◌++◌, map, length, vec_len, vec_capacity}
 use Rattle.std.specs.Vec.Iter.{into_iter_items}
-use Rattle.wb_ledger.specs.Hosted.{parts_of}
+use Rattle.wb_desk.specs.Hosted.{parts_of}
 use Rattle.wb_ticket.proofs.closing.take_apart.Given as goal
 
 abbrev pub invariant-loop-own : goal.invariant-loop-own

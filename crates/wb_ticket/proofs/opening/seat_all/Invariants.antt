@@ -1,5 +1,5 @@
 use Rattle.std.proofs.Common.{◌≡◌, ◌<◌, ◌≤◌, ◌+◌, [], All, vec_len, vec_capacity}
-use Rattle.wb_ledger.specs.Hosted.{fresh}
+use Rattle.wb_desk.specs.Hosted.{fresh}
 use Rattle.wb_ticket.proofs.opening.seat_all.Given as goal
 
 abbrev pub invariant-loop-raw : goal.invariant-loop-raw

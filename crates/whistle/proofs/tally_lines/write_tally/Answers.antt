@@ -4,7 +4,7 @@ use Rattle.std.specs.Io.KnownBytes.{Appends}
 use Rattle.std.proofs.KnownBytes.{Appends-trans}
 use Rattle.wb_base.specs.Outside.{AppendsFront}
 use Rattle.whistle.specs.TallyText.{turns_line, status_line, held_lines, counted}
-use Rattle.wb_start.proofs.SinkLemmas.{front_more, front_after}
+use Rattle.wb_cli.proofs.SinkLemmas.{front_more, front_after}
 use Rattle.whistle.proofs.tally_lines.write_tally.Goals as goal
 
 pub returns-in-Err-clause-err : goal.returns-in-Err-clause-err

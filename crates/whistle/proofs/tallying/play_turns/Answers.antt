@@ -5,7 +5,7 @@ use Rattle.wb_model.specs.Tenants.{Hosts}
 use Rattle.wb_tables.specs.Standing.{hosts_of}
 use Rattle.whistle.specs.declared.sample_setup.TheConstants.{HARBOUR}
 use Rattle.whistle.specs.declared.counting.StatusCount.{StatusCount}
-use Rattle.wb_start.specs.Starts.{IsOpenedBy}
+use Rattle.wb_desk.specs.Openings.{IsOpenedBy}
 use Rattle.whistle.proofs.PlayedTurns.{SoFar, at_start, played_next, next, not_opened, told_at_end}
 use Rattle.whistle.proofs.tallying.play_turns.Goals as goal
 

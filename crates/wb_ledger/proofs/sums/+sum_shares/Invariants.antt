@@ -1,5 +1,0 @@
-use Rattle.std.proofs.Common.{length}
-use Rattle.wb_ledger.proofs.sums.+sum_shares.Given as goal
-
-abbrev pub decreases-sum_shares : goal.decreases-sum_shares
-decreases-sum_shares g l = length l.passes.now

@@ -1,4 +1,0 @@
-pub mod GoneOn
-pub mod Hosted
-pub mod Turned
-pub mod Whole

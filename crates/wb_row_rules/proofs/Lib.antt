@@ -1,5 +1,0 @@
-pub mod Freedom
-pub mod OpenTrails
-pub mod Fitting
-pub mod GrowingTrails
-pub mod Lookups

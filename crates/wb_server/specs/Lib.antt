@@ -1,0 +1,4 @@
+pub mod Opens
+pub mod InOrder
+pub mod Workers
+pub mod Serves

@@ -1,0 +1,16 @@
+//! A host that serves links at its stations: the setup and the kept rows that open it, a worker in a thread of its own for each station,
+//! and how it ends.
+#![tactic(auto)]
+
+mod in_order;
+mod opening;
+mod placing;
+mod serving;
+mod starting;
+mod stations;
+mod worker;
+
+pub use in_order::serve_in_order;
+pub use opening::open_by;
+pub use serving::{Served, serve};
+pub use stations::{ServeEnd, serve_all};

@@ -1,0 +1,102 @@
+//! A worker: a station, what it has of the gate, and how it ended.
+ghost use Rattle.std.specs.Prelude.{◌≡◌, ◌<◌, ℕ, All, length, slice_index_or};
+ghost use Rattle.wb_front.specs.Attended.{clock_of, RoseOften};
+ghost use Rattle.wb_server.specs.Workers.{HasEnded, IsServed};
+
+use std::alloc::Global;
+use std::sync::Wait;
+use std::sync::ledger::Ledger;
+use std::thread;
+use std::thread::Threads;
+use wb_base::Keeper;
+use wb_desk::Origin;
+use wb_front::{Station, Worked, work};
+use wb_gate::{Gate, Turn};
+use wb_transport::{Listener, Ticker};
+use wb_wire::Routes;
+
+/// A worker at its station, with what it has of the gate.
+#[derive(Drop)]
+pub struct Worker<Li: Listener, T: Ticker, O: Drop> {
+    pub own: O,
+    pub station: Station<Li, T>,
+    pub worked: Worked,
+}
+
+/// A worker at a station that has not begun.
+pub fn make_worker<Li: Listener, T: Ticker, O: Drop>(
+    own: O,
+    station: Station<Li, T>,
+) -> Worker<Li, T, O>
+    ensures station { result.station ≡ station }
+    ensures own { result.own ≡ own }
+{
+    Worker {
+        own,
+        station,
+        worked: Worked::ListenFault,
+    }
+}
+
+// Attends one worker's station.
+fn attend<
+    R: Wait,
+    K: Keeper,
+    A: Origin,
+    B: Ledger,
+    G: Gate<K, A, B, Turn>,
+    Li: Listener,
+    T: Ticker,
+>(rt: &R, alloc: Global, gate: &G, routes: &Routes, worker: &mut Worker<Li, T, G::Own>)
+    requires of { G.of gate.now worker.old.own }
+    ensures of { G.of gate.now worker.new.own }
+    ensures parts { G.parts worker.new.own ≡ G.parts worker.old.own }
+    ensures served { IsServed (λ own frame told own'. G.ran own frame told own') (Li.told worker.old.station.listener) (Li.told worker.new.station.listener) worker.old.own worker.new.own (clock_of (T.left worker.old.station.ticker) (T.count worker.old.station.ticker)) (clock_of (T.left worker.new.station.ticker) (T.count worker.new.station.ticker)) }
+    ensures ended { HasEnded (Li.told worker.new.station.listener) worker.new.worked }
+    ensures failed { worker.new.worked ≡ Worked.ListenFault → RoseOften 16 (Li.count worker.old.station.listener) (Li.count worker.new.station.listener) }
+{
+    let Worker {
+        own,
+        station,
+        worked,
+    } = worker;
+    *worked = work(rt, alloc, gate, routes, own, station);
+}
+
+/// Attends all stations, each in a thread of its own.
+pub fn attend_all<
+    R: Threads + Wait + Sync,
+    K: Keeper + Send,
+    A: Origin + Send + Sync,
+    B: Ledger + Send + Sync,
+    G: Gate<K, A, B, Turn> + Sync,
+    Li: Listener + Send,
+    T: Ticker + Send,
+>(rt: &R, alloc: Global, gate: &G, routes: &Routes, workers: &mut [Worker<Li, T, G::Own>])
+where
+    G::Own: Send,
+    Li::End: Send,
+    requires some { 0 < length workers.old }
+    requires of { All (λ w. G.of gate.now w.own) workers.old }
+    ensures len { length workers.new ≡ length workers.old }
+    ensures of { All (λ w. G.of gate.now w.own) workers.new }
+    ensures parts { (i : ℕ) (d : _) → i < length workers.old → G.parts (slice_index_or workers.new i d).own ≡ G.parts (slice_index_or workers.old i d).own }
+    ensures served { (i : ℕ) (d : _) → i < length workers.old → IsServed (λ own frame told own'. G.ran own frame told own') (Li.told (slice_index_or workers.old i d).station.listener) (Li.told (slice_index_or workers.new i d).station.listener) (slice_index_or workers.old i d).own (slice_index_or workers.new i d).own (clock_of (T.left (slice_index_or workers.old i d).station.ticker) (T.count (slice_index_or workers.old i d).station.ticker)) (clock_of (T.left (slice_index_or workers.new i d).station.ticker) (T.count (slice_index_or workers.new i d).station.ticker)) }
+    ensures ended { All (λ w. HasEnded (Li.told w.station.listener) w.worked) workers.new }
+    ensures failed { (i : ℕ) (d : _) → i < length workers.old → (slice_index_or workers.new i d).worked ≡ Worked.ListenFault → RoseOften 16 (Li.count (slice_index_or workers.old i d).station.listener) (Li.count (slice_index_or workers.new i d).station.listener) }
+{
+    let threads = workers.len();
+    thread::for_each_mut(
+        rt,
+        workers,
+        threads,
+        &|_, worker|
+            requires of { G.of gate.now worker.old.own }
+            ensures of { G.of gate.entry.now worker.new.own }
+            ensures parts { G.parts worker.new.own ≡ G.parts worker.old.own }
+            ensures served { IsServed (λ own frame told own'. G.ran own frame told own') (Li.told worker.old.station.listener) (Li.told worker.new.station.listener) worker.old.own worker.new.own (clock_of (T.left worker.old.station.ticker) (T.count worker.old.station.ticker)) (clock_of (T.left worker.new.station.ticker) (T.count worker.new.station.ticker)) }
+            ensures ended { HasEnded (Li.told worker.new.station.listener) worker.new.worked }
+            ensures failed { worker.new.worked ≡ Worked.ListenFault → RoseOften 16 (Li.count worker.old.station.listener) (Li.count worker.new.station.listener) }
+        { attend(rt, alloc, gate, routes, worker) },
+    );
+}

@@ -1,7 +1,0 @@
-use Rattle.std.proofs.Common.{ap, ◌∙◌}
-use Rattle.serde_json.specs.Written.{has_float}
-use Rattle.wb_tenants.proofs.PlainRows.{in-context}
-use Rattle.wb_tenants.proofs.rows.context_row.Goals as goal
-
-pub text_of-requires : goal.text_of-requires
-text_of-requires c = ap has_float c.in_ok-value.ensures ∙ in-context c.args.context.now

@@ -1,7 +1,0 @@
-use Rattle.std.proofs.Common.{ap, ◌∙◌}
-use Rattle.serde_json.specs.Written.{has_float}
-use Rattle.wb_form.proofs.NoFloats.{whole-form}
-use Rattle.wb_tenants.proofs.rows.form_row.Goals as goal
-
-pub text_of-requires : goal.text_of-requires
-text_of-requires c = ap has_float c.in_ok-value.ensures ∙ whole-form c.args.format c.args.form.now
