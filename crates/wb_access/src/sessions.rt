@@ -9,14 +9,8 @@ use crate::{AccessFault, digest};
 use std::alloc::Global;
 use std::cmp::Ordering;
 use std::marker::Model;
-use wb_base::{Digest, Moment, Presented, Principal, Role, Salt, Tenant};
+use wb_base::{Digest, Moment, Presented, Principal, Role, Salt, Tenant, limits};
 use wb_list::{ItemTest, Keyed, Sorted};
-
-/// How many seconds a session lasts.
-const DURATION: u64 = 14_400;
-
-/// How many sessions of one principal stand at most.
-const MOST: usize = 8;
 
 /// A login that stands.
 #[derive(Clone, Copy, Debug, PartialEq, Eq)]
@@ -37,7 +31,7 @@ impl Session {
     fn lasts(&self, now: Moment) -> bool
         ensures { result ≡ lasts_at now self.now }
     {
-        now.seconds() < self.at.seconds() + DURATION
+        now.seconds() < self.at.seconds() + limits::SESSION_SECONDS
     }
 
     // Whether it is the tenant's, has the digest, and has not ended.
@@ -162,7 +156,7 @@ impl SessionTable {
         ensures items { self.new.items ≡ (if nat_lt (count_by (is_of theirs.now.0) self.old.items) 8 then self.old.items else without_first (is_of theirs.now.0) self.old.items) }
         ensures kept { self.old.spare ≤ self.new.spare }
     {
-        if self.count_of(theirs) >= MOST {
+        if self.count_of(theirs) >= limits::SESSIONS {
             self.sessions.take_first(theirs);
         }
     }

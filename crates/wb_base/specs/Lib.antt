@@ -13,6 +13,7 @@ pub mod FormFaults
 pub mod ShownFields
 pub mod AnswerFaults
 pub mod Sealing
+pub mod Ends
 pub mod Outside
 pub mod KeptRows
 pub mod MemoryEnds

@@ -12,6 +12,10 @@ one_more n = min (n + 1) (2 ^ 64 - 1)
 abbrev pub Rose : ℕ → ℕ → Type 0
 Rose before now = one_more before ≤ now
 
+-- no call failed between two counts
+abbrev pub NoFault : ℕ → ℕ → Type 0
+NoFault before now = Rose before now → ⊥
+
 -- the count did not fall: it stayed where the call was Ok, and rose where it failed
 pub record HasCause {T E : Type 0} (before now : ℕ) (result : Result T E) : Type 0 where
   pub later : before ≤ now

@@ -10,6 +10,7 @@ mod faults;
 mod form;
 mod kind;
 mod laws;
+pub mod limits;
 mod memory_keeper;
 mod memory_sink;
 mod memory_source;

@@ -7,7 +7,7 @@ ghost use Rattle.wb_base.specs.KeptRows.{key_cmp, key_of, changed, all_changed, 
 ghost use Rattle.wb_base.specs.MemoryEnds.{KeeperState, fails_next, after_keeping};
 
 use crate::calls::Calls;
-use crate::{Change, KeepErr, Keeper, Number, Row, Tenant};
+use crate::{Change, KeepErr, Keeper, Key, Number, Row, Tenant};
 use std::alloc::Global;
 use std::marker::Model;
 use wb_list::{ItemTest, Memory, Sorted, TryClone};
@@ -40,7 +40,7 @@ impl ItemTest<Row> for OfReport {
     ghost passes = { λ report row. is_of_report report.tenant report.number row.key };
 
     fn passes(&self, row: &Row) -> bool {
-        (row.key.kind == 6 || row.key.kind == 7)
+        (row.key.kind == Key::ENTRY || row.key.kind == Key::SEALED)
             && row.key.tenant == self.tenant.id()
             && row.key.a == self.number.get()
     }
@@ -100,11 +100,7 @@ impl MemKeeper {
 }
 
 impl Keeper for MemKeeper {
-    ghost honest = { λ _. ⊤ };
-
-    ghost holds = { λ k rows. k.rows ≡ rows };
-
-    ghost count = { λ k. k.log.faults };
+    ghost end = { λ k. record { honest = ⊤; holds = λ rows. k.rows ≡ rows; count = k.log.faults } };
 
     fn faults(&self) -> u64 {
         self.calls.faults()

@@ -63,9 +63,7 @@ impl MemSink {
 }
 
 impl Sink for MemSink {
-    ghost held = { λ s. Some s.held };
-
-    ghost count = { λ s. s.log.faults };
+    ghost end = { λ s. record { held = Some s.held; count = s.log.faults } };
 
     fn faults(&self) -> u64 {
         self.calls.faults()

@@ -63,9 +63,7 @@ impl MemSource {
 }
 
 impl Source for MemSource {
-    ghost left = { λ s. Some s.left };
-
-    ghost count = { λ s. s.log.faults };
+    ghost end = { λ s. record { left = Some s.left; count = s.log.faults } };
 
     fn faults(&self) -> u64 {
         self.calls.faults()

@@ -1,6 +1,7 @@
 //! Numbers in their ranges.
 ghost use Rattle.std.specs.Prelude.{◌≡◌, ◌≤◌, ◌<◌, ◌^◌, ℕ, ℤ, pos, neg_ℤ, ◌≤ℤ◌, SomeIff};
 
+use crate::limits;
 use std::marker::Model;
 use wb_list::{Memory, TryClone};
 
@@ -23,7 +24,7 @@ impl Tenant {
     pub fn try_new(id: u32) -> Option<Tenant>
         ensures { SomeIff result ((1 ≤ id) × (id ≤ 64)) id }
     {
-        if 1 <= id && id <= 64 {
+        if 1 <= id && id <= limits::TENANTS {
             Some(Tenant(id))
         } else {
             None
@@ -143,7 +144,7 @@ impl Moment {
     pub fn try_new(seconds: u64) -> Option<Moment>
         ensures { SomeIff result (seconds ≤ 99_999_999_999) seconds }
     {
-        if seconds <= 99_999_999_999 {
+        if seconds <= limits::LAST_MOMENT {
             Some(Moment(seconds))
         } else {
             None

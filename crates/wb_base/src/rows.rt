@@ -8,13 +8,32 @@ use wb_list::{Keyed, Memory, TryClone};
 /// The key of a kept row, ordered by its fields.
 #[derive(Clone, Copy, Debug, PartialEq, Eq, PartialOrd, Ord)]
 pub struct Key {
-    /// What the row is about: 0 the format of the rows, 1 settings, 2 numbering, 3 user, 4 form, 5 context, 6 trail, 7 sealed answers.
+    /// What the row is about: one of the kinds of this type.
     pub kind: u8,
     pub tenant: u32,
     /// The id or number within the tenant.
     pub a: u32,
     /// The version of a form, or the place of a trail's entry from 1.
     pub b: u32,
+}
+
+impl Key {
+    /// The format of the rows.
+    pub const FORMAT: u8 = 0;
+    /// What a tenant is set up with, but for the kinds that follow.
+    pub const SETTINGS: u8 = 1;
+    /// The last draw of a tenant's numbers.
+    pub const NUMBERING: u8 = 2;
+    /// A user.
+    pub const USER: u8 = 3;
+    /// A version of a form.
+    pub const FORM: u8 = 4;
+    /// A context.
+    pub const CONTEXT: u8 = 5;
+    /// An entry of a report's trail.
+    pub const ENTRY: u8 = 6;
+    /// A report's identity answers.
+    pub const SEALED: u8 = 7;
 }
 
 /// A kept row.

@@ -34,9 +34,7 @@ impl<R: Read> StdSource<R> {
 }
 
 impl<R: Read> Source for StdSource<R> {
-    ghost left = { λ s. s.told };
-
-    ghost count = { λ s. s.faults };
+    ghost end = { λ s. record { left = s.told; count = s.faults } };
 
     fn faults(&self) -> u64 {
         self.faults
@@ -84,9 +82,7 @@ impl<W: Write> StdSink<W> {
 }
 
 impl<W: Write> Sink for StdSink<W> {
-    ghost held = { λ s. s.told };
-
-    ghost count = { λ s. s.faults };
+    ghost end = { λ s. record { held = s.told; count = s.faults } };
 
     fn faults(&self) -> u64 {
         self.faults

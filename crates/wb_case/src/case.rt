@@ -8,7 +8,7 @@ ghost use Rattle.wb_case.specs.Summaries.{IsSummary, needed_by};
 use crate::Summary;
 use std::alloc::Global;
 use std::marker::Model;
-use wb_base::Memory;
+use wb_base::{Memory, limits};
 use wb_model::{
     CaseFault, Deed, Entry, Trail, a_dialogue_stands_at_its_places, what_is_not_refused_is_legal,
 };
@@ -110,7 +110,7 @@ impl Case {
         ensures kept { self.old.spare ≤ self.new.spare }
     {
         self.trail.reserve()?;
-        self.summary.reserve(32)
+        self.summary.reserve(limits::READERS)
     }
 
     /// Makes room for one more entry, whichever legal one it is.

@@ -1,12 +1,12 @@
 //! What an act puts on a trail.
-ghost use Rattle.std.specs.Prelude.{◌≡◌, ◌<◌, ◌≤◌, ◌++◌, ◌∷◌, [], ℤ, true, OnOk, IfOk, IfSome};
+ghost use Rattle.std.specs.Prelude.{◌≡◌, ◌<◌, ◌≤◌, ℤ, true, OnOk, IfOk, IfSome};
 ghost use Rattle.wb_base.specs.Days.{IsEarlyDay};
 ghost use Rattle.wb_base.specs.Terms as terms;
 ghost use Rattle.wb_model.specs.Trails as trails;
 ghost use Rattle.std.specs.Int.{int_max};
 ghost use Rattle.wb_model.specs.Acts.{act_deed};
 ghost use Rattle.wb_model.specs.Doings.{Acts};
-ghost use Rattle.wb_model.specs.Legal.{is_legal, is_next, last_at, AsksRightly};
+ghost use Rattle.wb_model.specs.Legal.{last_at, AsksRightly, GoesOn, reckoning_by};
 ghost use Rattle.wb_case.specs.Plans.{IsInRange, IsPlanned, GivesPlan};
 ghost use Rattle.wb_case.specs.Summaries.{needed_by};
 
@@ -111,7 +111,7 @@ impl Case {
         ensures room { OnOk result (0 < self.new.spare) }
         ensures kept { self.old.spare ≤ self.new.spare }
         ensures few { IfOk result (λ entry. needed_by entry.deed ≤ 32) }
-        ensures legal { IfOk result (λ entry. (offset : ℤ) → AsksRightly (record { offset = offset; calendar = calendar.now }) at by (Acts act) → last_at 0 self.old.items ≤ at → is_next (record { offset = offset; calendar = calendar.now }) (last_at 0 self.old.items) self.old.items entry ≡ true) }
+        ensures legal { IfOk result (λ entry. (offset : ℤ) → AsksRightly (reckoning_by offset calendar.now) at by (Acts act) → last_at 0 self.old.items ≤ at → GoesOn (reckoning_by offset calendar.now) self.old.items entry) }
     {
         what_is_not_refused_is_legal();
         match self.judge(at, by, act, calendar) {

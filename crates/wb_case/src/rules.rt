@@ -4,14 +4,8 @@ ghost use Rattle.std.specs.Option.{option_or};
 ghost use Rattle.wb_model.specs.Acts as acts;
 
 use crate::Case;
-use wb_base::UserId;
+use wb_base::{UserId, limits};
 use wb_model::{Act, CaseFault, Status, Was};
-
-/// The most entries after which an act may come.
-const FULL: usize = 4096;
-
-/// How often a report may be postponed.
-const POSTPONEMENTS: usize = 10;
 
 // The first of two refusals.
 fn first(refusal: Option<CaseFault>, other: Option<CaseFault>) -> Option<CaseFault>
@@ -136,7 +130,7 @@ impl Case {
     fn postpone_spent(&self) -> Option<CaseFault>
         ensures { result ≡ acts.postpone_spent self.now.items }
     {
-        if POSTPONEMENTS <= self.summary().postponements {
+        if limits::POSTPONEMENTS <= self.summary().postponements {
             Some(CaseFault::PostponeSpent)
         } else {
             None
@@ -147,7 +141,7 @@ impl Case {
     fn full(&self) -> Option<CaseFault>
         ensures { result ≡ acts.full self.now.items }
     {
-        if self.trail().len() < FULL {
+        if self.trail().len() < limits::TRAIL_ENTRIES {
             None
         } else {
             Some(CaseFault::TrailFull)

@@ -152,6 +152,10 @@ pub record AsksForecast (words : List Text) (tenant : ℕ) (day : ℤ) (store : 
   pub named : value_of forecast_app (codes "store") words ≡ store
   pub good : IsFileStore store
 
+-- the words after `serve` ask for this plan
+abbrev pub AsksToServe : List Text → Plan → Type 0
+AsksToServe words plan = (setup : Text) × (listen : Text) × (workers : ℕ) × (lock : Lock) × (store : Option Text) × (plan ≡ Serve setup listen workers lock store) × AsksServe words setup listen workers lock store
+
 -- the words ask this
 abbrev pub Asks : List Text → Plan → Type 0
 Asks [] plan = ⊥

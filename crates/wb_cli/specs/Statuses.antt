@@ -1,5 +1,5 @@
 -- The line of a status, which standard error gets, and the number that the program ends with.
-use Rattle.std.specs.Prelude.{ℕ, ◌++◌, List, [], codes, decimal}
+use Rattle.std.specs.Prelude.{ℕ, ◌++◌, List, [], codes, decimal, ◌⊎◌, ◌≡◌}
 use Rattle.wb_base.specs.declared.rows.Key.{Key}
 use Rattle.wb_rows.specs.declared.faults.RowFault.{RowFault}
 use Rattle.wb_rows.specs.declared.faults.RowFault.TheVariants.{BadRow, BadSet, Memory as RowsMemory}
@@ -62,3 +62,7 @@ status_number ListenFault = 11
 status_number (OutboxRows key) = 12
 status_number NotThere = 13
 status_number OutboxFault = 14
+
+-- all was done, or there was no memory
+abbrev pub IsDoneOrNoMemory : Status → Type 0
+IsDoneOrNoMemory status = (status ≡ Done) ⊎ (status ≡ NoMemory)

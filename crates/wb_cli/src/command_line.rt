@@ -2,7 +2,7 @@
 ghost use Rattle.std.specs.Prelude.{◌≡◌, ℕ, ℤ, List, Option, map, Err, IfOk};
 ghost use Rattle.wb_cli.specs.declared.plans.Lock.{Lock as LockOf};
 ghost use Rattle.wb_cli.specs.declared.plans.Plan.{Plan};
-ghost use Rattle.wb_cli.specs.CommandLine.{Asks, AsksForecast, AsksNotices, AsksPlay, AsksRegister, AsksServe, AsksTurns, IsForm};
+ghost use Rattle.wb_cli.specs.CommandLine.{Asks, AsksForecast, AsksNotices, AsksPlay, AsksRegister, AsksServe, AsksTurns, IsForm, AsksToServe};
 
 use crate::apps::{
     forecast_command, matched, notices_command, play_command, register_command, serve_command,
@@ -41,7 +41,7 @@ fn turns(alloc: Global, words: &[&str]) -> Result<u32, PlanFault>
 
 // What the words after `serve` ask.
 fn serve(alloc: Global, words: &[&str]) -> Result<Plan, PlanFault>
-    ensures ok { IfOk result (λ plan. (setup : List ℕ) × (listen : List ℕ) × (workers : ℕ) × (lock : LockOf) × (store : Option (List ℕ)) × (plan ≡ Plan.Serve setup listen workers lock store) × AsksServe (map (λ word. word.now) words.now) setup listen workers lock store) }
+    ensures ok { IfOk result (AsksToServe (map (λ word. word.now) words.now)) }
     ensures usage { result ≡ Err PlanFault.Usage → (setup : List ℕ) (listen : List ℕ) (workers : ℕ) (lock : LockOf) (store : Option (List ℕ)) → AsksServe (map (λ word. word.now) words.now) setup listen workers lock store → ⊥ }
 {
     let matches = matched(serve_command(alloc)?, words)?;

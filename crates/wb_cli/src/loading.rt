@@ -14,11 +14,11 @@ use wb_rows::{RowFault, Tables, read};
 
 /// The tables that a keeper's rows are read as, or how a call ends for which they are not. The rows stay as they are, those of format 1 too.
 pub fn load_tables<K: Keeper>(alloc: Global, keeper: &mut K) -> Result<Tables, Status>
-    ensures ok { IfOk result (λ tables. AreRead (K.honest keeper.new) (K.holds keeper.old) (held_by tables)) }
-    ensures err { IfErr result (ReadsNone (K.count keeper.old) (K.count keeper.new) (K.honest keeper.new) (K.holds keeper.old)) }
-    ensures rows { KeepsRows (K.honest keeper.new) (K.holds keeper.old) (K.holds keeper.new) }
-    ensures back { K.honest keeper.new → K.honest keeper.old }
-    ensures stayed { result ≢ Err Status.OpenFault → K.count keeper.new ≡ K.count keeper.old }
+    ensures ok { IfOk result (λ tables. AreRead (K.end keeper.old) (K.end keeper.new) (held_by tables)) }
+    ensures err { IfErr result (ReadsNone (K.end keeper.old) (K.end keeper.new)) }
+    ensures rows { KeepsRows (K.end keeper.old) (K.end keeper.new) }
+    ensures back { (K.end keeper.new).honest → (K.end keeper.old).honest }
+    ensures stayed { result ≢ Err Status.OpenFault → (K.end keeper.new).count ≡ (K.end keeper.old).count }
     // What tenants are set up with keeps the rules of setups, and the tables of each those of kept rows.
     ensures set_up { IfOk result (λ tables. AreSetUp tables.registry.lists) }
     ensures kept { IfOk result (λ tables. (t : ℕ) → AreKept (time_of (held_by tables)) tables.registry.lists t (tables_of (held_by tables) t)) }

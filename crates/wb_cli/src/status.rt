@@ -68,9 +68,9 @@ impl Status {
 
 // Writes a text, a number and a line feed.
 fn write_numbered<W: Sink>(sink: &mut W, text: &[u8], n: u64) -> Result<(), Failed>
-    ensures ok { OnOk result (Appends (W.held sink.old) (W.held sink.new) (text.now ++ decimal n ++ codes "\n")) }
-    ensures err { OnErr result (AppendsFront (W.held sink.old) (W.held sink.new) (text.now ++ decimal n ++ codes "\n")) }
-    ensures cause { HasCause (W.count sink.old) (W.count sink.new) result }
+    ensures ok { OnOk result (Appends (W.end sink.old).held (W.end sink.new).held (text.now ++ decimal n ++ codes "\n")) }
+    ensures err { OnErr result (AppendsFront (W.end sink.old).held (W.end sink.new).held (text.now ++ decimal n ++ codes "\n")) }
+    ensures cause { HasCause (W.end sink.old).count (W.end sink.new).count result }
 {
     match sink.write_all(text) {
         Ok(()) => {}
@@ -86,9 +86,9 @@ fn write_numbered<W: Sink>(sink: &mut W, text: &[u8], n: u64) -> Result<(), Fail
 
 // Writes the line of a setup's refusal.
 fn refusal_line<W: Sink>(fault: SetupFault, sink: &mut W) -> Result<(), Failed>
-    ensures ok { OnOk result (Appends (W.held sink.old) (W.held sink.new) (refusal_text fault)) }
-    ensures err { OnErr result (AppendsFront (W.held sink.old) (W.held sink.new) (refusal_text fault)) }
-    ensures cause { HasCause (W.count sink.old) (W.count sink.new) result }
+    ensures ok { OnOk result (Appends (W.end sink.old).held (W.end sink.new).held (refusal_text fault)) }
+    ensures err { OnErr result (AppendsFront (W.end sink.old).held (W.end sink.new).held (refusal_text fault)) }
+    ensures cause { HasCause (W.end sink.old).count (W.end sink.new).count result }
 {
     match fault {
         SetupFault::Text => sink.write_all(b"setup refused: text\n"),
@@ -99,9 +99,9 @@ fn refusal_line<W: Sink>(fault: SetupFault, sink: &mut W) -> Result<(), Failed>
 
 // Writes a text and a number.
 fn write_part<W: Sink>(sink: &mut W, text: &[u8], n: u64) -> Result<(), Failed>
-    ensures ok { OnOk result (Appends (W.held sink.old) (W.held sink.new) (text.now ++ decimal n)) }
-    ensures err { OnErr result (AppendsFront (W.held sink.old) (W.held sink.new) (text.now ++ decimal n)) }
-    ensures cause { HasCause (W.count sink.old) (W.count sink.new) result }
+    ensures ok { OnOk result (Appends (W.end sink.old).held (W.end sink.new).held (text.now ++ decimal n)) }
+    ensures err { OnErr result (AppendsFront (W.end sink.old).held (W.end sink.new).held (text.now ++ decimal n)) }
+    ensures cause { HasCause (W.end sink.old).count (W.end sink.new).count result }
 {
     match sink.write_all(text) {
         Ok(()) => {}
@@ -119,9 +119,9 @@ fn write_two<W: Sink>(
     second: &[u8],
     m: u64,
 ) -> Result<(), Failed>
-    ensures ok { OnOk result (Appends (W.held sink.old) (W.held sink.new) ((first.now ++ decimal n) ++ (second.now ++ decimal m))) }
-    ensures err { OnErr result (AppendsFront (W.held sink.old) (W.held sink.new) ((first.now ++ decimal n) ++ (second.now ++ decimal m))) }
-    ensures cause { HasCause (W.count sink.old) (W.count sink.new) result }
+    ensures ok { OnOk result (Appends (W.end sink.old).held (W.end sink.new).held ((first.now ++ decimal n) ++ (second.now ++ decimal m))) }
+    ensures err { OnErr result (AppendsFront (W.end sink.old).held (W.end sink.new).held ((first.now ++ decimal n) ++ (second.now ++ decimal m))) }
+    ensures cause { HasCause (W.end sink.old).count (W.end sink.new).count result }
 {
     match write_part(sink, first, n) {
         Ok(()) => {}
@@ -132,9 +132,9 @@ fn write_two<W: Sink>(
 
 // Writes where a row stands, and a line feed.
 fn place_line<W: Sink>(key: Key, sink: &mut W) -> Result<(), Failed>
-    ensures ok { OnOk result (Appends (W.held sink.old) (W.held sink.new) (place_text key)) }
-    ensures err { OnErr result (AppendsFront (W.held sink.old) (W.held sink.new) (place_text key)) }
-    ensures cause { HasCause (W.count sink.old) (W.count sink.new) result }
+    ensures ok { OnOk result (Appends (W.end sink.old).held (W.end sink.new).held (place_text key)) }
+    ensures err { OnErr result (AppendsFront (W.end sink.old).held (W.end sink.new).held (place_text key)) }
+    ensures cause { HasCause (W.end sink.old).count (W.end sink.new).count result }
 {
     match write_two(sink, b" at ", key.kind as u64, b"/", key.tenant as u64) {
         Ok(()) => {}
@@ -149,9 +149,9 @@ fn place_line<W: Sink>(key: Key, sink: &mut W) -> Result<(), Failed>
 
 // Writes the line of the rule that kept rows break at a key.
 fn broken_line<W: Sink>(rule: u8, key: Key, sink: &mut W) -> Result<(), Failed>
-    ensures ok { OnOk result (Appends (W.held sink.old) (W.held sink.new) (broken_text rule key)) }
-    ensures err { OnErr result (AppendsFront (W.held sink.old) (W.held sink.new) (broken_text rule key)) }
-    ensures cause { HasCause (W.count sink.old) (W.count sink.new) result }
+    ensures ok { OnOk result (Appends (W.end sink.old).held (W.end sink.new).held (broken_text rule key)) }
+    ensures err { OnErr result (AppendsFront (W.end sink.old).held (W.end sink.new).held (broken_text rule key)) }
+    ensures cause { HasCause (W.end sink.old).count (W.end sink.new).count result }
 {
     match write_part(sink, b"kept rows refused: rule ", rule as u64) {
         Ok(()) => {}
@@ -162,9 +162,9 @@ fn broken_line<W: Sink>(rule: u8, key: Key, sink: &mut W) -> Result<(), Failed>
 
 // Writes the line of a row of the outbox that is no notice.
 fn outbox_line<W: Sink>(key: Key, sink: &mut W) -> Result<(), Failed>
-    ensures ok { OnOk result (Appends (W.held sink.old) (W.held sink.new) (outbox_text key)) }
-    ensures err { OnErr result (AppendsFront (W.held sink.old) (W.held sink.new) (outbox_text key)) }
-    ensures cause { HasCause (W.count sink.old) (W.count sink.new) result }
+    ensures ok { OnOk result (Appends (W.end sink.old).held (W.end sink.new).held (outbox_text key)) }
+    ensures err { OnErr result (AppendsFront (W.end sink.old).held (W.end sink.new).held (outbox_text key)) }
+    ensures cause { HasCause (W.end sink.old).count (W.end sink.new).count result }
 {
     match sink.write_all(b"outbox rows refused:") {
         Ok(()) => {}
@@ -175,9 +175,9 @@ fn outbox_line<W: Sink>(key: Key, sink: &mut W) -> Result<(), Failed>
 
 // Writes the line of a refusal of kept rows.
 fn rows_line<W: Sink>(fault: RowFault, sink: &mut W) -> Result<(), Failed>
-    ensures ok { OnOk result (Appends (W.held sink.old) (W.held sink.new) (rows_text fault)) }
-    ensures err { OnErr result (AppendsFront (W.held sink.old) (W.held sink.new) (rows_text fault)) }
-    ensures cause { HasCause (W.count sink.old) (W.count sink.new) result }
+    ensures ok { OnOk result (Appends (W.end sink.old).held (W.end sink.new).held (rows_text fault)) }
+    ensures err { OnErr result (AppendsFront (W.end sink.old).held (W.end sink.new).held (rows_text fault)) }
+    ensures cause { HasCause (W.end sink.old).count (W.end sink.new).count result }
 {
     match fault {
         RowFault::BadRow(key) => broken_line(0, key, sink),
@@ -188,9 +188,9 @@ fn rows_line<W: Sink>(fault: RowFault, sink: &mut W) -> Result<(), Failed>
 
 /// Writes the line of a status, which standard error gets; nothing where all was done. It takes no memory.
 pub fn exit_line<W: Sink>(status: &Status, sink: &mut W) -> Result<(), Failed>
-    ensures ok { OnOk result (Appends (W.held sink.old) (W.held sink.new) (status_text status.now)) }
-    ensures err { OnErr result (AppendsFront (W.held sink.old) (W.held sink.new) (status_text status.now)) }
-    ensures cause { HasCause (W.count sink.old) (W.count sink.new) result }
+    ensures ok { OnOk result (Appends (W.end sink.old).held (W.end sink.new).held (status_text status.now)) }
+    ensures err { OnErr result (AppendsFront (W.end sink.old).held (W.end sink.new).held (status_text status.now)) }
+    ensures cause { HasCause (W.end sink.old).count (W.end sink.new).count result }
 {
     match status {
         Status::Done => Ok(()),

@@ -1,5 +1,5 @@
 -- What the code plans stands for.
-use Rattle.std.specs.Prelude.{◌≡◌, ℕ, ◌<◌, nat_le, true, List, [], ◌∷◌, Option, Some, None, map}
+use Rattle.std.specs.Prelude.{◌≡◌, ℕ, ◌<◌, nat_le, true, List, [], ◌∷◌, Option, Some, None, map, if◌then◌else◌}
 use Rattle.std.specs.Option.{option_or}
 use Rattle.wb_base.specs.AnswerList.{Answered}
 use Rattle.wb_base.specs.AnswerFaults.{answers_fault, public_of, sealed_of, is_marked}
@@ -16,9 +16,9 @@ use Rattle.wb_model.specs.Effects.{Submits, in_open}
 use Rattle.wb_model.specs.Host.{Sealed, Tables, ruling, reply_by, change_of as verdict_change}
 use Rattle.wb_model.specs.Refusals.{numbers_spent, quota_spent, receipt_taken}
 use Rattle.wb_model.specs.Refusing.{refuses_where}
-use Rattle.wb_model.specs.Requests.{Outcome, asking_form, submission_outcome, submission_secret, request, sealed_part}
+use Rattle.wb_model.specs.Requests.{Outcome, asking_form, submission_outcome, submission_secret, request, sealed_part, Checked}
 use Rattle.wb_model.specs.Rules.{refusal_alone, change_alone, answer_alone, verdict_on}
-use Rattle.wb_model.specs.Submissions.{Drawing, drawing}
+use Rattle.wb_model.specs.Submissions.{Drawing, drawing, submission_entry}
 use Rattle.wb_model.specs.Tables.{Registry, Plain, Session, Who, context as context_by, newest_form, is_there}
 use Rattle.wb_model.specs.Targets.{Target, trail_at}
 use Rattle.wb_tables.specs.declared.tenancy.Tenancy.{Tenancy as KeptTenancy}
@@ -27,9 +27,11 @@ use Rattle.wb_tables.specs.Kept.{plain_of, live_plain}
 use Rattle.wb_tables.specs.Logins.{AreEarlier, login_of, session_of, who_seen}
 use Rattle.wb_tables.specs.Noted.{IsReadyNote}
 use Rattle.wb_tables.specs.Receipted.{is_submitted}
+use Rattle.wb_queries.specs.declared.turn.TurnContext.{TurnContext as KeptAt}
 use Rattle.wb_commands.specs.declared.plan.TurnPlan.{TurnPlan}
 use Rattle.wb_commands.specs.declared.plan.Mutation.{Mutation}
 use Rattle.wb_commands.specs.declared.plan.Mutation.TheVariants as planned
+use Rattle.wb_queries.specs.Looks.{at_of}
 
 -- a report begins with an entry
 abbrev pub begins : List Entry → Change
@@ -139,6 +141,9 @@ pub record IsAsking (g : Registry) (id : ℕ) (c : ContextItem) (item : FormItem
   pub opens : c.is_open ≡ true
   pub form : newest_form c.form g.forms ≡ Some item
 
+abbrev pub IsAskingIn : KeptTenancy → ℕ → ContextItem → FormItem → Type 0
+IsAskingIn x id c item = IsAsking x.configuration.registry id c item
+
 -- right answers, parted into public ones and identity answers
 pub record IsSplit (form : Form) (answers : Answered) (split : Split) : Type 0 where
   pub valid : answers_fault form answers ≡ None
@@ -150,3 +155,11 @@ pub record IsSplit (form : Form) (answers : Answered) (split : Split) : Type 0 w
 abbrev pub PlansSubmission : ℕ → Plain → TurnContext → ℕ → Answered → TurnPlan → Type 0
 PlansSubmission t p at id answers plan = let form = asking_form (context_by id p.registry.contexts) p.registry.forms in
     (who : Option Who) (sealed : Sealed) → IsPlan t p.registry sealed (submission_verdict p at who id (submission_outcome form answers)) (submission_secret form answers) plan
+
+-- a report begins with the entry of a submission to a context, and the identity answers that it gives
+abbrev pub BeginsWith : Registry → KeptAt → ContextItem → FormItem → Split → Mutation → Type 0
+BeginsWith g at c item split change = IsBegun change (submission_entry (at_of at) g (Checked None split.public split.mark) c item) (if split.mark then Some split.sealed else None)
+
+-- the plan of a submission to a context of a tenant, over its live tables
+abbrev pub PlansDraw : KeptTenancy → KeptAt → ℕ → Answered → TurnPlan → Type 0
+PlansDraw x at id answers plan = PlansSubmission x.configuration.tenant (live_plain at.time (plain_of x)) (at_of at) id answers plan

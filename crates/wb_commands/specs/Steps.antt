@@ -1,5 +1,5 @@
 -- What is left to do for a plan, and what it stands for.
-use Rattle.std.specs.Prelude.{◌≡◌, ◌⊎◌, ℕ, true, false, List, [], Option, Some, None, option_map}
+use Rattle.std.specs.Prelude.{◌≡◌, ◌⊎◌, ℕ, true, false, List, [], Option, Some, None, option_map, map}
 use Rattle.wb_base.specs.AnswerFaults.{identity_fault}
 use Rattle.wb_base.specs.AnswerList.{Answered}
 use Rattle.wb_base.specs.Calendars.{Calendar}
@@ -30,14 +30,14 @@ use Rattle.wb_model.specs.Trails as trails
 use Rattle.wb_model.specs.Access.{user_by}
 use Rattle.wb_model.specs.Effects as effects
 use Rattle.wb_model.specs.Effects.{Effect, effect_of}
-use Rattle.wb_model.specs.Host.{Sealed, Tables}
+use Rattle.wb_model.specs.Host.{Sealed, Tables, purged}
 use Rattle.wb_model.specs.Legal.{is_reporter, right_actor}
 use Rattle.wb_model.specs.Refusals.{not_found, faulty}
 use Rattle.wb_model.specs.Requests.{outline, outcome, sealed_part, form_of_trail}
 use Rattle.wb_model.specs.Settings.{Proposal, proposal_told, proposal_refusal}
 use Rattle.wb_model.specs.Submissions.{outcome_refusal}
 use Rattle.wb_model.specs.Tables.{Registry, Plain, Case, Who, TheUser, report}
-use Rattle.wb_model.specs.Targets.{Target, Alone, On}
+use Rattle.wb_model.specs.Targets.{Target, Alone, On, target}
 use Rattle.wb_tables.specs.declared.tenancy.Tenancy.{Tenancy as KeptTenancy}
 use Rattle.wb_tables.specs.declared.tenancy.Report.{Report}
 use Rattle.wb_tables.specs.declared.tenancy.Who.{Who as KeptWho}
@@ -65,6 +65,8 @@ use Rattle.wb_commands.specs.declared.draft.Writing.{Writing}
 use Rattle.wb_queries.specs.Looks.{at_of}
 use Rattle.wb_commands.specs.Plans.{PlansOn, IsFitAtOnce, IsLogin, tables_at}
 use Rattle.wb_queries.specs.Targeted.{told_of}
+use Rattle.wb_custody.specs.declared.sealed.SealedItem.{SealedItem}
+use Rattle.wb_tables.specs.Kept.{tables_of, place_of, live_plain, plain_of, case_of}
 
 -- ---- what is done on a report
 
@@ -98,6 +100,10 @@ abbrev pub IsAskedOnReport : TurnContext → Registry → Option Who → Present
 IsAskedOnReport at g who s trail command asks.Misses = effect_of at g who s trail command ≡ effects.Misses
 IsAskedOnReport at g who s trail command (asks.Bars fault) = Bars trail fault (effect_of at g who s trail command)
 IsAskedOnReport at g who s trail command (asks.Does doing) = DoesLike trail (effect_of at g who s trail command) (doing_of doing)
+
+-- a user's command asks for that
+abbrev pub IsAskedByUser : TurnContext → Registry → ℕ → Presented → List Entry → Command → Asks → Type 0
+IsAskedByUser at g user s trail command ask = IsAskedOnReport at g (Some (TheUser user)) s trail command ask
 
 abbrev pub IsSoundAsk : Actor → Asks → Type 0
 IsSoundAsk by (asks.Does doing) = IsSoundDoing by doing
@@ -267,3 +273,11 @@ abbrev pub SetsIn : ℕ → Registry → Setting → TurnPlan → Type 0
 SetsIn t g s plan =
     ((fault_of g s.proposal ≡ None) × (plan.told ≡ s.told) × IsPutIn t g s.proposal plan.change)
     ⊎ ((plan.change ≡ planned.Nothing) × (option_map (admin_told (most_of s.proposal)) (fault_of g s.proposal) ≡ Some plan.told))
+
+-- what is left to do for the plan of a request over the tables that are purged at the turn's time
+abbrev pub DraftsOver : KeptTenancy → List SealedItem → KeptAt → Asked → Draft → Type 0
+DraftsOver x sealed at a step = IsDraftOf x.configuration.tenant (purged at.time (tables_of sealed (place_of x))) (at_of at) a (target (live_plain at.time (plain_of x)) a.session (outline a.command)) step
+
+-- a report stands with this trail
+abbrev pub HasTrail : List Report → ℕ → List Entry → Type 0
+HasTrail reports number trail = report number (map case_of reports) ≡ Some (record { number = number; trail = trail })

@@ -9,7 +9,7 @@ ghost use Rattle.wb_model.specs.Tables.{TheUser};
 ghost use Rattle.wb_model.specs.declared.command.Command.TheVariants as commands;
 ghost use Rattle.wb_model.specs.declared.entry.Actor.TheVariants as actors;
 ghost use Rattle.wb_model.specs.declared.entry.Entry.{Entry};
-ghost use Rattle.wb_commands.specs.Steps.{IsAskedOnReport, IsSoundAsk};
+ghost use Rattle.wb_commands.specs.Steps.{IsAskedOnReport, IsSoundAsk, IsAskedByUser};
 
 use crate::draft::{Asks, Doing};
 use wb_base::{Memory, Text, UserId};
@@ -95,7 +95,7 @@ pub fn deciding(
     withhold: &Option<Text>,
 ) -> Result<Asks, Memory>
     requires custodied { report.now.desk.items ≡ requests report.now.case.items }
-    ensures asked { IfOk result (λ asks. (at : Turn) (user : ℕ) (s : Shown) (t n : ℕ) → IsAskedOnReport at tenancy.now.configuration.registry (Some (TheUser user)) s report.now.case.items (commands.Decide t n k decision reason.now withhold.now) asks) }
+    ensures asked { IfOk result (λ asks. (at : Turn) (user : ℕ) (s : Shown) (t n : ℕ) → IsAskedByUser at tenancy.now.configuration.registry user s report.now.case.items (commands.Decide t n k decision reason.now withhold.now) asks) }
     ensures sound { IfOk result (λ asks. (user : ℕ) → IsSoundAsk (actors.User user) asks) }
 {
     match request_of(report, k) {

@@ -9,7 +9,7 @@ ghost use Rattle.wb_model.specs.Requests.{outline};
 ghost use Rattle.wb_model.specs.Tables.{TheUser, TheReporter, user as user_by, report as report_by};
 ghost use Rattle.wb_model.specs.Targets as targets;
 ghost use Rattle.wb_queries.specs.Looks.{at_of};
-ghost use Rattle.wb_commands.specs.Steps.{EntersAs, IsFitStep, IsDraftOf, Leaves, StepsTo};
+ghost use Rattle.wb_commands.specs.Steps.{EntersAs, IsFitStep, IsDraftOf, Leaves, StepsTo, DraftsOver};
 ghost use Rattle.wb_queries.specs.Suited.{suits};
 ghost use Rattle.wb_tables.specs.Indexed.{AreFewRequests};
 ghost use Rattle.wb_tables.specs.Kept.{case_of, live_plain, lives_on, place_of, plain_of, tables_of};
@@ -251,7 +251,7 @@ pub fn step_of(
     requires earlier { AreEarlier at.now.turn (map session_of tenancy.now.sessions.items) }
     requires named { tenancy.now.configuration.tenant ≡ tenant_of_command asked.now.command }
     requires fits { fits asked.now ≡ true }
-    ensures step { IfOk result (IsDraftOf tenancy.now.configuration.tenant (purged at.now.time (tables_of sealed.now.items (place_of tenancy.now))) (at_of at.now) asked.now (targets.target (live_plain at.now.time (plain_of tenancy.now)) asked.now.session (outline asked.now.command))) }
+    ensures step { IfOk result (DraftsOver tenancy.now sealed.now.items at.now asked.now) }
     ensures fit { IfOk result (IsFitStep tenancy.now) }
 {
     match find_target(tenancy, at.time, &asked.session, &asked.command) {

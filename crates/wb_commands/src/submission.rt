@@ -1,17 +1,16 @@
 //! Submissions: a report begins under the next number.
 ghost use Rattle.std.specs.Str.{IsUtf8};
-ghost use Rattle.std.specs.Prelude.{◌≡◌, ◌≢◌, ◌≤◌, ◌<◌, ◌+◌, ◌∷◌, [], ℕ, Some, None, if◌then◌else◌, MatchOption, IfOk, OnOk, option_map};
+ghost use Rattle.std.specs.Prelude.{◌≡◌, ◌≤◌, ◌<◌, ◌+◌, ◌∷◌, [], ℕ, Some, None, if◌then◌else◌, MatchOption, IfOk, option_map};
 ghost use Rattle.wb_base.specs.Days.{IsOffset, day_of as day_at};
 ghost use Rattle.wb_base.specs.AnswerList.{Answered};
 ghost use Rattle.wb_base.specs.Secrets.{digest as digest_of, receipt_text};
 ghost use Rattle.wb_model.specs.Json.{told};
-ghost use Rattle.wb_model.specs.Refusals.{faulty as faulty_told};
 ghost use Rattle.wb_model.specs.Requests.{Checked, open_form};
 ghost use Rattle.wb_model.specs.ShortViews.{submission_view as submission_data};
 ghost use Rattle.wb_model.specs.Submissions.{drawing, submission_entry};
 ghost use Rattle.wb_model.specs.Tables.{context as context_by, drawn_on};
 ghost use Rattle.wb_queries.specs.Looks.{at_of};
-ghost use Rattle.wb_commands.specs.Plans.{drawing_refusal, IsAsking, IsBegun, IsFitAtOnce, IsSplit, PlansSubmission};
+ghost use Rattle.wb_commands.specs.Plans.{drawing_refusal, IsFitAtOnce, IsSplit, PlansSubmission, BeginsWith, PlansDraw, IsAskingIn};
 ghost use Rattle.wb_queries.specs.Targeted.{told_of};
 ghost use Rattle.wb_tables.specs.Kept.{plain_of, live_plain};
 ghost use Rattle.wb_tables.specs.Places.{IsLookedUp};
@@ -39,7 +38,7 @@ struct Asking<'a> {
 
 // The open context of an id, with its form in the newest version.
 fn find_asking(tenancy: &Tenancy, id: u32) -> Option<Asking<'_>>
-    ensures { MatchOption result (open_form (context_by id tenancy.now.configuration.registry.contexts) tenancy.now.configuration.registry.forms ≡ None) (λ a. IsAsking (tenancy.now.configuration.registry) id a.context.now a.item.now) }
+    ensures { MatchOption result (open_form (context_by id tenancy.now.configuration.registry.contexts) tenancy.now.configuration.registry.forms ≡ None) (λ a. IsAskingIn tenancy.now id a.context.now a.item.now) }
 {
     match tenancy.configuration.context(id) {
         Some(context) if context.is_open => {
@@ -193,7 +192,7 @@ fn begin(
     requires low { 1 ≤ asking.now.context.now.retention }
     requires high { asking.now.context.now.retention ≤ 3_650 }
     ensures told { IfOk result (λ plan. plan.told ≡ told 201 (submission_data (tenancy.now.numbering.last + 1) (receipt_text at.now.words))) }
-    ensures change { IfOk result (λ plan. IsBegun plan.change (submission_entry (at_of at.now) (tenancy.now.configuration.registry) (Checked None split.public split.mark) asking.now.context.now asking.now.item.now) (if split.mark then Some split.sealed else None)) }
+    ensures change { IfOk result (λ plan. BeginsWith tenancy.now.configuration.registry at.now asking.now.context.now asking.now.item.now split plan.change) }
 {
     let told = submitted(alloc, tenancy.numbering.last + 1, &drawn.receipt)?;
     let Split {
@@ -229,8 +228,8 @@ fn plan_draw(
     split: Split,
 ) -> Result<TurnPlan, Memory>
     requires place { IsLookedUp (plain_of tenancy.now) }
-    requires asking { (id : ℕ) × IsAsking (tenancy.now.configuration.registry) id asking.now.context.now asking.now.item.now }
-    ensures plan { IfOk result (λ plan. (id : ℕ) (answers : Answered) → IsAsking (tenancy.now.configuration.registry) id asking.now.context.now asking.now.item.now → IsSplit asking.now.item.now.form answers split → PlansSubmission tenancy.now.configuration.tenant (live_plain at.now.time (plain_of tenancy.now)) (at_of at.now) id answers plan) }
+    requires asking { (id : ℕ) × IsAskingIn tenancy.now id asking.now.context.now asking.now.item.now }
+    ensures plan { IfOk result (λ plan. (id : ℕ) (answers : Answered) → IsAskingIn tenancy.now id asking.now.context.now asking.now.item.now → IsSplit asking.now.item.now.form answers split → PlansDraw tenancy.now at.now id answers plan) }
     ensures fit { IfOk result (λ plan. IsFitAtOnce tenancy.now plan.change) }
 {
     let drawn = draw_receipt(tenancy, &at.words);

@@ -1,15 +1,15 @@
 //! The plan of a turn, with room for all that it changes.
-ghost use Rattle.std.specs.Prelude.{◌≡◌, ℕ, List, Some, true, map, IfOk, OnOk};
+ghost use Rattle.std.specs.Prelude.{◌≡◌, ℕ, List, true, map, IfOk, OnOk};
 ghost use Rattle.wb_base.specs.Calendars.{Calendar as CalendarValue};
 ghost use Rattle.wb_model.specs.Commands.{tenant_of as tenant_of_command};
 ghost use Rattle.wb_model.specs.Doings.{actor_of};
 ghost use Rattle.wb_model.specs.Fits.{fits};
 ghost use Rattle.wb_model.specs.Host.{purged};
-ghost use Rattle.wb_model.specs.Tables.{is_there, report as report_by};
+ghost use Rattle.wb_model.specs.Tables.{is_there};
 ghost use Rattle.wb_model.specs.declared.entry.Entry.{Entry as EntryValue};
 ghost use Rattle.wb_queries.specs.Looks.{at_of};
 ghost use Rattle.wb_commands.specs.Plans.{HasRoomFor, IsFit, IsFitAtOnce, IsRoomyFor, PlansTurn};
-ghost use Rattle.wb_commands.specs.Steps.{IsJudged, IsReadyFor, IsSoundDoing, SetsIn, WritesIn, most_of};
+ghost use Rattle.wb_commands.specs.Steps.{IsJudged, IsReadyFor, IsSoundDoing, SetsIn, WritesIn, most_of, HasTrail};
 ghost use Rattle.wb_tables.specs.Configured.{IsSoundProposal};
 ghost use Rattle.wb_tables.specs.Indexed.{AreFewRequests};
 ghost use Rattle.wb_tables.specs.Kept.{case_of, place_of, plain_of, tables_of};
@@ -21,7 +21,7 @@ use crate::draft::{Doing, Draft, Judged, Setting, Writing};
 use crate::plan::{Configuring, Mutation, Noted, TurnPlan, refused};
 use crate::stepping::step_of;
 use std::alloc::Global;
-use wb_base::{Calendar, Memory, Moment, Number};
+use wb_base::{Calendar, Memory, Moment, Number, limits};
 use wb_custody::SealedTable;
 use wb_model::{Act, Actor, AdminFault, Asked, CaseFault, CustodyFault, Move};
 use wb_queries::{Refusal, TurnContext};
@@ -74,8 +74,8 @@ fn judge_act(
     requires sound { IsSoundDoing (actor_of (who_seen who)) (Doing.Acts act) }
     ensures tenant { cases.new.tenant ≡ cases.old.tenant }
     ensures cases { map case_of cases.new.items ≡ map case_of cases.old.items }
-    ensures judged { IfOk result (λ judged. (trail : List EntryValue) → report_by number (map case_of cases.old.items) ≡ Some (record { number = number; trail = trail }) → IsJudged calendar.now trail time (who_seen who) (Doing.Acts act) judged) }
-    ensures ready { IfOk result (λ judged. (trail : List EntryValue) → report_by number (map case_of cases.old.items) ≡ Some (record { number = number; trail = trail }) → IsReadyFor number cases.new.items judged) }
+    ensures judged { IfOk result (λ judged. (trail : List EntryValue) → HasTrail cases.old.items number trail → IsJudged calendar.now trail time (who_seen who) (Doing.Acts act) judged) }
+    ensures ready { IfOk result (λ judged. (trail : List EntryValue) → HasTrail cases.old.items number trail → IsReadyFor number cases.new.items judged) }
 {
     match cases.act(number, time, actor(who), act, calendar) {
         Ok(entry) => Ok(Judged::Noted(entry)),
@@ -97,7 +97,7 @@ fn judge_move(
     requires sound { IsSoundDoing (actor_of (who_seen who)) (Doing.Moves move_) }
     ensures tenant { cases.new.tenant ≡ cases.old.tenant }
     ensures cases { map case_of cases.new.items ≡ map case_of cases.old.items }
-    ensures judged { IfOk result (λ judged. (calendar : CalendarValue) (trail : List EntryValue) → report_by number (map case_of cases.old.items) ≡ Some (record { number = number; trail = trail }) → IsJudged calendar trail time (who_seen who) (Doing.Moves move_) judged) }
+    ensures judged { IfOk result (λ judged. (calendar : CalendarValue) (trail : List EntryValue) → HasTrail cases.old.items number trail → IsJudged calendar trail time (who_seen who) (Doing.Moves move_) judged) }
     ensures ready { IfOk result (IsReadyFor number cases.new.items) }
 {
     match cases.move_requests(number, time, actor(who), move_) {
@@ -122,8 +122,8 @@ fn judge(
     requires sound { IsSoundDoing (actor_of (who_seen who)) doing }
     ensures tenant { cases.new.tenant ≡ cases.old.tenant }
     ensures cases { map case_of cases.new.items ≡ map case_of cases.old.items }
-    ensures judged { IfOk result (λ judged. (trail : List EntryValue) → report_by number (map case_of cases.old.items) ≡ Some (record { number = number; trail = trail }) → IsJudged calendar.now trail time (who_seen who) doing judged) }
-    ensures ready { IfOk result (λ judged. (trail : List EntryValue) → report_by number (map case_of cases.old.items) ≡ Some (record { number = number; trail = trail }) → IsReadyFor number cases.new.items judged) }
+    ensures judged { IfOk result (λ judged. (trail : List EntryValue) → HasTrail cases.old.items number trail → IsJudged calendar.now trail time (who_seen who) doing judged) }
+    ensures ready { IfOk result (λ judged. (trail : List EntryValue) → HasTrail cases.old.items number trail → IsReadyFor number cases.new.items judged) }
 {
     match doing {
         Doing::Acts(act) => judge_act(cases, calendar, time, who, number, act),
@@ -144,8 +144,8 @@ fn write_in(
     requires early { AreEarly (map case_of tenancy.old.cases.items) }
     requires there { is_there writing.number (map case_of tenancy.old.cases.items) ≡ true }
     requires sound { IsSoundDoing (actor_of (who_seen writing.who)) writing.doing }
-    ensures plan { IfOk result (λ plan. (trail : List EntryValue) → report_by writing.number (map case_of tenancy.old.cases.items) ≡ Some (record { number = writing.number; trail = trail }) → WritesIn tenancy.old.configuration.registry.settings.calendar trail time writing plan) }
-    ensures roomy { IfOk result (λ plan. (trail : List EntryValue) → report_by writing.number (map case_of tenancy.old.cases.items) ≡ Some (record { number = writing.number; trail = trail }) → HasRoomFor tenancy.new sealed.new.spare plan.change) }
+    ensures plan { IfOk result (λ plan. (trail : List EntryValue) → HasTrail tenancy.old.cases.items writing.number trail → WritesIn tenancy.old.configuration.registry.settings.calendar trail time writing plan) }
+    ensures roomy { IfOk result (λ plan. (trail : List EntryValue) → HasTrail tenancy.old.cases.items writing.number trail → HasRoomFor tenancy.new sealed.new.spare plan.change) }
     ensures place { place_of tenancy.new ≡ place_of tenancy.old }
     ensures sealed { sealed.new.items ≡ sealed.old.items }
 {
@@ -177,8 +177,8 @@ fn most(proposal: &Proposal) -> u32
     ensures { result ≡ most_of proposal.now }
 {
     match proposal {
-        Proposal::ToUser(..) => 10_000,
-        Proposal::ToForm(..) => 99,
+        Proposal::ToUser(..) => limits::DISABLINGS,
+        Proposal::ToForm(..) => limits::VERSIONS,
         Proposal::ToTenant(_) | Proposal::ToContext(..) => 0,
     }
 }

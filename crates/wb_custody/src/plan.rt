@@ -1,13 +1,11 @@
 //! What a move puts on a trail.
-ghost use Rattle.std.specs.Prelude.{◌≡◌, ◌≤◌, ℕ, ℤ, List, length, false, true, IfOk};
+ghost use Rattle.std.specs.Prelude.{◌≡◌, ◌≤◌, List, length, false, true, IfOk};
 ghost use Rattle.wb_model.specs.declared.entry.Entry.{Entry as EntryData};
-ghost use Rattle.wb_model.specs.Access.{requests as requests_of};
-ghost use Rattle.wb_model.specs.Trails.{has_identity};
 ghost use Rattle.wb_model.specs.Moves as moves;
 ghost use Rattle.wb_model.specs.Doings.{Moves};
-ghost use Rattle.wb_model.specs.Legal.{Reckoning, is_next, last_at, is_reporter, right_actor, AsksRightly};
+ghost use Rattle.wb_model.specs.Legal.{Reckoning, last_at, is_reporter, right_actor, AsksRightly, GoesOn};
 ghost use Rattle.wb_custody.specs.Desks.{HasRoom};
-ghost use Rattle.wb_custody.specs.Plans.{IsPlanned, GivesPlan};
+ghost use Rattle.wb_custody.specs.Plans.{IsPlanned, GivesPlan, IsTrailOf};
 
 use crate::AccessDesk;
 use crate::rules::id_of;
@@ -107,7 +105,7 @@ impl AccessDesk {
         ensures items { self.new.items ≡ self.old.items }
         ensures room { IfOk result (λ entry. HasRoom self.new entry.deed) }
         ensures actor { IfOk result (λ entry. right_actor entry.deed entry.by ≡ true) }
-        ensures legal { IfOk result (λ entry. (days : Reckoning) (before : List EntryData) → requests_of before ≡ self.old.items → length before ≡ trail → has_identity before ≡ mark → AsksRightly days at by (Moves move_) → last_at 0 before ≤ at → is_next days (last_at 0 before) before entry ≡ true) }
+        ensures legal { IfOk result (λ entry. (days : Reckoning) (before : List EntryData) → IsTrailOf self.old.items trail mark before → AsksRightly days at by (Moves move_) → last_at 0 before ≤ at → GoesOn days before entry) }
     {
         what_is_not_refused_is_legal();
         match self.judge(trail, mark, at, by, move_) {

@@ -8,13 +8,8 @@ ghost use Rattle.wb_model.specs.Refusing.{refuses_where};
 
 use crate::AccessDesk;
 use crate::requests::state_now;
+use wb_base::limits;
 use wb_model::{AccessRequest, Actor, CustodyFault, Move, State};
-
-/// The most requests of a report.
-const DESK_FULL: usize = 100;
-
-/// The most entries of a trail after which an ask or a grant may come.
-const TRAIL_FULL: usize = 4096;
 
 /// The id of who acts, 0 for the reporter.
 pub(crate) fn id_of(actor: &Actor) -> u16
@@ -61,7 +56,7 @@ fn pending(requests: &[AccessRequest], user: u16, stamp: u32) -> Option<CustodyF
 fn desk_full(requests: &[AccessRequest]) -> Option<CustodyFault>
     ensures { result ≡ moves.desk_full requests.now }
 {
-    if DESK_FULL <= requests.len() {
+    if limits::REQUESTS <= requests.len() {
         Some(CustodyFault::DeskFull)
     } else {
         None
@@ -72,7 +67,7 @@ fn desk_full(requests: &[AccessRequest]) -> Option<CustodyFault>
 fn trail_full(entries: usize) -> Option<CustodyFault>
     ensures { result ≡ moves.full entries }
 {
-    if entries < TRAIL_FULL {
+    if entries < limits::TRAIL_ENTRIES {
         None
     } else {
         Some(CustodyFault::TrailFull)

@@ -1,8 +1,7 @@
 -- What a step of a desk makes of the books.
-use Rattle.std.proofs.Common.{◌≡◌, ◌<◌, ◌≤◌, ◌+◌, ◌==◌, ℕ, Bool, true, false, cond, nat_lt, List, refl, sym, ap, ◌∙◌, subst, arith}
+use Rattle.std.proofs.Common.{◌≡◌, ◌<◌, ◌≤◌, ◌+◌, ◌==◌, ℕ, Bool, true, false, cond, nat_lt, refl, sym, ap, ◌∙◌, subst, arith}
 use Rattle.std.specs.Prelude.{◌&&◌}
 use Rattle.std.proofs.lemmas.Bool.Decides.{nat_tests}
-use Rattle.wb_base.specs.declared.rows.Row.{Row}
 use Rattle.wb_model.specs.declared.body.Told.{Told}
 use Rattle.wb_model.specs.Commands.{is_submission}
 use Rattle.wb_model.specs.Drawn.{numbers_of, is_accepted}
@@ -22,6 +21,7 @@ use Rattle.wb_desk.specs.GoneOn.{IsLater}
 use Rattle.wb_desk.specs.Hosted.{Hosted, Hand, IsBooked}
 use Rattle.wb_desk.specs.Turned.{CameTo, IsMade, IsSealed, IsAbsent, turns_with, numbers_with, Turned}
 use Rattle.wb_desk.proofs.MoreTurns.{once_more}
+use Rattle.wb_base.specs.Ends.{KeeperEnd}
 
 -- what the law of draws, and that of turns that are spent, say
 abbrev pub DrawsLaw : Type 0
@@ -31,31 +31,31 @@ abbrev pub OthersLaw : Type 0
 OthersLaw = (past : Past AllOpened) (f : Frame) (loss : Loss) → is_turns_spent (play_asked past f loss).reply.told ≡ false
 
 -- the step of a desk that has a turn to make, from any past that it stands for
-module _ (draws : DrawsLaw) (others : OthersLaw) (honest : Type 0) (holds holds' : List Row → Type 0) (before now : ℕ) (f : Frame) (told : Told) (past : Past AllOpened) where
+module _ (draws : DrawsLaw) (others : OthersLaw) (keeper keeper' : KeeperEnd) (f : Frame) (told : Told) (past : Past AllOpened) where
   turned_once : (loss : Loss) → MayLose past f loss → turns (play_asked past f loss).past ≡ turns past + 1
   turned_once NotLost may = refl
   turned_once ByKeeper may = refl
   turned_once ByMemory may = refl
   turned_once (Unread close) may = absurd may
 
-  pub one_turn : (h h' : Hosts) (loss : Loss) → StandsFor h past → Took honest holds holds' before now past f loss told h' → h'.turns ≡ h.turns + 1
+  pub one_turn : (h h' : Hosts) (loss : Loss) → StandsFor h past → Took keeper keeper' past f loss told h' → h'.turns ≡ h.turns + 1
   one_turn h h' loss stands took = ap (λ (x : Hosts). x.turns) took.stands ∙ (turned_once loss took.possible ∙ ap (λ (x : Hosts). x.turns + 1) (sym stands))
 
-  pub one_number : (h h' : Hosts) (loss : Loss) → StandsFor h past → Took honest holds holds' before now past f loss told h' → numbers_of h' ≡ numbers_of h + cond (is_accepted f.asked.command told) 1 0
+  pub one_number : (h h' : Hosts) (loss : Loss) → StandsFor h past → Took keeper keeper' past f loss told h' → numbers_of h' ≡ numbers_of h + cond (is_accepted f.asked.command told) 1 0
   one_number h h' loss stands took =
       ap numbers_of took.stands
       ∙ (draws past f loss
       ∙ (ap (λ x. numbers_of x + cond (is_accepted f.asked.command (play_asked past f loss).reply.told) 1 0) (sym stands)
       ∙ ap (λ x. numbers_of h + cond (is_accepted f.asked.command x) 1 0) (sym took.told)))
 
-  pub not_spent : (h' : Hosts) (loss : Loss) → Took honest holds holds' before now past f loss told h' → is_turns_spent told ≡ false
+  pub not_spent : (h' : Hosts) (loss : Loss) → Took keeper keeper' past f loss told h' → is_turns_spent told ≡ false
   not_spent h' loss took = ap is_turns_spent took.told ∙ others past f loss
 
-  pub still_kept : (h h' : Hosts) (loss : Loss) → StandsFor h past → Took honest holds holds' before now past f loss told h' → honest → holds (rows_of h.list) → holds' (rows_of h'.list)
+  pub still_kept : (h h' : Hosts) (loss : Loss) → StandsFor h past → Took keeper keeper' past f loss told h' → keeper'.honest → keeper.holds (rows_of h.list) → keeper'.holds (rows_of h'.list)
   still_kept h h' loss stands took is old =
-      subst (λ (x : Hosts). holds' (rows_of x.list)) (sym took.stands) (took.kept is (subst (λ (x : Hosts). holds (rows_of x.list)) stands old))
+      subst (λ (x : Hosts). keeper'.holds (rows_of x.list)) (sym took.stands) (took.kept is (subst (λ (x : Hosts). keeper.holds (rows_of x.list)) stands old))
 
-  pub came : (h' : Hosts) (loss : Loss) → Took honest holds holds' before now past f loss told h' → CameTo before now past f loss told h'
+  pub came : (h' : Hosts) (loss : Loss) → Took keeper keeper' past f loss told h' → CameTo keeper.count keeper'.count past f loss told h'
   came h' loss took = record { possible = took.possible; told = took.told; stands = took.stands; counted = took.counted; kept = λ none old. tt }
 
 -- the answer after the last turn accepts no submission
@@ -74,10 +74,10 @@ spent_draws f told is = by (is_submission f.asked.command) (told.status == 201) 
     by false c e = refl
 
 -- the books after a turn
-pub booked_made : (honest honest' : Type 0) (holds holds' : List Row → Type 0) (d d' opened : Standing) (turns numbers made drawn : ℕ) (accepted : Bool) → IsBooked d opened turns numbers honest holds → d.turns < 1_000_000_000_000_000 → made ≡ cond (nat_lt (opened.turns + turns) 1_000_000_000_000_000) 1 0 → drawn ≡ cond accepted 1 0 →
-    d'.turns ≡ d.turns + 1 → numbers_of (hosts_of d') ≡ numbers_of (hosts_of d) + cond accepted 1 0 → (honest' → honest) → (honest' → holds (rows_of (hosts_of d).list) → holds' (rows_of (hosts_of d').list)) → IsLater opened (turns + 1) d' →
-    IsBooked d' opened (turns + made) (numbers + drawn) honest' holds'
-booked_made honest honest' holds holds' d d' opened turns numbers made drawn accepted booked below is_made is_drawn more total back keeps later =
+pub booked_made : (keeper keeper' : KeeperEnd) (d d' opened : Standing) (turns numbers made drawn : ℕ) (accepted : Bool) → IsBooked d opened turns numbers keeper → d.turns < 1_000_000_000_000_000 → made ≡ cond (nat_lt (opened.turns + turns) 1_000_000_000_000_000) 1 0 → drawn ≡ cond accepted 1 0 →
+    d'.turns ≡ d.turns + 1 → numbers_of (hosts_of d') ≡ numbers_of (hosts_of d) + cond accepted 1 0 → (keeper'.honest → keeper.honest) → (keeper'.honest → keeper.holds (rows_of (hosts_of d).list) → keeper'.holds (rows_of (hosts_of d').list)) → IsLater opened (turns + 1) d' →
+    IsBooked d' opened (turns + made) (numbers + drawn) keeper'
+booked_made keeper keeper' d d' opened turns numbers made drawn accepted booked below is_made is_drawn more total back keeps later =
     let one : made ≡ 1 = by_made (nat_lt (opened.turns + turns) 1_000_000_000_000_000) refl is_made in
     let few : drawn ≤ 1 = at_most accepted is_drawn in record {
       turns_add_up = omega (arith, more, one, booked.turns_add_up);
@@ -99,18 +99,18 @@ booked_made honest honest' holds holds' d d' opened turns numbers made drawn acc
 -- ---- the whole turn
 
 -- what a step ensures
-pub record Ensured (honest honest' : Type 0) (holds holds' : List Row → Type 0) (before now : ℕ) (d d' : Standing) (f : Frame) (told : Told) : Type 0 where
-  pub spent : 1_000_000_000_000_000 ≤ d.turns → (told ≡ turns_spent) × (d' ≡ d) × (now ≡ before) × (honest' → holds (rows_of (hosts_of d).list) → holds' (rows_of (hosts_of d).list))
-  pub turn : d.turns < 1_000_000_000_000_000 → (past : Past AllOpened) → StandsFor (hosts_of d) past → (loss : Loss) × Took honest' holds holds' before now past f loss told (hosts_of d')
-  pub back : honest' → honest
-  pub later : before ≤ now
+pub record Ensured (keeper keeper' : KeeperEnd) (d d' : Standing) (f : Frame) (told : Told) : Type 0 where
+  pub spent : 1_000_000_000_000_000 ≤ d.turns → (told ≡ turns_spent) × (d' ≡ d) × (keeper'.count ≡ keeper.count) × (keeper'.honest → keeper.holds (rows_of (hosts_of d).list) → keeper'.holds (rows_of (hosts_of d).list))
+  pub turn : d.turns < 1_000_000_000_000_000 → (past : Past AllOpened) → StandsFor (hosts_of d) past → (loss : Loss) × Took keeper keeper' past f loss told (hosts_of d')
+  pub back : keeper'.honest → keeper.honest
+  pub later : keeper.count ≤ keeper'.count
 
 -- and what it tells of reports that others may not read, and of those that are gone
 pub record Withheld (d d' : Standing) (f : Frame) (told : Told) : Type 0 where
   pub sealed : d.turns < 1_000_000_000_000_000 → IsMade told → (t r : ℕ) → IsSealed t r (hosts_of d) f told (hosts_of d')
   pub absent : d.turns < 1_000_000_000_000_000 → IsMade told → (t r : ℕ) → IsAbsent t r (hosts_of d) f (hosts_of d')
 
-module _ (draws : DrawsLaw) (others : OthersLaw) (told_spent : is_turns_spent turns_spent ≡ true) (honest honest' : Type 0) (holds holds' : List Row → Type 0) (before now : ℕ) (d d' : Standing) (f : Frame) (told : Told) (fit : fits_command f.asked.command ≡ true) (is_desk : IsDesk d) (step : Ensured honest honest' holds holds' before now d d' f told) where
+module _ (draws : DrawsLaw) (others : OthersLaw) (told_spent : is_turns_spent turns_spent ≡ true) (keeper keeper' : KeeperEnd) (d d' : Standing) (f : Frame) (told : Told) (fit : fits_command f.asked.command ≡ true) (is_desk : IsDesk d) (step : Ensured keeper keeper' d d' f told) where
   -- what the books rise by
   made_is : (first turns made : ℕ) → d.turns ≡ first + turns → made ≡ cond (nat_lt (first + turns) 1_000_000_000_000_000) 1 0 → made ≡ cond (is_turns_spent told) 0 1
   made_is first turns made sum is = by (nat_lt (first + turns) 1_000_000_000_000_000) refl is
@@ -118,7 +118,7 @@ module _ (draws : DrawsLaw) (others : OthersLaw) (told_spent : is_turns_spent tu
       by : (b : Bool) → nat_lt (first + turns) 1_000_000_000_000_000 ≡ b → made ≡ cond b 1 0 → made ≡ cond (is_turns_spent told) 0 1
       by true test e =
           let took = step.turn (grind (arith, nat_tests, test, sum)) is_desk.past.past is_desk.past.stands in
-          e ∙ ap (λ b. cond b 0 1) (sym (not_spent draws others honest' holds holds' before now f told is_desk.past.past (hosts_of d') took.0 took.1))
+          e ∙ ap (λ b. cond b 0 1) (sym (not_spent draws others keeper keeper' f told is_desk.past.past (hosts_of d') took.0 took.1))
       by false test e = e ∙ ap (λ b. cond b 0 1) (sym (ap is_turns_spent (step.spent (grind (arith, nat_tests, test, sum))).0 ∙ told_spent))
 
   -- the desk goes on by the turn
@@ -128,25 +128,25 @@ module _ (draws : DrawsLaw) (others : OthersLaw) (told_spent : is_turns_spent tu
       let took = step.turn below (past_after start gone.places) gone.stands in
       once_more start turns (hosts_of d) (hosts_of d') f gone took.0 fit took.1.possible took.1.stands
 
-  pub booked_after : (opened : Standing) (turns numbers made drawn : ℕ) → IsBooked d opened turns numbers honest holds → made ≡ cond (nat_lt (opened.turns + turns) 1_000_000_000_000_000) 1 0 → drawn ≡ cond (is_accepted f.asked.command told) 1 0 →
-      IsBooked d' opened (turns + made) (numbers + drawn) honest' holds'
+  pub booked_after : (opened : Standing) (turns numbers made drawn : ℕ) → IsBooked d opened turns numbers keeper → made ≡ cond (nat_lt (opened.turns + turns) 1_000_000_000_000_000) 1 0 → drawn ≡ cond (is_accepted f.asked.command told) 1 0 →
+      IsBooked d' opened (turns + made) (numbers + drawn) keeper'
   booked_after opened turns numbers made drawn booked is_made is_drawn = by (nat_lt (opened.turns + turns) 1_000_000_000_000_000) refl is_made
     where
-      by : (b : Bool) → nat_lt (opened.turns + turns) 1_000_000_000_000_000 ≡ b → made ≡ cond b 1 0 → IsBooked d' opened (turns + made) (numbers + drawn) honest' holds'
+      by : (b : Bool) → nat_lt (opened.turns + turns) 1_000_000_000_000_000 ≡ b → made ≡ cond b 1 0 → IsBooked d' opened (turns + made) (numbers + drawn) keeper'
       by true test e =
           let below : d.turns < 1_000_000_000_000_000 = grind (arith, nat_tests, test, booked.turns_add_up) in
           let took = step.turn below is_desk.past.past is_desk.past.stands in
-          booked_made honest honest' holds holds' d d' opened turns numbers made drawn (is_accepted f.asked.command told) booked below is_made is_drawn
-          (one_turn draws others honest' holds holds' before now f told is_desk.past.past (hosts_of d) (hosts_of d') took.0 is_desk.past.stands took.1)
-          (one_number draws others honest' holds holds' before now f told is_desk.past.past (hosts_of d) (hosts_of d') took.0 is_desk.past.stands took.1)
+          booked_made keeper keeper' d d' opened turns numbers made drawn (is_accepted f.asked.command told) booked below is_made is_drawn
+          (one_turn draws others keeper keeper' f told is_desk.past.past (hosts_of d) (hosts_of d') took.0 is_desk.past.stands took.1)
+          (one_number draws others keeper keeper' f told is_desk.past.past (hosts_of d) (hosts_of d') took.0 is_desk.past.stands took.1)
           step.back
-          (still_kept draws others honest' holds holds' before now f told is_desk.past.past (hosts_of d) (hosts_of d') took.0 is_desk.past.stands took.1)
+          (still_kept draws others keeper keeper' f told is_desk.past.past (hosts_of d) (hosts_of d') took.0 is_desk.past.stands took.1)
           (later_made opened turns below booked.later)
       by false test e =
           let left = step.spent (grind (arith, nat_tests, test, booked.turns_add_up)) in
           let none : drawn ≡ 0 = is_drawn ∙ ap (λ b. cond b 1 0) (spent_draws f told left.0) in
           let same : turns ≡ turns + made = omega (arith, e) in
-          subst (λ x. IsBooked x opened (turns + made) (numbers + drawn) honest' holds') (sym left.1) (record {
+          subst (λ x. IsBooked x opened (turns + made) (numbers + drawn) keeper') (sym left.1) (record {
             turns_add_up = omega (arith, e, booked.turns_add_up);
             numbers_add_up = omega (arith, none, booked.numbers_add_up);
             most = booked.most;
@@ -170,14 +170,14 @@ module _ (draws : DrawsLaw) (others : OthersLaw) (told_spent : is_turns_spent tu
       by false is = omega (arith, is)
 
   turned_over : Withheld d d' f told → (opened : Standing) (turns numbers made drawn parts share drew : ℕ) → d.turns ≡ opened.turns + turns → IsLater opened turns d → made ≡ cond (nat_lt (opened.turns + turns) 1_000_000_000_000_000) 1 0 → drawn ≡ cond (is_accepted f.asked.command told) 1 0 → share ≤ turns → drew ≤ numbers →
-      Turned f (record { desk = d; opened = opened; turns = turns; numbers = numbers; faults = before }) (record { parts = parts; turns = share; numbers = drew })
-      (record { desk = d'; opened = opened; turns = turns + made; numbers = numbers + drawn; faults = now }) (record { parts = parts; turns = share + made; numbers = drew + drawn }) told
+      Turned f (record { desk = d; opened = opened; turns = turns; numbers = numbers; faults = keeper.count }) (record { parts = parts; turns = share; numbers = drew })
+      (record { desk = d'; opened = opened; turns = turns + made; numbers = numbers + drawn; faults = keeper'.count }) (record { parts = parts; turns = share + made; numbers = drew + drawn }) told
   turned_over withheld opened turns numbers made drawn parts share drew sum gone_on is_made is_drawn share_le drew_le =
       let rises : made ≡ cond (is_turns_spent told) 0 1 = made_is opened.turns turns made sum is_made in record {
         stands = is_desk.past;
         gone_on = gone_on;
         made = λ below. record {
-          turn = λ past stands. let took = step.turn below past stands in (took.0, came draws others honest' holds holds' before now f told past (hosts_of d') took.0 took.1);
+          turn = λ past stands. let took = step.turn below past stands in (took.0, came draws others keeper keeper' f told past (hosts_of d') took.0 took.1);
           sealed = withheld.sealed below;
           absent = withheld.absent below;
         };
@@ -191,10 +191,10 @@ module _ (draws : DrawsLaw) (others : OthersLaw) (told_spent : is_turns_spent tu
         numbers_within = drew_le;
       }
 
-  pub turned_by : Withheld d d' f told → (h : Hosted) (p : Hand) (opened : Standing) (turns numbers made drawn parts share drew : ℕ) → record { desk = d; opened = opened; turns = turns; numbers = numbers; faults = before } ≡ h → record { parts = parts; turns = share; numbers = drew } ≡ p →
+  pub turned_by : Withheld d d' f told → (h : Hosted) (p : Hand) (opened : Standing) (turns numbers made drawn parts share drew : ℕ) → record { desk = d; opened = opened; turns = turns; numbers = numbers; faults = keeper.count } ≡ h → record { parts = parts; turns = share; numbers = drew } ≡ p →
       d.turns ≡ opened.turns + turns → IsLater opened turns d → made ≡ cond (nat_lt (opened.turns + turns) 1_000_000_000_000_000) 1 0 → drawn ≡ cond (is_accepted f.asked.command told) 1 0 → share ≤ turns → drew ≤ numbers →
-      Turned f h p (record { desk = d'; opened = opened; turns = turns + made; numbers = numbers + drawn; faults = now }) (record { parts = parts; turns = share + made; numbers = drew + drawn }) told
+      Turned f h p (record { desk = d'; opened = opened; turns = turns + made; numbers = numbers + drawn; faults = keeper'.count }) (record { parts = parts; turns = share + made; numbers = drew + drawn }) told
   turned_by withheld h p opened turns numbers made drawn parts share drew host pass sum gone_on is_made is_drawn share_le drew_le =
-      subst (λ (x : Hosted). Turned f x p (record { desk = d'; opened = opened; turns = turns + made; numbers = numbers + drawn; faults = now }) (record { parts = parts; turns = share + made; numbers = drew + drawn }) told) host
-      (subst (λ (y : Hand). Turned f (record { desk = d; opened = opened; turns = turns; numbers = numbers; faults = before }) y (record { desk = d'; opened = opened; turns = turns + made; numbers = numbers + drawn; faults = now }) (record { parts = parts; turns = share + made; numbers = drew + drawn }) told) pass
+      subst (λ (x : Hosted). Turned f x p (record { desk = d'; opened = opened; turns = turns + made; numbers = numbers + drawn; faults = keeper'.count }) (record { parts = parts; turns = share + made; numbers = drew + drawn }) told) host
+      (subst (λ (y : Hand). Turned f (record { desk = d; opened = opened; turns = turns; numbers = numbers; faults = keeper.count }) y (record { desk = d'; opened = opened; turns = turns + made; numbers = numbers + drawn; faults = keeper'.count }) (record { parts = parts; turns = share + made; numbers = drew + drawn }) told) pass
       (turned_over withheld opened turns numbers made drawn parts share drew sum gone_on is_made is_drawn share_le drew_le))

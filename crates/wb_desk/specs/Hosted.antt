@@ -1,10 +1,10 @@
 -- A host whose turns are booked, and the passes to it, as contracts see them.
 use Rattle.std.specs.Prelude.{◌≡◌, ℕ, ◌+◌, ◌≤◌, List, sum_by}
-use Rattle.wb_base.specs.declared.rows.Row.{Row}
 use Rattle.wb_model.specs.Drawn.{numbers_of}
 use Rattle.wb_model.specs.Rows.{rows_of}
 use Rattle.wb_tables.specs.Standing.{Standing, hosts_of}
 use Rattle.wb_desk.specs.GoneOn.{IsLater}
+use Rattle.wb_base.specs.Ends.{KeeperEnd}
 
 -- a host: its desk, the desk over which its books were opened, the two books since, and how often its keeper failed
 pub record Hosted : Type 0 where
@@ -20,12 +20,12 @@ begun desk faults = record { desk = desk; opened = desk; turns = 0; numbers = 0;
 
 -- a desk has made the turns that stood when the books were opened and those of the book, and drawn the numbers that stood then and those of
 -- the book; an honest keeper holds its rows; and it is the desk over which they were opened, gone on by the turns of the book
-pub record IsBooked (d opened : Standing) (turns numbers : ℕ) (honest : Type 0) (holds : List Row → Type 0) : Type 0 where
+pub record IsBooked (d opened : Standing) (turns numbers : ℕ) (keeper : KeeperEnd) : Type 0 where
   pub turns_add_up : d.turns ≡ opened.turns + turns
   pub numbers_add_up : numbers_of (hosts_of d) ≡ numbers_of (hosts_of opened) + numbers
   pub most : d.turns ≤ 1_000_000_000_000_000
   pub few : numbers ≤ turns
-  pub kept : honest → holds (rows_of (hosts_of d).list)
+  pub kept : keeper.honest → keeper.holds (rows_of (hosts_of d).list)
   pub later : IsLater opened turns d
 
 -- a pass: its parts, and its shares of the two books

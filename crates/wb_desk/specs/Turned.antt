@@ -15,21 +15,37 @@ use Rattle.wb_desk.specs.Kept.{Took}
 use Rattle.wb_desk.specs.Turns.{IsGone, StandsFor}
 use Rattle.wb_desk.specs.GoneOn.{IsLater}
 use Rattle.wb_desk.specs.Hosted.{Hosted, Hand}
+use Rattle.wb_base.specs.Ends.{KeeperEnd}
 
 -- ---- what is said of the desk
 
+-- a keeper that tells nothing but how often it failed
+abbrev pub untold : ℕ → KeeperEnd
+untold count = record { honest = ⊥; holds = λ rows. Unit {0}; count = count }
+
 -- what a turn of a desk that stands for a past came to, with the keeper's count before and now; that it keeps its rows is said of the host
 abbrev pub CameTo : ℕ → ℕ → Past AllOpened → Frame → Loss → Told → Hosts → Type 0
-CameTo before now past f loss told after = Took ⊥ (λ rows. Unit {0}) (λ rows. Unit {0}) before now past f loss told after
+CameTo before now past f loss told after = Took (untold before) (untold now) past f loss told after
+
+-- for each past that the hosts stand for there is a loss that may stand there, with which the reply, the hosts after it and the keeper's rows are the past's
+abbrev pub TookTurn : KeeperEnd → KeeperEnd → Hosts → Frame → Told → Hosts → Type 0
+TookTurn keeper keeper' h f told h' = (past : Past AllOpened) → StandsFor h past → (loss : Loss) × Took keeper keeper' past f loss told h'
 
 -- the turn was made, and not lost
 abbrev pub IsMade : Told → Type 0
 IsMade told = (told ≢ no_memory) × (told ≢ keeper_failed)
 
--- but to its readers the reply is the same whatever identity answers report r of tenant t has, and so are the tables after it but for them
+-- but to its readers the reply is the same whatever identity answers report r of tenant t has
+abbrev pub HidesInReply : ℕ → ℕ → Hosts → Frame → Told → Type 0
+HidesInReply t r h f told = (k : Hosts) (b : Frame) → AllHostsAlike t r h k → OneLaterAlike t r h f b → is_report_reader t r h f ≡ false → told ≡ hosts_reply k b
+
+-- and so are the tables after it, but for them
+abbrev pub HidesInHosts : ℕ → ℕ → Hosts → Frame → Hosts → Type 0
+HidesInHosts t r h f h' = (k : Hosts) (b : Frame) → AllHostsAlike t r h k → OneLaterAlike t r h f b → AllHostsAlike t r h' (hosts_after k b)
+
 pub record IsSealed (t r : ℕ) (h : Hosts) (f : Frame) (told : Told) (h' : Hosts) : Type 0 where
-  pub reply : (k : Hosts) (b : Frame) → AllHostsAlike t r h k → OneLaterAlike t r h f b → is_report_reader t r h f ≡ false → told ≡ hosts_reply k b
-  pub hosts : (k : Hosts) (b : Frame) → AllHostsAlike t r h k → OneLaterAlike t r h f b → AllHostsAlike t r h' (hosts_after k b)
+  pub reply : HidesInReply t r h f told
+  pub hosts : HidesInHosts t r h f h'
   -- and so it is where the turn is the submission that makes the report
   pub first : (b : Frame) → FirstAlike t r h f b → f.asked.close ≡ b.asked.close → (is_report_reader t r h f ≡ false → told ≡ hosts_reply h b) × AllHostsAlike t r h' (hosts_after h b)
 

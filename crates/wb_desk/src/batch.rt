@@ -157,12 +157,12 @@ pub fn put_setting(batch: &mut Vec<Change>, row: &Row) -> Result<(), Memory>
 /// Keeps a batch in one call, or makes none where there is nothing to keep.
 pub fn keep<K: Keeper>(keeper: &mut K, batch: &[Change]) -> Result<(), Lost>
     requires { All IsGoodChange batch.now }
-    ensures back { K.honest keeper.new → K.honest keeper.old }
-    ensures ok { K.honest keeper.new → (rows : List KeptRow) → K.holds keeper.old rows → OnOk result (K.holds keeper.new (all_changed rows batch.now)) }
-    ensures err { K.honest keeper.new → (rows : List KeptRow) → K.holds keeper.old rows → OnErr result (K.holds keeper.new rows) }
-    ensures later { K.count keeper.old ≤ K.count keeper.new }
-    ensures fault { result ≡ Err Lost.Keeper → Rose (K.count keeper.old) (K.count keeper.new) }
-    ensures stayed { result ≢ Err Lost.Keeper → K.count keeper.new ≡ K.count keeper.old }
+    ensures back { (K.end keeper.new).honest → (K.end keeper.old).honest }
+    ensures ok { (K.end keeper.new).honest → (rows : List KeptRow) → (K.end keeper.old).holds rows → OnOk result ((K.end keeper.new).holds (all_changed rows batch.now)) }
+    ensures err { (K.end keeper.new).honest → (rows : List KeptRow) → (K.end keeper.old).holds rows → OnErr result ((K.end keeper.new).holds rows) }
+    ensures later { (K.end keeper.old).count ≤ (K.end keeper.new).count }
+    ensures fault { result ≡ Err Lost.Keeper → Rose (K.end keeper.old).count (K.end keeper.new).count }
+    ensures stayed { result ≢ Err Lost.Keeper → (K.end keeper.new).count ≡ (K.end keeper.old).count }
     ensures asked { OnErr result (batch.now ≢ []) }
 {
     if batch.is_empty() {

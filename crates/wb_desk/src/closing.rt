@@ -40,10 +40,10 @@ impl<K: Keeper, A: Origin, B: Ledger> Kept<K, A, B> {
     /// the parts of the ledgers.
     pub fn close(self, passes: Vec<Pass<A, B>>) -> Result<Closed<K>, KeptBack<K, A, B>>
         ensures ok { IfOk result (λ c. (c.turns ≡ self.turns) × (c.numbers ≡ self.numbers) × (turns_of passes.items ≡ self.turns) × (numbers_drawn passes.items ≡ self.numbers)) }
-        ensures desk { IfOk result (λ c. (c.desk ≡ self.desk) × (K.count c.keeper ≡ self.faults)) }
-        ensures kept { IfOk result (λ c. K.honest c.keeper → K.holds c.keeper (rows_of (hosts_of c.desk).list)) }
+        ensures desk { IfOk result (λ c. (c.desk ≡ self.desk) × ((K.end c.keeper).count ≡ self.faults)) }
+        ensures kept { IfOk result (λ c. (K.end c.keeper).honest → (K.end c.keeper).holds (rows_of (hosts_of c.desk).list)) }
         ensures opened { IfOk result (λ c. (c.desk.turns ≡ A.desk.turns + c.turns) × (numbers_of (hosts_of c.desk) ≡ numbers_of (hosts_of A.desk) + c.numbers) × IsLater A.desk c.turns c.desk) }
-        ensures honest { IfOk result (λ c. K.honest c.keeper → A.honest) }
+        ensures honest { IfOk result (λ c. (K.end c.keeper).honest → A.honest) }
         ensures back { IfErr result (λ k. (k.kept ≡ self) × (k.passes.items ≡ passes.items)) }
         ensures sums { IfErr result (λ k. (k.book.turns ≡ self.turns) × (k.book.numbers ≡ self.numbers) × (k.sum.turns ≡ turns_of passes.items) × (k.sum.numbers ≡ numbers_drawn passes.items)) }
         ensures differ { IfErr result (λ k. k.sum.turns ≡ k.book.turns → k.sum.numbers ≢ k.book.numbers) }

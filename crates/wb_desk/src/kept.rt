@@ -9,12 +9,11 @@ ghost use Rattle.wb_desk.specs.Turned.{Turned};
 ghost use Rattle.wb_desk.specs.Whole.{IsWholeHost};
 
 use crate::Desk;
-use crate::desk::TURNS;
 use crate::origin::Origin;
 use crate::pass::Pass;
 use std::marker::Model;
 use std::sync::ledger::{Blank, Book, Ledger, Share};
-use wb_base::{Keeper, Moment, Words};
+use wb_base::{Keeper, Moment, Words, limits};
 use wb_model::{
     Asked, Command, Told, a_host_opens_again, a_turn_is_not_answered_as_spent,
     alike_scripts_get_the_same_replies, an_accepted_submission_draws_a_number,
@@ -44,9 +43,9 @@ impl<K: Keeper, A: Origin, B: Ledger> Model for Kept<K, A, B> {
 
     ghost Value = { Hosted };
 
-    ghost view = { λ k. record { desk = k.desk; opened = A.desk; turns = k.turns; numbers = k.numbers; faults = K.count k.keeper } };
+    ghost view = { λ k. record { desk = k.desk; opened = A.desk; turns = k.turns; numbers = k.numbers; faults = (K.end k.keeper).count } };
 
-    ghost invariant = { λ k. (k.turn_book.total ≡ k.turns) × (k.number_book.total ≡ k.numbers) × (k.turn_mark.parts ≡ 0) × (k.turn_mark.amount ≡ 0) × (k.number_mark.parts ≡ 0) × (k.number_mark.amount ≡ 0) × IsBooked k.desk A.desk k.turns k.numbers (K.honest k.keeper) (K.holds k.keeper) × (k.first ≡ A.desk.turns) × (K.honest k.keeper → A.honest) };
+    ghost invariant = { λ k. (k.turn_book.total ≡ k.turns) × (k.number_book.total ≡ k.numbers) × (k.turn_mark.parts ≡ 0) × (k.turn_mark.amount ≡ 0) × (k.number_mark.parts ≡ 0) × (k.number_mark.amount ≡ 0) × IsBooked k.desk A.desk k.turns k.numbers (K.end k.keeper) × (k.first ≡ A.desk.turns) × ((K.end k.keeper).honest → A.honest) };
 }
 
 // Whether a submission was asked and accepted.
@@ -73,12 +72,12 @@ impl<K: Keeper, A: Origin, B: Ledger> Kept<K, A, B> {
         numbers: Blank,
     ) -> (Kept<K, A, B>, Pass<A, B>)
         requires some { 1 ≤ parts }
-        requires kept { K.honest keeper → K.holds keeper (rows_of (hosts_of desk).list) }
+        requires kept { (K.end keeper).honest → (K.end keeper).holds (rows_of (hosts_of desk).list) }
         requires desk { A.desk ≡ desk }
-        requires honest { K.honest keeper → A.honest }
+        requires honest { (K.end keeper).honest → A.honest }
         requires turns { (turns.name ≡ A.name) × (turns.parts ≡ A.parts) × (turns.parts ≡ parts) }
         requires numbers { (numbers.name ≡ B.name) × (numbers.parts ≡ B.parts) × (numbers.parts ≡ parts) }
-        ensures host { result.0 ≡ begun desk (K.count keeper) }
+        ensures host { result.0 ≡ begun desk (K.end keeper).count }
         ensures pass { result.1 ≡ record { parts = parts; turns = 0; numbers = 0 } }
     {
         let (turn_book, mut turn_share) = turns.open::<A>();
@@ -144,7 +143,7 @@ impl<K: Keeper, A: Origin, B: Ledger> Kept<K, A, B> {
         self.desk.stands();
         self.turn_book.audit(&mut pass.turn_share);
         self.number_book.audit(&mut pass.number_share);
-        let made = one_if(self.first + self.turns < TURNS);
+        let made = one_if(self.first + self.turns < limits::TURNS);
         let told = self.desk.step(&mut self.keeper, asked, moment, words);
         let drawn = one_if(is_accepted(asked, &told));
         self.turn_book.add(&mut pass.turn_share, made);

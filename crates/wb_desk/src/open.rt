@@ -62,13 +62,13 @@ impl From<RowFault> for OpenFault {
 
 /// The rows that a keeper holds.
 pub fn load<K: Keeper>(keeper: &mut K) -> Result<Vec<Row>, Lost>
-    ensures back { K.honest keeper.new → K.honest keeper.old }
-    ensures all { K.honest keeper.new → (rows : List KeptRow) → K.holds keeper.old rows → IfOk result (λ loaded. loaded.items ≡ rows) }
-    ensures same { K.honest keeper.new → (rows : List KeptRow) → K.holds keeper.old rows → K.holds keeper.new rows }
+    ensures back { (K.end keeper.new).honest → (K.end keeper.old).honest }
+    ensures all { (K.end keeper.new).honest → (rows : List KeptRow) → (K.end keeper.old).holds rows → IfOk result (λ loaded. loaded.items ≡ rows) }
+    ensures same { (K.end keeper.new).honest → (rows : List KeptRow) → (K.end keeper.old).holds rows → (K.end keeper.new).holds rows }
     ensures ascending { IfOk result (λ loaded. IsAscending key_cmp key_of loaded.items) }
-    ensures later { K.count keeper.old ≤ K.count keeper.new }
-    ensures fault { result ≡ Err Lost.Keeper → Rose (K.count keeper.old) (K.count keeper.new) }
-    ensures stayed { result ≢ Err Lost.Keeper → K.count keeper.new ≡ K.count keeper.old }
+    ensures later { (K.end keeper.old).count ≤ (K.end keeper.new).count }
+    ensures fault { result ≡ Err Lost.Keeper → Rose (K.end keeper.old).count (K.end keeper.new).count }
+    ensures stayed { result ≢ Err Lost.Keeper → (K.end keeper.new).count ≡ (K.end keeper.old).count }
 {
     match keeper.load() {
         Ok(rows) => Ok(rows),

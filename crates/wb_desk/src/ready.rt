@@ -5,13 +5,13 @@ ghost use Rattle.wb_model.specs.Commands.{tenant_of as tenant_of_command};
 ghost use Rattle.wb_model.specs.Fits.{fits};
 ghost use Rattle.wb_model.specs.Host.{purged};
 ghost use Rattle.wb_model.specs.Tenants.{without_tenant as told_without};
-ghost use Rattle.wb_queries.specs.Looks.{at_of};
-ghost use Rattle.wb_commands.specs.Plans.{IsFit, IsRoomyFor, PlansTurn};
+ghost use Rattle.wb_commands.specs.Plans.{IsFit, IsRoomyFor};
 ghost use Rattle.wb_tables.specs.Dead.{any_dead};
-ghost use Rattle.wb_tables.specs.Kept.{place_of, tables_of};
+ghost use Rattle.wb_tables.specs.Kept.{place_of};
 ghost use Rattle.wb_tables.specs.Places.{IsPlace, ArePlaces, IsAt};
 ghost use Rattle.wb_tables.specs.declared.tenancy.Tenancy.{Tenancy as KeptTenancy};
 ghost use Rattle.wb_desk.specs.Puts.{puts_of, IsBatch};
+ghost use Rattle.wb_desk.specs.Turns.{PlansTurnOf};
 
 use crate::batch::{put_deletion, put_noted, put_opening, put_setting};
 use std::alloc::Global;
@@ -47,7 +47,7 @@ fn ready_at(
     requires places { (turns : ℕ) × (turns < at.now.turn) × ArePlaces turns 0 sealed.old.items (map place_of tenancies.old) }
     requires place { IsAt (tenant_of_command asked.now.command) tenancies.old place }
     requires fits { fits asked.now ≡ true }
-    ensures plan { IfOk result (λ plan. (d : KeptTenancy) → PlansTurn (slice_index_or tenancies.old place d).configuration.tenant (purged at.now.time (tables_of sealed.old.items (place_of (slice_index_or tenancies.old place d)))) (at_of at.now) asked.now plan) }
+    ensures plan { IfOk result (λ plan. (d : KeptTenancy) → PlansTurnOf (slice_index_or tenancies.old place d) sealed.old.items at.now asked.now plan) }
     ensures room { IfOk result (λ plan. (d : KeptTenancy) → IsRoomyFor at.now.time (slice_index_or tenancies.new place d) sealed.new.spare plan.change) }
     ensures tenants_left { map place_of tenancies.new ≡ map place_of tenancies.old }
     ensures sealed_left { sealed.new.items ≡ sealed.old.items }
@@ -107,7 +107,7 @@ pub fn prepare_at(
     requires places { (turns : ℕ) × (turns < at.now.turn) × ArePlaces turns 0 sealed.old.items (map place_of tenancies.old) }
     requires place { IsAt (tenant_of_command asked.now.command) tenancies.old place }
     requires fits { fits asked.now ≡ true }
-    ensures plan { IfOk result (λ b. (d : KeptTenancy) → PlansTurn (slice_index_or tenancies.old place d).configuration.tenant (purged at.now.time (tables_of sealed.old.items (place_of (slice_index_or tenancies.old place d)))) (at_of at.now) asked.now b.plan) }
+    ensures plan { IfOk result (λ b. (d : KeptTenancy) → PlansTurnOf (slice_index_or tenancies.old place d) sealed.old.items at.now asked.now b.plan) }
     ensures room { IfOk result (λ b. (d : KeptTenancy) → IsRoomyFor at.now.time (slice_index_or tenancies.new place d) sealed.new.spare b.plan.change) }
     ensures batch { IfOk result (λ b. (d : KeptTenancy) → IsBatch at.now.time (map place_of tenancies.new) (puts_of at.now.time (place_of (slice_index_or tenancies.new place d)) b.plan.change) b.batch.items) }
     ensures tenants_left { map place_of tenancies.new ≡ map place_of tenancies.old }

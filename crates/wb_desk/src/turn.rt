@@ -80,11 +80,11 @@ fn turn_at<K: Keeper>(
     requires place { IsAt (tenant_of_command asked.now.command) tenancies.old place }
     requires fits { fits asked.now ≡ true }
     ensures turn { IsTurnAt (map place_of tenancies.old) sealed.old.items at.now asked.now result (map place_of tenancies.new) sealed.new.items }
-    ensures kept { K.honest keeper.new → K.holds keeper.old (rows_of (map (tenancy_of sealed.old.items) (map place_of tenancies.old))) → K.holds keeper.new (rows_of (map (tenancy_of sealed.new.items) (map place_of tenancies.new))) }
-    ensures back { K.honest keeper.new → K.honest keeper.old }
-    ensures later { K.count keeper.old ≤ K.count keeper.new }
-    ensures fault { result ≡ Err Lost.Keeper → Rose (K.count keeper.old) (K.count keeper.new) }
-    ensures stayed { result ≢ Err Lost.Keeper → K.count keeper.new ≡ K.count keeper.old }
+    ensures kept { (K.end keeper.new).honest → (K.end keeper.old).holds (rows_of (map (tenancy_of sealed.old.items) (map place_of tenancies.old))) → (K.end keeper.new).holds (rows_of (map (tenancy_of sealed.new.items) (map place_of tenancies.new))) }
+    ensures back { (K.end keeper.new).honest → (K.end keeper.old).honest }
+    ensures later { (K.end keeper.old).count ≤ (K.end keeper.new).count }
+    ensures fault { result ≡ Err Lost.Keeper → Rose (K.end keeper.old).count (K.end keeper.new).count }
+    ensures stayed { result ≢ Err Lost.Keeper → (K.end keeper.new).count ≡ (K.end keeper.old).count }
 {
     let Ok(batched) = prepare_at(alloc, tenancies, place, sealed, at, asked) else {
         return Err(Lost::Memory);
@@ -113,11 +113,11 @@ fn turn_without<K: Keeper>(
     requires tenant { t ≡ tenant_of_command asked.now.command }
     requires absent { find (is_tenant t) (map place_of tenancies.old) ≡ None }
     ensures turn { IsTurnAt (map place_of tenancies.old) sealed.old.items at.now asked.now result (map place_of tenancies.new) sealed.new.items }
-    ensures kept { K.honest keeper.new → K.holds keeper.old (rows_of (map (tenancy_of sealed.old.items) (map place_of tenancies.old))) → K.holds keeper.new (rows_of (map (tenancy_of sealed.new.items) (map place_of tenancies.new))) }
-    ensures back { K.honest keeper.new → K.honest keeper.old }
-    ensures later { K.count keeper.old ≤ K.count keeper.new }
-    ensures fault { result ≡ Err Lost.Keeper → Rose (K.count keeper.old) (K.count keeper.new) }
-    ensures stayed { result ≢ Err Lost.Keeper → K.count keeper.new ≡ K.count keeper.old }
+    ensures kept { (K.end keeper.new).honest → (K.end keeper.old).holds (rows_of (map (tenancy_of sealed.old.items) (map place_of tenancies.old))) → (K.end keeper.new).holds (rows_of (map (tenancy_of sealed.new.items) (map place_of tenancies.new))) }
+    ensures back { (K.end keeper.new).honest → (K.end keeper.old).honest }
+    ensures later { (K.end keeper.old).count ≤ (K.end keeper.new).count }
+    ensures fault { result ≡ Err Lost.Keeper → Rose (K.end keeper.old).count (K.end keeper.new).count }
+    ensures stayed { result ≢ Err Lost.Keeper → (K.end keeper.new).count ≡ (K.end keeper.old).count }
 {
     let Ok(unnamed) = prepare_without(alloc, tenancies, t, at.time) else {
         return Err(Lost::Memory);
@@ -142,11 +142,11 @@ pub fn turn<K: Keeper>(
     requires places { (turns : ℕ) × (turns < at.now.turn) × ArePlaces turns 0 sealed.old.items (map place_of tenancies.old) }
     requires fits { fits asked.now ≡ true }
     ensures turn { IsTurnAt (map place_of tenancies.old) sealed.old.items at.now asked.now result (map place_of tenancies.new) sealed.new.items }
-    ensures kept { K.honest keeper.new → K.holds keeper.old (rows_of (map (tenancy_of sealed.old.items) (map place_of tenancies.old))) → K.holds keeper.new (rows_of (map (tenancy_of sealed.new.items) (map place_of tenancies.new))) }
-    ensures back { K.honest keeper.new → K.honest keeper.old }
-    ensures later { K.count keeper.old ≤ K.count keeper.new }
-    ensures fault { result ≡ Err Lost.Keeper → Rose (K.count keeper.old) (K.count keeper.new) }
-    ensures stayed { result ≢ Err Lost.Keeper → K.count keeper.new ≡ K.count keeper.old }
+    ensures kept { (K.end keeper.new).honest → (K.end keeper.old).holds (rows_of (map (tenancy_of sealed.old.items) (map place_of tenancies.old))) → (K.end keeper.new).holds (rows_of (map (tenancy_of sealed.new.items) (map place_of tenancies.new))) }
+    ensures back { (K.end keeper.new).honest → (K.end keeper.old).honest }
+    ensures later { (K.end keeper.old).count ≤ (K.end keeper.new).count }
+    ensures fault { result ≡ Err Lost.Keeper → Rose (K.end keeper.old).count (K.end keeper.new).count }
+    ensures stayed { result ≢ Err Lost.Keeper → (K.end keeper.new).count ≡ (K.end keeper.old).count }
 {
     let t = tenant_of(&asked.command);
     match place_at(tenancies, t) {

@@ -86,3 +86,7 @@ held_since Ended = None
 -- one more call failed, and nothing else is changed
 abbrev pub after_fault : EtcdState → EtcdState
 after_fault k = record k { faults = one_more k.faults }
+
+-- a keeper has taken its store over since a revision, and these are the rows
+abbrev pub HasTakenOver : EtcdState → Dialed → EtcdState → List Row → Type 0
+HasTakenOver k x k' rows = (revision : ℕ) × (y : Dialed) × (k'.standing ≡ Holds revision) × (k'.told ≡ Some y) × TakesOver k.endpoints k.prefix x y revision rows

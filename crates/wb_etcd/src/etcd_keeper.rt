@@ -2,14 +2,13 @@
 ghost use Rattle.std.specs.Prelude.{◌≡◌, ◌⊎◌, ◌≤◌, ◌<◌, ℕ, Some, None, All, IsSome, IfOk, OnOk, OnErr, Err, Ok, sum_by};
 ghost use Rattle.wb_list.specs.Keyed.{IsAscending};
 ghost use Rattle.wb_base.specs.Outside.{KeeperHasCause};
-ghost use Rattle.wb_base.specs.declared.rows.Row.{Row as KeptRow};
 ghost use Rattle.wb_base.specs.KeptRows.{key_cmp, key_of, IsGoodChange};
 ghost use Rattle.wb_etcd.specs.declared.standing.Standing.TheVariants.{Unloaded as IsUnloaded, Holds as HoldsSince, Ended as HasEnded};
 ghost use Rattle.wb_etcd.specs.Counts.{count_with, count_after};
 ghost use Rattle.wb_etcd.specs.Transactions.{operations};
 ghost use Rattle.wb_transport.specs.Dials.{Dialed};
 ghost use Rattle.wb_etcd.specs.Exchanges.{connection};
-ghost use Rattle.wb_etcd.specs.Holding.{EtcdState, operation_limit, held_since, after_fault, TakesOver, Commits};
+ghost use Rattle.wb_etcd.specs.Holding.{EtcdState, operation_limit, held_since, after_fault, Commits, HasTakenOver};
 
 use crate::standing::{NotKept, Standing};
 use crate::store::Store;
@@ -35,7 +34,7 @@ impl<D: Dial> Model for EtcdKeeper<D> {
 
     ghost Value = { EtcdState };
 
-    ghost view = { λ k. record { endpoints = k.store.endpoints; prefix = k.store.prefix; standing = k.standing; told = D.told k.dial; faults = k.faults } };
+    ghost view = { λ k. record { endpoints = k.store.endpoints; prefix = k.store.prefix; standing = k.standing; told = (D.end k.dial).told; faults = k.faults } };
 }
 
 // Counts a call that failed, where no memory was wanting.
@@ -54,7 +53,7 @@ fn counted(faults: &mut u64, why: KeepErr) -> KeepErr
 impl<D: Dial> EtcdKeeper<D> {
     /// A keeper of the rows in a store, which is called by this dialer.
     pub fn new(alloc: Global, dial: D, store: Store) -> EtcdKeeper<D>
-        ensures { result ≡ record { endpoints = store.endpoints; prefix = store.prefix; standing = IsUnloaded; told = D.told dial; faults = 0 } }
+        ensures { result ≡ record { endpoints = store.endpoints; prefix = store.prefix; standing = IsUnloaded; told = (D.end dial).told; faults = 0 } }
     {
         EtcdKeeper {
             alloc,
@@ -67,7 +66,7 @@ impl<D: Dial> EtcdKeeper<D> {
 
     /// Its dialer.
     pub fn dialer(&self) -> &D
-        ensures { D.told result.now ≡ self.now.told }
+        ensures { (D.end result.now).told ≡ self.now.told }
     {
         &self.dial
     }
@@ -81,11 +80,7 @@ impl<D: Dial> EtcdKeeper<D> {
 }
 
 impl<D: Dial> Keeper for EtcdKeeper<D> {
-    ghost honest = { λ _. ⊥ };
-
-    ghost holds = { λ _ _. ⊥ };
-
-    ghost count = { λ k. k.faults };
+    ghost end = { λ k. record { honest = ⊥; holds = λ _. ⊥; count = k.faults } };
 
     fn faults(&self) -> u64 {
         self.faults
@@ -96,7 +91,7 @@ impl<D: Dial> Keeper for EtcdKeeper<D> {
         ensures ascending { IfOk result (λ loaded. IsAscending key_cmp key_of loaded.items) }
         ensures cause { KeeperHasCause self.old.faults self.new.faults result }
         ensures count { self.new.faults ≡ count_after self.old.faults result }
-        ensures taken { (x : Dialed) → self.old.told ≡ Some x → IfOk result (λ loaded. (revision : ℕ) × (y : Dialed) × (self.new.standing ≡ HoldsSince revision) × (self.new.told ≡ Some y) × TakesOver self.old.endpoints self.old.prefix x y revision loaded.items) }
+        ensures taken { (x : Dialed) → self.old.told ≡ Some x → IfOk result (λ loaded. HasTakenOver self.old x self.new loaded.items) }
         ensures failed { OnErr result (held_since self.new.standing ≡ None) }
         ensures ended { self.old.standing ≡ HasEnded → (result ≡ Err KeepErr.Failed) × (self.new ≡ after_fault self.old) }
     {

@@ -31,9 +31,9 @@ fn append(bytes: &mut Vec<u8>, piece: &[u8]) -> Result<(), Memory>
 
 // All that a link gives until the other side closes it.
 fn read_all<L: Link>(alloc: Global, link: &mut L) -> Result<Vec<u8>, KeepErr>
-    ensures all { (bytes : List ℕ) → L.left link.old ≡ Some bytes → IfOk result (λ answer. (answer.items ≡ bytes) × (L.left link.new ≡ Some [])) }
-    ensures got { L.got link.new ≡ L.got link.old }
-    ensures count { OnOk result (L.count link.new ≡ L.count link.old) }
+    ensures all { (bytes : List ℕ) → (L.end link.old).left ≡ Some bytes → IfOk result (λ answer. (answer.items ≡ bytes) × ((L.end link.new).left ≡ Some [])) }
+    ensures got { (L.end link.new).got ≡ (L.end link.old).got }
+    ensures count { OnOk result ((L.end link.new).count ≡ (L.end link.old).count) }
 {
     let mut piece = [0; PIECE];
     let mut answer = Vec::new(alloc);
@@ -53,7 +53,7 @@ pub(crate) fn exchange<L: Link>(
     link: &mut L,
     request: &str,
 ) -> Result<Value, KeepErr>
-    ensures { (line : Line) → IsLine (L.left link.old) (L.got link.old) (L.count link.old) line → IfOk result (λ answer. IsAnswer line.left (view answer) × IsLine (L.left link.new) (L.got link.new) (L.count link.new) (exchanged request.now line)) }
+    ensures { (line : Line) → IsLine (L.end link.old) line → IfOk result (λ answer. IsAnswer line.left (view answer) × IsLine (L.end link.new) (exchanged request.now line)) }
 {
     link.write_all(request.as_bytes())?;
     let bytes = read_all(alloc, link)?;
@@ -65,10 +65,10 @@ pub(crate) fn connect<'a, D: Dial>(
     dial: &mut D,
     endpoints: &'a [Text],
 ) -> Result<(D::End, &'a str), Failed>
-    ensures found { (x : Dialed) → D.told dial.old ≡ Some x → IfOk result (λ found. (line : Line) × ((connection endpoints.now x).line ≡ Some line) × IsLine (D.End.left found.0) (D.End.got found.0) (D.End.count found.0) line × (found.1.now ≡ (connection endpoints.now x).endpoint)) }
-    ensures none { (x : Dialed) → D.told dial.old ≡ Some x → OnErr result ((connection endpoints.now x).line ≡ None) }
-    ensures after { (x : Dialed) → D.told dial.old ≡ Some x → D.told dial.new ≡ Some (connection endpoints.now x).after }
-    ensures untold { D.told dial.old ≡ None → D.told dial.new ≡ None }
+    ensures found { (x : Dialed) → (D.end dial.old).told ≡ Some x → IfOk result (λ found. (line : Line) × ((connection endpoints.now x).line ≡ Some line) × IsLine (D.End.end found.0) line × (found.1.now ≡ (connection endpoints.now x).endpoint)) }
+    ensures none { (x : Dialed) → (D.end dial.old).told ≡ Some x → OnErr result ((connection endpoints.now x).line ≡ None) }
+    ensures after { (x : Dialed) → (D.end dial.old).told ≡ Some x → (D.end dial.new).told ≡ Some (connection endpoints.now x).after }
+    ensures untold { (D.end dial.old).told ≡ None → (D.end dial.new).told ≡ None }
 {
     for endpoint in endpoints {
         if let Ok(link) = dial.dial(endpoint.as_str()) {
@@ -86,7 +86,7 @@ pub(crate) fn ask<D: Dial>(
     path: &str,
     body: &str,
 ) -> Result<Value, KeepErr>
-    ensures asked { (x : Dialed) → D.told dial.old ≡ Some x → IfOk result (λ answer. (y : Dialed) × (D.told dial.new ≡ Some y) × Asks endpoints.now path.now body.now x y (view answer)) }
+    ensures asked { (x : Dialed) → (D.end dial.old).told ≡ Some x → IfOk result (λ answer. (y : Dialed) × ((D.end dial.new).told ≡ Some y) × Asks endpoints.now path.now body.now x y (view answer)) }
 {
     let (mut link, endpoint) = connect(dial, endpoints)?;
     let request = request(alloc, endpoint, path, body)?;

@@ -50,7 +50,7 @@ fn read_rows<D: Dial>(
     prefix: &[u8],
     revision: u64,
 ) -> Result<Sorted<Row>, KeepErr>
-    ensures { (x : Dialed) → D.told dial.old ≡ Some x → IfOk result (λ rows. (y : Dialed) × (D.told dial.new ≡ Some y) × ReadsAll endpoints.now prefix.now revision x y [] rows.items) }
+    ensures { (x : Dialed) → (D.end dial.old).told ≡ Some x → IfOk result (λ rows. (y : Dialed) × ((D.end dial.new).told ≡ Some y) × ReadsAll endpoints.now prefix.now revision x y [] rows.items) }
 {
     let mut rows = Sorted::new(alloc);
     for _ in 0..u64::MAX {
@@ -77,7 +77,7 @@ pub(crate) fn take<D: Dial>(
     prefix: &[u8],
 ) -> Result<(u64, Vec<Row>), KeepErr>
     ensures ascending { IfOk result (λ taken. IsAscending key_cmp key_of taken.1.items) }
-    ensures taken { (x : Dialed) → D.told dial.old ≡ Some x → IfOk result (λ taken. (y : Dialed) × (D.told dial.new ≡ Some y) × TakesOver endpoints.now prefix.now x y taken.0 taken.1.items) }
+    ensures taken { (x : Dialed) → (D.end dial.old).told ≡ Some x → IfOk result (λ taken. (y : Dialed) × ((D.end dial.new).told ≡ Some y) × TakesOver endpoints.now prefix.now x y taken.0 taken.1.items) }
 {
     let holder = holder_key(alloc, prefix)?;
     let asked = one(alloc, holder.as_slice())?;
@@ -102,10 +102,10 @@ pub(crate) fn commit<D: Dial>(
     revision: u64,
     changes: &[Change],
 ) -> Result<(), NotKept>
-    ensures made { (x : Dialed) → D.told dial.old ≡ Some x → OnOk result ((y : Dialed) × (D.told dial.new ≡ Some y) × Commits endpoints.now prefix.now revision x y changes.now) }
-    ensures many { operation_limit < sum_by operations changes.now → (result ≡ Err (WasUnsent StoreFailed)) × (D.told dial.new ≡ D.told dial.old) }
-    ensures unreached { (x : Dialed) → D.told dial.old ≡ Some x → (connection endpoints.now x).line ≡ None → (why : KeepError) → ¬ (result ≡ Err (WasSent why)) }
-    ensures sent { (x : Dialed) → D.told dial.old ≡ Some x → sum_by operations changes.now ≤ operation_limit → IsSome (connection endpoints.now x).line → ¬ (result ≡ Err (WasUnsent StoreFailed)) }
+    ensures made { (x : Dialed) → (D.end dial.old).told ≡ Some x → OnOk result ((y : Dialed) × ((D.end dial.new).told ≡ Some y) × Commits endpoints.now prefix.now revision x y changes.now) }
+    ensures many { operation_limit < sum_by operations changes.now → (result ≡ Err (WasUnsent StoreFailed)) × ((D.end dial.new).told ≡ (D.end dial.old).told) }
+    ensures unreached { (x : Dialed) → (D.end dial.old).told ≡ Some x → (connection endpoints.now x).line ≡ None → (why : KeepError) → ¬ (result ≡ Err (WasSent why)) }
+    ensures sent { (x : Dialed) → (D.end dial.old).told ≡ Some x → sum_by operations changes.now ≤ operation_limit → IsSome (connection endpoints.now x).line → ¬ (result ≡ Err (WasUnsent StoreFailed)) }
 {
     if !fits(changes) {
         return Err(NotKept::Unsent(KeepErr::Failed));

@@ -1,10 +1,8 @@
 -- What a call did that writes a text over kept rows.
-use Rattle.std.specs.Prelude.{◌≡◌, ℕ, ℤ, Bool, true, false, ◌&&◌, max, List, find, Option, is_some}
+use Rattle.std.specs.Prelude.{◌≡◌, ℕ, ℤ, Bool, true, false, ◌&&◌, max, List, find, is_some}
 use Rattle.std.specs.Option.{option_map_or}
 use Rattle.std.specs.Io.KnownBytes.{Appends, Keeps}
-use Rattle.wb_base.specs.declared.rows.Row.{Row}
 use Rattle.wb_base.specs.Outside.{AppendsFront, Rose}
-use Rattle.wb_model.specs.declared.registry.Lists.{Lists}
 use Rattle.wb_base.specs.declared.callers.Role.TheVariants.{Recipient}
 use Rattle.wb_model.specs.Openings.{registry_of}
 use Rattle.wb_model.specs.Tables.{user}
@@ -18,6 +16,7 @@ use Rattle.wb_cli.specs.Loads.{AreRead, ReadsNone}
 use Rattle.wb_export.specs.declared.forecasts.Expiring.{Expiring}
 use Rattle.wb_export.specs.Forecasts.{IsForecast, forecast_text}
 use Rattle.wb_export.specs.Registers.{register_text}
+use Rattle.wb_base.specs.Ends.{KeeperEnd, SinkEnd}
 
 -- the time of a call: its moment, or the greatest that is kept
 abbrev pub time_at : ℕ → Held → ℕ
@@ -39,18 +38,17 @@ IsRegisterOf t u moment kept text = text ≡ register_text (registry_of kept.lis
 abbrev pub IsForecastOf : ℕ → ℤ → Held → List ℕ → Type 0
 IsForecastOf t day kept text = (found : List Expiring) × IsForecast day (cases_of kept.reports t) found × (text ≡ forecast_text found)
 
--- the keeper's count before and now, and the rows that it held where it is honest; what the sink held before and holds now, with its count; what
--- is to be there; and what is written
-module _ (keeper keeper' : ℕ) (honest : Type 0) (holds : List Row → Type 0) (held held' : Option (List ℕ)) (sink sink' : ℕ) (is_there : Held → Bool) (IsText : Held → List ℕ → Type 0) where
+-- the keeper's and the sink's ends before and now; what is to be there; and what is written
+module _ (keeper keeper' : KeeperEnd) (sink sink' : SinkEnd) (is_there : Held → Bool) (IsText : Held → List ℕ → Type 0) where
   -- the rows are read, and this is how it is there
   pub record Looked (is : Bool) : Type 0 where
     pub kept : Held
-    pub read : AreRead honest holds kept
+    pub read : AreRead keeper keeper' kept
     pub there : is_there kept ≡ is
 
   -- what the call did, by its status
   abbrev pub Exported : Status → Type 0
-  Exported Done = (looked : Looked true) × ((text : List ℕ) × IsText looked.kept text × Appends held held' text)
-  Exported WriteFault = (looked : Looked true) × Rose sink sink' × ((text : List ℕ) × IsText looked.kept text × AppendsFront held held' text)
-  Exported NotThere = Looked false × Keeps held held'
-  Exported status = ReadsNone keeper keeper' honest holds status × Keeps held held'
+  Exported Done = (looked : Looked true) × ((text : List ℕ) × IsText looked.kept text × Appends sink.held sink'.held text)
+  Exported WriteFault = (looked : Looked true) × Rose sink.count sink'.count × ((text : List ℕ) × IsText looked.kept text × AppendsFront sink.held sink'.held text)
+  Exported NotThere = Looked false × Keeps sink.held sink'.held
+  Exported status = ReadsNone keeper keeper' status × Keeps sink.held sink'.held

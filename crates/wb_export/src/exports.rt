@@ -1,12 +1,12 @@
 //! The calls of the program that write a register or a forecast over kept rows.
-ghost use Rattle.std.specs.Prelude.{◌≡◌, ◌≢◌, ◌⊎◌, ℕ, List, Ok, true};
+ghost use Rattle.std.specs.Prelude.{◌≡◌, ◌≢◌, ◌⊎◌, Ok, true};
 ghost use Rattle.std.specs.Io.KnownBytes.{Appends};
 ghost use Rattle.wb_base.specs.Outside.{AppendsFront, Rose};
-ghost use Rattle.wb_base.specs.declared.rows.Row.{Row};
-ghost use Rattle.wb_rows.specs.Held.{Held, held_by};
-ghost use Rattle.wb_rows.specs.Judged.{judged};
+ghost use Rattle.wb_rows.specs.Held.{held_by};
 ghost use Rattle.wb_rows.specs.Loaded.{KeepsRows};
 ghost use Rattle.wb_export.specs.Exports.{Exported, IsForecastOf, IsRegisterOf, has_recipient, has_tenant as has_tenant_of};
+ghost use Rattle.wb_cli.specs.Loads.{SinkStood, KeeperStood, WhereRead};
+ghost use Rattle.wb_cli.specs.Statuses.{IsDoneOrNoMemory};
 
 use crate::forecasts::forecast;
 use crate::registers::register;
@@ -37,9 +37,9 @@ fn is_recipient(tables: &Tables, tenant: Tenant, user: UserId) -> bool
 // Writes a text.
 fn write_out<W: Sink>(text: &[u8], sink: &mut W) -> Status
     ensures ends { (result ≡ Status.Done) ⊎ (result ≡ Status.WriteFault) }
-    ensures done { result ≡ Status.Done → Appends (W.held sink.old) (W.held sink.new) text.now }
-    ensures fault { result ≡ Status.WriteFault → AppendsFront (W.held sink.old) (W.held sink.new) text.now × Rose (W.count sink.old) (W.count sink.new) }
-    ensures written_on { result ≢ Status.WriteFault → W.count sink.new ≡ W.count sink.old }
+    ensures done { result ≡ Status.Done → Appends (W.end sink.old).held (W.end sink.new).held text.now }
+    ensures fault { result ≡ Status.WriteFault → AppendsFront (W.end sink.old).held (W.end sink.new).held text.now × Rose (W.end sink.old).count (W.end sink.new).count }
+    ensures written_on { result ≢ Status.WriteFault → (W.end sink.new).count ≡ (W.end sink.old).count }
 {
     match sink.write_all(text) {
         Ok(()) => Status::Done,
@@ -56,12 +56,12 @@ pub fn export_register<W: Sink, K: Keeper>(
     sink: &mut W,
     keeper: &mut K,
 ) -> Status
-    ensures did { Exported (K.count keeper.old) (K.count keeper.new) (K.honest keeper.new) (K.holds keeper.old) (W.held sink.old) (W.held sink.new) (W.count sink.old) (W.count sink.new) (has_recipient tenant user) (IsRegisterOf tenant user moment) result }
-    ensures rows { KeepsRows (K.honest keeper.new) (K.holds keeper.old) (K.holds keeper.new) }
-    ensures back { K.honest keeper.new → K.honest keeper.old }
-    ensures written_on { result ≢ Status.WriteFault → W.count sink.new ≡ W.count sink.old }
+    ensures did { Exported (K.end keeper.old) (K.end keeper.new) (W.end sink.old) (W.end sink.new) (has_recipient tenant user) (IsRegisterOf tenant user moment) result }
+    ensures rows { KeepsRows (K.end keeper.old) (K.end keeper.new) }
+    ensures back { (K.end keeper.new).honest → (K.end keeper.old).honest }
+    ensures written_on { result ≢ Status.WriteFault → (W.end sink.new).count ≡ (W.end sink.old).count }
     // It is written over rows that are read, where the user is there and nothing failed, or there was no memory.
-    ensures complete { (kept : List Row) (h : Held) → K.honest keeper.new → K.holds keeper.old kept → judged kept ≡ Ok h → has_recipient tenant user h ≡ true → (Rose (W.count sink.old) (W.count sink.new) → ⊥) → (Rose (K.count keeper.old) (K.count keeper.new) → ⊥) → (result ≡ Status.Done) ⊎ (result ≡ Status.NoMemory) }
+    ensures complete { WhereRead (K.end keeper.old) (K.end keeper.new) (λ h. has_recipient tenant user h ≡ true → SinkStood (W.end sink.old) (W.end sink.new) → KeeperStood (K.end keeper.old) (K.end keeper.new) → IsDoneOrNoMemory result) }
 {
     let tables = match load_tables(alloc, keeper) {
         Ok(tables) => tables,
@@ -85,12 +85,12 @@ pub fn export_forecast<W: Sink, K: Keeper>(
     sink: &mut W,
     keeper: &mut K,
 ) -> Status
-    ensures did { Exported (K.count keeper.old) (K.count keeper.new) (K.honest keeper.new) (K.holds keeper.old) (W.held sink.old) (W.held sink.new) (W.count sink.old) (W.count sink.new) (has_tenant_of tenant) (IsForecastOf tenant day) result }
-    ensures rows { KeepsRows (K.honest keeper.new) (K.holds keeper.old) (K.holds keeper.new) }
-    ensures back { K.honest keeper.new → K.honest keeper.old }
-    ensures written_on { result ≢ Status.WriteFault → W.count sink.new ≡ W.count sink.old }
+    ensures did { Exported (K.end keeper.old) (K.end keeper.new) (W.end sink.old) (W.end sink.new) (has_tenant_of tenant) (IsForecastOf tenant day) result }
+    ensures rows { KeepsRows (K.end keeper.old) (K.end keeper.new) }
+    ensures back { (K.end keeper.new).honest → (K.end keeper.old).honest }
+    ensures written_on { result ≢ Status.WriteFault → (W.end sink.new).count ≡ (W.end sink.old).count }
     // It is written over rows that are read, where the tenant is there and nothing failed, or there was no memory.
-    ensures complete { (kept : List Row) (h : Held) → K.honest keeper.new → K.holds keeper.old kept → judged kept ≡ Ok h → has_tenant_of tenant h ≡ true → (Rose (W.count sink.old) (W.count sink.new) → ⊥) → (Rose (K.count keeper.old) (K.count keeper.new) → ⊥) → (result ≡ Status.Done) ⊎ (result ≡ Status.NoMemory) }
+    ensures complete { WhereRead (K.end keeper.old) (K.end keeper.new) (λ h. has_tenant_of tenant h ≡ true → SinkStood (W.end sink.old) (W.end sink.new) → KeeperStood (K.end keeper.old) (K.end keeper.new) → IsDoneOrNoMemory result) }
 {
     let tables = match load_tables(alloc, keeper) {
         Ok(tables) => tables,

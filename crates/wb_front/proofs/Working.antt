@@ -6,10 +6,10 @@ use Rattle.std.specs.Io.KnownBytes.{Appends}
 use Rattle.wb_base.specs.Outside.{Rose}
 use Rattle.wb_model.specs.declared.body.Told.{Told}
 use Rattle.wb_model.specs.Requests.{Frame}
-use Rattle.wb_transport.specs.Lines.{Line, Lines, Tick}
+use Rattle.wb_transport.specs.Lines.{Clock, Line, Lines, Tick}
 use Rattle.wb_front.specs.declared.connection.Ended.{Ended}
 use Rattle.wb_front.specs.declared.connection.Ended.TheVariants as ended
-use Rattle.wb_front.specs.Attended.{Clock, sides_of, IsAttended, AreAttended, HasWorked, RoseOften}
+use Rattle.wb_front.specs.Attended.{sides_of, IsAttended, AreAttended, HasWorked, RoseOften}
 use Rattle.wb_front.specs.Endings.{EndsSo, IsEnded}
 use Rattle.wb_front.specs.Served.{Exchange, Sides, HasExchanged}
 

@@ -3,19 +3,11 @@ use Rattle.std.specs.Prelude.{◌≡◌, ◌≢◌, ◌⊎◌, ◌+◌, ◌-◌,
 use Rattle.wb_base.specs.Outside.{Rose}
 use Rattle.wb_model.specs.declared.body.Told.{Told}
 use Rattle.wb_model.specs.Requests.{Frame}
-use Rattle.wb_transport.specs.Lines.{Line, Lines, Tick}
+use Rattle.wb_transport.specs.Lines.{Clock, IsLine, Line, Lines, LinkEnd, ListenerEnd, Tick}
 use Rattle.wb_front.specs.Endings.{IsEnded}
 use Rattle.wb_front.specs.Served.{Sides}
 use Rattle.wb_front.specs.declared.connection.Ended.{Ended}
 use Rattle.wb_front.specs.declared.connection.Ended.TheVariants as endings
-
--- a ticker: the ticks that it has left, where it tells them, and how often it failed
-pub record Clock : Type 0 where
-  pub left : Option (List Tick)
-  pub count : ℕ
-
-abbrev pub clock_of : Option (List Tick) → ℕ → Clock
-clock_of left count = record { left = left; count = count }
 
 -- a link that tells, with these ticks to come and this of the gate
 abbrev pub sides_of : {O : Type 0} → Line → Option (List Tick) → O → Sides O
@@ -50,3 +42,18 @@ pub record HasWorked {O : Type 0} (Ran : O → Frame → Told → O → Type 0) 
 -- a count rose by so many, or stands at its last value
 abbrev pub RoseOften : ℕ → ℕ → ℕ → Type 0
 RoseOften times before now = (before + times ≤ now) ⊎ (2 ^ 64 - 1 ≤ now)
+
+-- ---- by what the ends tell
+
+-- a link that the listener gave came back to it, attended
+abbrev pub AttendsLink : {O : Type 0} → (O → Frame → Told → O → Type 0) → ListenerEnd → LinkEnd → ListenerEnd → O → O → Clock → Clock → Type 0
+AttendsLink Ran listener link listener' own own' clock clock' =
+    (x : Lines) (a : Line) → listener.told ≡ Some x → IsLine link a → (b : Line) × IsAttended Ran a b own own' clock clock' × (listener'.told ≡ Some (record x { out = x.out - 1; came = x.came ++ b ∷ [] }))
+
+-- so did each of the links that it gave
+abbrev pub AttendsLinks : {O : Type 0} → (O → Frame → Told → O → Type 0) → ListenerEnd → ListenerEnd → O → O → Clock → Clock → Type 0
+AttendsLinks Ran listener listener' own own' clock clock' = (x : Lines) → listener.told ≡ Some x → (y : Lines) × (listener'.told ≡ Some y) × HasWorked Ran x y own own' clock clock'
+
+-- a listener that tells has no link left
+abbrev pub HasNone : ListenerEnd → Type 0
+HasNone listener = (x : Lines) → listener.told ≡ Some x → x.left ≡ []

@@ -11,6 +11,8 @@ use Rattle.wb_wire.specs.Responses.{refusal}
 use Rattle.wb_front.specs.Served.{Exchange, Sides, HasExchanged, HasReplied, StayOpen, ClosesLast, AsksNext, IsSentLast, replies, reply_bytes}
 use Rattle.wb_front.specs.declared.connection.Ended.{Ended}
 use Rattle.wb_front.specs.declared.connection.Ended.TheVariants as ended
+use Rattle.wb_transport.specs.Lines.{LinkEnd}
+use Rattle.wb_base.specs.Outside.{Rose, AppendsFront}
 
 -- exchanges were made and replied to, none of which closes, and these bytes were read besides
 pub record IsOpenYet {O : Type 0} (Ran : O → Frame → Told → O → Type 0) (a b : Sides O) (xs : List Exchange) (held : List ℕ) : Type 0 where
@@ -57,3 +59,9 @@ EndsSo Ran a b xs held ended.Memory = b ≡ a
 -- a connection that stood so is ended so, after a thousand exchanges at most
 abbrev pub IsEnded : {O : Type 0} → (O → Frame → Told → O → Type 0) → Sides O → Sides O → Ended → Type 0
 IsEnded Ran a b ended = (xs : List Exchange) × (held : List ℕ) × EndsSo Ran a b xs held ended × (length xs ≤ 1000)
+
+-- the refusal of bytes that are no request was sent, or a part of it that begins at its front where the link failed
+abbrev pub SendsRefusal : LinkEnd → LinkEnd → WireFault → Ended → Type 0
+SendsRefusal link link' fault how =
+    ((how ≡ ended.Refused fault) × Appends link.got link'.got (reply_bytes (refusal fault true)))
+    ⊎ ((how ≡ ended.WriteFault) × Rose link.count link'.count × AppendsFront link.got link'.got (reply_bytes (refusal fault true)))

@@ -11,7 +11,7 @@ use Rattle.wb_model.specs.Readings.{Asks, Refuses, Reads, Closes}
 use Rattle.wb_model.specs.Replies.{reply_text}
 use Rattle.wb_model.specs.Requests.{Frame}
 use Rattle.wb_model.specs.Scripts.{Reply}
-use Rattle.wb_transport.specs.Lines.{Tick}
+use Rattle.wb_transport.specs.Lines.{Clock, LinkEnd, Tick}
 use Rattle.wb_wire.specs.Responses.{refusal}
 
 -- a request's bytes, its reply, and the moment and words of its turn, where it was one
@@ -101,6 +101,9 @@ pub record Sides (O : Type 0) : Type 0 where
   pub got : Option (List ℕ)
   pub moments : Option (List Tick)
   pub own : O
+
+abbrev pub sides_at : {O : Type 0} → LinkEnd → Clock → O → Sides O
+sides_at link clock own = record { left = link.left; got = link.got; moments = clock.left; own = own }
 
 -- what told content was, and is now, where this went away in front of it
 abbrev pub Loses : {X : Type 0} → Option (List X) → Option (List X) → List X → Type 0

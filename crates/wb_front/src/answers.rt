@@ -54,10 +54,10 @@ pub fn reply_to<R: Wait, K: Keeper, A: Origin, B: Ledger, G: Gate<K, A, B, Turn>
 ) -> Result<Replied, Failed>
     requires of { G.of gate.now own.old }
     ensures of { G.of gate.now own.new }
-    ensures answered { IfOk result (λ a. (tick : Option Tick) × IsRepliedTo (λ own frame told own'. G.ran own frame told own') own.old own.new (T.left ticker.old) (T.left ticker.new) bytes.now a tick) }
-    ensures failed { OnErr result ((own.new ≡ own.old) × (T.left ticker.new ≡ T.left ticker.old) × ((asked : AskedOf) × Reads bytes.now (Asks asked))) }
+    ensures answered { IfOk result (λ a. (tick : Option Tick) × IsRepliedTo (λ own frame told own'. G.ran own frame told own') own.old own.new (T.end ticker.old).left (T.end ticker.new).left bytes.now a tick) }
+    ensures failed { OnErr result ((own.new ≡ own.old) × ((T.end ticker.new).left ≡ (T.end ticker.old).left) × ((asked : AskedOf) × Reads bytes.now (Asks asked))) }
     ensures parts { G.parts own.new ≡ G.parts own.old }
-    ensures cause { HasCause (T.count ticker.old) (T.count ticker.new) result }
+    ensures cause { HasCause (T.end ticker.old).count (T.end ticker.new).count result }
 {
     match read_request(alloc, routes, bytes) {
         Ok(asked) => {
@@ -84,10 +84,10 @@ const PIECE: usize = 4_096;
 
 // Sends a head and a body, by one write where they are short.
 fn send_both<L: Link>(link: &mut L, head: &[u8], body: &[u8]) -> Result<(), Failed>
-    ensures ok { OnOk result (Appends (L.got link.old) (L.got link.new) (head.now ++ body.now)) }
-    ensures err { OnErr result (AppendsFront (L.got link.old) (L.got link.new) (head.now ++ body.now)) }
-    ensures left { L.left link.new ≡ L.left link.old }
-    ensures cause { HasCause (L.count link.old) (L.count link.new) result }
+    ensures ok { OnOk result (Appends (L.end link.old).got (L.end link.new).got (head.now ++ body.now)) }
+    ensures err { OnErr result (AppendsFront (L.end link.old).got (L.end link.new).got (head.now ++ body.now)) }
+    ensures left { (L.end link.new).left ≡ (L.end link.old).left }
+    ensures cause { HasCause (L.end link.old).count (L.end link.new).count result }
 {
     if body.len() <= PIECE && head.len() <= PIECE - body.len() {
         let mut both = Written::<PIECE>::new();
@@ -107,10 +107,10 @@ fn send_both<L: Link>(link: &mut L, head: &[u8], body: &[u8]) -> Result<(), Fail
 
 /// Sends a response, with this closing. It takes no memory.
 pub fn send<L: Link>(link: &mut L, response: &Response, close: bool) -> Result<(), Failed>
-    ensures ok { OnOk result (Appends (L.got link.old) (L.got link.new) (reply_bytes (closing (reply_of response.now) close))) }
-    ensures err { OnErr result (AppendsFront (L.got link.old) (L.got link.new) (reply_bytes (closing (reply_of response.now) close))) }
-    ensures left { L.left link.new ≡ L.left link.old }
-    ensures cause { HasCause (L.count link.old) (L.count link.new) result }
+    ensures ok { OnOk result (Appends (L.end link.old).got (L.end link.new).got (reply_bytes (closing (reply_of response.now) close))) }
+    ensures err { OnErr result (AppendsFront (L.end link.old).got (L.end link.new).got (reply_bytes (closing (reply_of response.now) close))) }
+    ensures left { (L.end link.new).left ≡ (L.end link.old).left }
+    ensures cause { HasCause (L.end link.old).count (L.end link.new).count result }
 {
     let body = response.told.body.as_bytes();
     let head = reply_head(response.told.status, response.allow, body.len(), close);

@@ -1,11 +1,9 @@
 //! A connection: request after request is taken from its link, and each has its reply.
-ghost use Rattle.std.specs.Prelude.{◌≡◌, ◌≢◌, ◌≤◌, ◌⊎◌, ◌||◌, nat_eq, true, Some, None, if◌then◌else◌};
-ghost use Rattle.std.specs.Io.KnownBytes.{Appends};
-ghost use Rattle.wb_base.specs.Outside.{AppendsFront, Rose};
+ghost use Rattle.std.specs.Prelude.{◌≡◌, ◌≢◌, ◌≤◌, ◌||◌, nat_eq, true, Some, None};
+ghost use Rattle.wb_base.specs.Outside.{Rose};
 ghost use Rattle.wb_model.specs.declared.wire.WireFault.{WireFault as FaultData};
-ghost use Rattle.wb_wire.specs.Responses.{refusal as refusal_of};
-ghost use Rattle.wb_front.specs.Served.{reply_bytes};
-ghost use Rattle.wb_front.specs.Endings.{IsEnded};
+ghost use Rattle.wb_front.specs.Served.{sides_at};
+ghost use Rattle.wb_front.specs.Endings.{IsEnded, SendsRefusal};
 
 use crate::answers::{Replied, reply_to, send};
 use crate::inbox::{Arrived, Inbox};
@@ -17,6 +15,9 @@ use wb_desk::Origin;
 use wb_gate::{Gate, Turn};
 use wb_transport::{Link, Ticker};
 use wb_wire::{Routes, WireFault, WireNo, refusal};
+
+// How many replies a connection has at most.
+const REPLIES: u32 = 1_000;
 
 /// How a connection ended.
 #[derive(Clone, Copy, Debug, PartialEq, Eq)]
@@ -51,19 +52,19 @@ fn closed(replied: &Replied) -> Ended
 }
 
 // Whether the reply to a request says that the connection closes, after so many replies: where the request closes it, or with the
-// thousandth.
+// last that a connection has.
 fn closes_after(close: bool, before: u32) -> bool
     ensures { result ≡ (close || nat_eq before 999) }
 {
-    close || before == 999
+    close || before == REPLIES - 1
 }
 
 // Sends the refusal of bytes that are no request, after which the connection closes.
 fn refuse<L: Link>(link: &mut L, no: &WireNo) -> Ended
-    ensures sent { ((result ≡ Ended.Refused no.now.fault) × Appends (L.got link.old) (L.got link.new) (reply_bytes (refusal_of no.now.fault true))) ⊎ ((result ≡ Ended.WriteFault) × Rose (L.count link.old) (L.count link.new) × AppendsFront (L.got link.old) (L.got link.new) (reply_bytes (refusal_of no.now.fault true))) }
-    ensures left { L.left link.new ≡ L.left link.old }
-    ensures later { L.count link.old ≤ L.count link.new }
-    ensures stayed { result ≢ Ended.WriteFault → L.count link.new ≡ L.count link.old }
+    ensures sent { SendsRefusal (L.end link.old) (L.end link.new) no.now.fault result }
+    ensures left { (L.end link.new).left ≡ (L.end link.old).left }
+    ensures later { (L.end link.old).count ≤ (L.end link.new).count }
+    ensures stayed { result ≢ Ended.WriteFault → (L.end link.new).count ≡ (L.end link.old).count }
 {
     match send(link, &refusal(no), true) {
         Ok(()) => Ended::Refused(no.fault),
@@ -92,20 +93,20 @@ pub fn serve_connection<
 ) -> Ended
     requires of { G.of gate.now own.old }
     ensures of { G.of gate.now own.new }
-    ensures ended { IsEnded (λ own frame told own'. G.ran own frame told own') (record { left = L.left link.old; got = L.got link.old; moments = T.left ticker.old; own = own.old }) (record { left = L.left link.new; got = L.got link.new; moments = T.left ticker.new; own = own.new }) result }
+    ensures ended { IsEnded (λ own frame told own'. G.ran own frame told own') (sides_at (L.end link.old) (T.end ticker.old) own.old) (sides_at (L.end link.new) (T.end ticker.new) own.new) result }
     ensures parts { G.parts own.new ≡ G.parts own.old }
-    ensures later { (L.count link.old ≤ L.count link.new) × (T.count ticker.old ≤ T.count ticker.new) }
-    ensures read_fault { result ≡ Ended.ReadFault → Rose (L.count link.old) (L.count link.new) }
-    ensures write_fault { result ≡ Ended.WriteFault → Rose (L.count link.old) (L.count link.new) }
-    ensures clock_fault { result ≡ Ended.ClockFault → Rose (T.count ticker.old) (T.count ticker.new) }
-    ensures link_stayed { result ≢ Ended.ReadFault → result ≢ Ended.WriteFault → L.count link.new ≡ L.count link.old }
-    ensures clock_stayed { result ≢ Ended.ClockFault → T.count ticker.new ≡ T.count ticker.old }
+    ensures later { ((L.end link.old).count ≤ (L.end link.new).count) × ((T.end ticker.old).count ≤ (T.end ticker.new).count) }
+    ensures read_fault { result ≡ Ended.ReadFault → Rose (L.end link.old).count (L.end link.new).count }
+    ensures write_fault { result ≡ Ended.WriteFault → Rose (L.end link.old).count (L.end link.new).count }
+    ensures clock_fault { result ≡ Ended.ClockFault → Rose (T.end ticker.old).count (T.end ticker.new).count }
+    ensures link_stayed { result ≢ Ended.ReadFault → result ≢ Ended.WriteFault → (L.end link.new).count ≡ (L.end link.old).count }
+    ensures clock_stayed { result ≢ Ended.ClockFault → (T.end ticker.new).count ≡ (T.end ticker.old).count }
 {
     let Ok(inbox) = Inbox::new(alloc) else {
         return Ended::Memory;
     };
     let mut inbox = inbox;
-    for before in 0..1000u32 {
+    for before in 0..REPLIES {
         let Ok(arrived) = inbox.next(link) else {
             return Ended::ReadFault;
         };

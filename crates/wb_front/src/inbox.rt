@@ -119,12 +119,12 @@ impl Inbox {
     // Reads some more bytes, and says how many they are. 0 means that the link has none left.
     fn fill<L: Link>(&mut self, link: &mut L) -> Result<usize, Failed>
         requires { length self.old < 270_336 }
-        ensures flows { Flows self.old (L.left link.old) self.new (L.left link.new) }
+        ensures flows { Flows self.old (L.end link.old).left self.new (L.end link.new).left }
         ensures longer { IfOk result (λ n. length self.new ≡ length self.old + n) }
-        ensures end { IfOk result (λ n. n ≡ 0 → (self.new ≡ self.old) × IsAtEnd (L.left link.new)) }
+        ensures end { IfOk result (λ n. n ≡ 0 → (self.new ≡ self.old) × IsAtEnd (L.end link.new).left) }
         ensures failed { OnErr result (self.new ≡ self.old) }
-        ensures got { L.got link.new ≡ L.got link.old }
-        ensures cause { HasCause (L.count link.old) (L.count link.new) result }
+        ensures got { (L.end link.new).got ≡ (L.end link.old).got }
+        ensures cause { HasCause (L.end link.old).count (L.end link.new).count result }
     {
         let Ok(size) = link.read(&mut self.buffer[self.held..]) else {
             return Err(Failed);
@@ -135,12 +135,12 @@ impl Inbox {
 
     /// Reads until the first request is whole, or it is known how the connection ends.
     pub fn next<L: Link>(&mut self, link: &mut L) -> Result<Arrived, Failed>
-        ensures flows { Flows self.old (L.left link.old) self.new (L.left link.new) }
-        ensures got { L.got link.new ≡ L.got link.old }
-        ensures arrived { IfOk result (λ arrived. HasArrived self.new (L.left link.new) arrived) }
+        ensures flows { Flows self.old (L.end link.old).left self.new (L.end link.new).left }
+        ensures got { (L.end link.new).got ≡ (L.end link.old).got }
+        ensures arrived { IfOk result (λ arrived. HasArrived self.new (L.end link.new).left arrived) }
         // Where the link fails, what came before has no whole request.
         ensures unfinished { OnErr result (IsUnfinished self.new) }
-        ensures cause { HasCause (L.count link.old) (L.count link.new) result }
+        ensures cause { HasCause (L.end link.old).count (L.end link.new).count result }
     {
         loop {
             match self.seen() {

@@ -1,7 +1,7 @@
 //! A worker: it attends link after link, until its listener has none.
-ghost use Rattle.std.specs.Prelude.{◌≡◌, ◌≤◌, ◌<◌, ◌-◌, ◌++◌, ◌∷◌, [], Some};
-ghost use Rattle.wb_transport.specs.Lines.{Line, IsLine, Lines};
-ghost use Rattle.wb_front.specs.Attended.{clock_of, IsAttended, HasWorked, RoseOften};
+ghost use Rattle.std.specs.Prelude.{◌≡◌, ◌≤◌, ◌<◌, ◌-◌, Some};
+ghost use Rattle.wb_transport.specs.Lines.{Lines};
+ghost use Rattle.wb_front.specs.Attended.{RoseOften, AttendsLink, AttendsLinks, HasNone};
 
 use crate::connection::serve_connection;
 use std::alloc::Global;
@@ -48,12 +48,12 @@ fn attend<
     link: Li::End,
 )
     requires of { G.of gate.now own.old }
-    requires out { (x : Lines) → Li.told station.old.listener ≡ Some x → 0 < x.out }
+    requires out { (x : Lines) → (Li.end station.old.listener).told ≡ Some x → 0 < x.out }
     ensures of { G.of gate.now own.new }
-    ensures attended { (x : Lines) (a : Line) → Li.told station.old.listener ≡ Some x → IsLine (Li.End.left link) (Li.End.got link) (Li.End.count link) a → (b : Line) × IsAttended (λ own frame told own'. G.ran own frame told own') a b own.old own.new (clock_of (T.left station.old.ticker) (T.count station.old.ticker)) (clock_of (T.left station.new.ticker) (T.count station.new.ticker)) × (Li.told station.new.listener ≡ Some (record x { out = x.out - 1; came = x.came ++ b ∷ [] })) }
-    ensures count { Li.count station.new.listener ≡ Li.count station.old.listener }
+    ensures attended { AttendsLink (λ own frame told own'. G.ran own frame told own') (Li.end station.old.listener) (Li.End.end link) (Li.end station.new.listener) own.old own.new (T.end station.old.ticker) (T.end station.new.ticker) }
+    ensures count { (Li.end station.new.listener).count ≡ (Li.end station.old.listener).count }
     ensures parts { G.parts own.new ≡ G.parts own.old }
-    ensures later { T.count station.old.ticker ≤ T.count station.new.ticker }
+    ensures later { (T.end station.old.ticker).count ≤ (T.end station.new.ticker).count }
 {
     let mut link = link;
     serve_connection(rt, alloc, gate, routes, own, &mut link, &mut station.ticker);
@@ -79,9 +79,9 @@ pub fn work<
 ) -> Worked
     requires of { G.of gate.now own.old }
     ensures of { G.of gate.now own.new }
-    ensures attended { (x : Lines) → Li.told station.old.listener ≡ Some x → (y : Lines) × (Li.told station.new.listener ≡ Some y) × HasWorked (λ own frame told own'. G.ran own frame told own') x y own.old own.new (clock_of (T.left station.old.ticker) (T.count station.old.ticker)) (clock_of (T.left station.new.ticker) (T.count station.new.ticker)) }
-    ensures ended { result ≡ Worked.End → (y : Lines) → Li.told station.new.listener ≡ Some y → y.left ≡ [] }
-    ensures failed { result ≡ Worked.ListenFault → RoseOften 16 (Li.count station.old.listener) (Li.count station.new.listener) }
+    ensures attended { AttendsLinks (λ own frame told own'. G.ran own frame told own') (Li.end station.old.listener) (Li.end station.new.listener) own.old own.new (T.end station.old.ticker) (T.end station.new.ticker) }
+    ensures ended { result ≡ Worked.End → HasNone (Li.end station.new.listener) }
+    ensures failed { result ≡ Worked.ListenFault → RoseOften 16 (Li.end station.old.listener).count (Li.end station.new.listener).count }
     ensures parts { G.parts own.new ≡ G.parts own.old }
 {
     let mut failed = 0u32;

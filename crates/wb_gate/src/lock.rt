@@ -66,10 +66,10 @@ pub fn close<K: Keeper, A: Origin, B: Ledger>(
     passes: Vec<Pass<A, B>>,
 ) -> Result<Closed<K>, NotAll<K, A, B>>
     ensures ok { IfOk result (λ c. (c.turns ≡ turns_of passes.items) × (c.numbers ≡ numbers_drawn passes.items)) }
-    ensures kept { IfOk result (λ c. K.honest c.keeper → K.holds c.keeper (rows_of (hosts_of c.desk).list)) }
+    ensures kept { IfOk result (λ c. (K.end c.keeper).honest → (K.end c.keeper).holds (rows_of (hosts_of c.desk).list)) }
     // The host is the one that was opened, gone on by the turns of its book.
     ensures opened { IfOk result (λ c. (c.desk.turns ≡ A.desk.turns + c.turns) × (numbers_of (hosts_of c.desk) ≡ numbers_of (hosts_of A.desk) + c.numbers) × IsLater A.desk c.turns c.desk) }
-    ensures honest { IfOk result (λ c. K.honest c.keeper → A.honest) }
+    ensures honest { IfOk result (λ c. (K.end c.keeper).honest → A.honest) }
     ensures back { IfErr result (λ k. k.passes.items ≡ passes.items) }
     ensures sums { IfErr result (λ k. (k.sum.turns ≡ turns_of passes.items) × (k.sum.numbers ≡ numbers_drawn passes.items)) }
     ensures differ { IfErr result (λ k. k.sum.turns ≡ k.book.turns → k.sum.numbers ≢ k.book.numbers) }

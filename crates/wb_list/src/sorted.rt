@@ -4,7 +4,7 @@ ghost use Rattle.std.specs.Ordering.{is_eq, is_le, is_lt};
 ghost use Rattle.std.specs.List.Sorted.{IsPartitionPoint};
 ghost use Rattle.std.specs.declared.cmp.Ordering.TheVariants.{Less};
 ghost use Rattle.std.specs.Option.{option_copied};
-ghost use Rattle.wb_list.specs.Keyed.{IsAscending, has_key, insert_item, without_first, IsPlace, IsGap, IsRun};
+ghost use Rattle.wb_list.specs.Keyed.{IsAscending, has_key, insert_item, without_first, IsPlace, IsGap, IsRun, Finds};
 
 use crate::{Memory, TryClone};
 use std::alloc::Global;
@@ -320,8 +320,8 @@ impl<T: Keyed + Drop> Sorted<T> {
 
     /// Changes the item of a key in its place. It takes no memory beside what the change takes.
     pub fn change<X: ItemChange<T>>(&mut self, key: &T::Key, change: X) -> X::Answer
-        requires there { (item : T) × (find (has_key T.Key.cmp T.key_of key.now) self.old.items ≡ Some item) × X.asks change item }
-        ensures changed { (item : T) × (next : T) × (find (has_key T.Key.cmp T.key_of key.now) self.old.items ≡ Some item) × (T.key_of next ≡ T.key_of item) × X.makes change item next result × (self.new.items ≡ insert_item T.Key.cmp T.key_of self.old.items next) }
+        requires there { (item : T) × Finds T.Key.cmp T.key_of key.now self.old.items item × X.asks change item }
+        ensures changed { (item : T) × (next : T) × Finds T.Key.cmp T.key_of key.now self.old.items item × (T.key_of next ≡ T.key_of item) × X.makes change item next result × (self.new.items ≡ insert_item T.Key.cmp T.key_of self.old.items next) }
         ensures ascending { IsAscending T.Key.cmp T.key_of self.old.items }
         ensures room { self.new.spare ≡ self.old.spare }
     {

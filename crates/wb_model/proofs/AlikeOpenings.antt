@@ -16,7 +16,7 @@ use Rattle.wb_model.specs.Pasts.{AllOpened, part, tenants, has_tenant, held_tena
 use Rattle.wb_model.specs.Reopened.{entry_moments, moments, all_moments, latest, left_time, without_sessions, left_tables, reopening}
 use Rattle.wb_model.specs.OtherOpenings.{OpeningsAlike}
 use Rattle.wb_model.proofs.Found.{decide, same_number, other_number}
-use Rattle.wb_model.proofs.ScriptLaw.{PastsAlike}
+use Rattle.wb_model.specs.ScriptsAlike.{PastsAlike}
 use Rattle.wb_model.proofs.RowsAlike.{one_plain}
 
 -- ---- the hosts of alike openings

@@ -8,13 +8,9 @@ use Rattle.wb_model.specs.Past.{Past}
 use Rattle.wb_model.specs.Pasts.{AllOpened, standing_hosts, reply_in, with_turn}
 use Rattle.wb_model.specs.Readings.{Reading, Asks, Refuses}
 use Rattle.wb_model.specs.Scripts.{Loss, NotLost, ByKeeper, ByMemory, Unread, Place, Reply, Played, frame_of, replying, play_asked, play_by, play, script_replies, past_after}
-use Rattle.wb_model.specs.ScriptsAlike.{AskAlike, PlaceAlike, AllPlacesAlike, is_accepted, FollowWhere, PlacesAlike, reader_by, hidden_replies}
+use Rattle.wb_model.specs.ScriptsAlike.{PastsAlike, AskAlike, PlaceAlike, AllPlacesAlike, is_accepted, FollowWhere, PlacesAlike, reader_by, hidden_replies}
 use Rattle.wb_model.proofs.AllTenants.{later_reply, later_hosts, later_moment, first_reply, first_hosts, same_alike}
 use Rattle.wb_model.proofs.PartLaw.{reply_in_law, turn_in_law}
-
--- the hosts that stand for two pasts differ in the identity answers of report r of tenant t alone
-abbrev pub PastsAlike : ℕ → ℕ → Past AllOpened → Past AllOpened → Type 0
-PastsAlike t r past other = AllHostsAlike t r (standing_hosts past) (standing_hosts other)
 
 -- the replies are the same but to a reader, and the pasts after them alike
 record PlayedAlike (t r : ℕ) (reads : Bool) (x y : Played) : Type 0 where

@@ -1,6 +1,9 @@
 -- The tables, the past and the script in which a report's submission only drew a number.
 use Rattle.std.specs.Prelude.{◌≡◌, ℕ, zero, suc, ◌+◌, ◌==◌, ◌&&◌, ◌||◌, not, max, Bool, true, false, if◌then◌else◌, List, [], ◌∷◌, map, Option, Some, None}
+use Rattle.wb_base.specs.AnswerList.{Answered}
+use Rattle.wb_base.specs.declared.callers.Presented.{Presented}
 use Rattle.wb_base.specs.declared.words.Words.{Words}
+use Rattle.wb_model.specs.declared.command.Command.TheVariants as commands
 use Rattle.wb_model.specs.declared.event.Event.{Event}
 use Rattle.wb_model.specs.declared.event.What.{What}
 use Rattle.wb_model.specs.declared.event.What.TheVariants.{Did, Gap, Idle, Lost}
@@ -11,9 +14,9 @@ use Rattle.wb_model.specs.Commands.{tenant_of, is_submission}
 use Rattle.wb_model.specs.Past.{Past, Opening, Turn, now, registry, last, about, alone_at, live, case_of, live_reports, held}
 use Rattle.wb_model.specs.Opened.{Apart, Opened}
 use Rattle.wb_base.specs.Secrets.{digest, receipt_text}
-use Rattle.wb_model.specs.Pasts.{AllOpened, seen, part, time, what_in}
+use Rattle.wb_model.specs.Pasts.{AllOpened, seen, part, standing_hosts, time, what_in}
 use Rattle.wb_model.specs.Readings.{Reading, Asks, Refuses}
-use Rattle.wb_model.specs.Scripts.{Place, Reply, frame_of, play}
+use Rattle.wb_model.specs.Scripts.{Place, Reply, frame_of, past_after, play, script_replies}
 use Rattle.wb_model.specs.ScriptsAlike.{is_made}
 
 -- ---- tables without a report
@@ -183,9 +186,13 @@ is_purged_after (suc i) t r past (p ∷ ps) = is_purged_after i t r (play past p
 abbrev pub holds : ℕ → ℕ → Past AllOpened → Bool
 holds t r past = is_there r (held (part t past)).plain.cases
 
+-- report r of tenant t is not live at the past's time
+abbrev pub IsNotLive : ℕ → ℕ → Past AllOpened → Type 0
+IsNotLive t r past = live (part t past) r (time past) ≡ false
+
 -- the hosts hold it only while it is live
 abbrev pub HoldsLive : ℕ → ℕ → Past AllOpened → Type 0
-HoldsLive t r past = live (part t past) r (time past) ≡ false → holds t r past ≡ false
+HoldsLive t r past = IsNotLive t r past → holds t r past ≡ false
 
 -- no place of a script is lost
 abbrev pub NoneIsLost : List Place → Type 0
@@ -198,3 +205,25 @@ replies_after i t r past [] xs = []
 replies_after i t r past (p ∷ ps) [] = []
 replies_after zero t r past (p ∷ ps) (x ∷ xs) = replies_purged t r (play past p).past ps xs
 replies_after (suc i) t r past (p ∷ ps) (x ∷ xs) = replies_after i t r (play past p).past ps xs
+
+-- ---- the script in which the submission at place i only drew a number
+
+-- the past after it
+abbrev pub past_without : ℕ → ℕ → Past AllOpened → List Place → Past AllOpened
+past_without i t past places = past_with past (without_place i t places)
+
+-- the replies are its replies, but at the places where the report is live
+abbrev pub AnswersWithout : ℕ → ℕ → ℕ → Past AllOpened → List Place → Type 0
+AnswersWithout i t r past places = replies_without i t r past places (map Some (script_replies past places)) ≡ replies_without i t r past places (replies past (without_place i t places))
+
+-- from the place on at which the report is purged, all replies are
+abbrev pub AnswersAfterWithout : ℕ → ℕ → ℕ → Past AllOpened → List Place → Type 0
+AnswersAfterWithout i t r past places = replies_after i t r past places (map Some (script_replies past places)) ≡ replies_after i t r past places (replies past (without_place i t places))
+
+-- the hosts at the end are its hosts
+abbrev pub EndsWithout : ℕ → ℕ → Past AllOpened → List Place → Type 0
+EndsWithout i t past places = standing_hosts (past_without i t past places) ≡ standing_hosts (past_after past places)
+
+-- a place asks for a submission to tenant t
+abbrev pub SubmitsTo : ℕ → Place → Type 0
+SubmitsTo t p = (session : Presented) × (close : Bool) × (c : ℕ) × (given : Answered) × (p.reading ≡ Asks (record { session = session; command = commands.Submit t c given; close = close }))

@@ -18,7 +18,7 @@ use Rattle.wb_model.specs.declared.registry.TenantItem.{TenantItem}
 use Rattle.wb_model.specs.Tables.{Registry, Case}
 use Rattle.wb_model.specs.Access.{requests, request_at, user_by}
 use Rattle.wb_model.specs.Trails.{submission_in, expires, received, acknowledged, is_extended}
-use Rattle.wb_model.specs.Doings.{Doing, Acts, Moves, doing_fault}
+use Rattle.wb_model.specs.Doings.{Doing, Acts, Moves, doing_deed, doing_fault}
 
 -- ---- who may have done it
 
@@ -90,6 +90,9 @@ pub record Reckoning : Type 0 where
   pub offset : ℤ
   pub calendar : Calendar
 
+abbrev pub reckoning_by : ℤ → Calendar → Reckoning
+reckoning_by offset calendar = record { offset = offset; calendar = calendar }
+
 abbrev pub reckoning : TenantItem → Reckoning
 reckoning settings = record { offset = settings.offset; calendar = settings.calendar }
 
@@ -156,3 +159,15 @@ LegalCase days time c = (is_legal days c.trail ≡ true) × (last_at 0 c.trail �
 abbrev pub AreLegal : Reckoning → ℕ → List Case → Type 0
 AreLegal days time [] = Unit {0}
 AreLegal days time (c ∷ cs) = LegalCase days time c × AreLegal days time cs
+
+-- what is done at a time by an actor on a trail
+abbrev pub doing_by : Reckoning → ℕ → Actor → List Entry → Doing → Entry
+doing_by days time by trail d = record { at = time; by = by; deed = doing_deed days.calendar time trail d }
+
+-- so are they by a tenant's registry
+abbrev pub AreLegalIn : Registry → ℕ → List Case → Type 0
+AreLegalIn g time cases = AreLegal (reckoning g.settings) time cases
+
+-- an entry is legal after this trail
+abbrev pub GoesOn : Reckoning → List Entry → Entry → Type 0
+GoesOn days trail entry = is_next days (last_at 0 trail) trail entry ≡ true

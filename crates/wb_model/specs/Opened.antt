@@ -9,7 +9,7 @@ use Rattle.wb_model.specs.Trails.{has_identity}
 use Rattle.wb_model.specs.Tables.{Registry, has_receipt, Case, Session, Who, TheUser, TheReporter, report}
 use Rattle.wb_model.specs.Requests.{form_of_trail}
 use Rattle.wb_model.specs.Settings.{form_key}
-use Rattle.wb_model.specs.Legal.{ascends, IsSound, AreLegal, reckoning}
+use Rattle.wb_model.specs.Legal.{ascends, IsSound, AreLegal, reckoning, AreLegalIn}
 use Rattle.wb_model.specs.Host.{Tables}
 
 -- the reports' numbers ascend from above this one
@@ -103,3 +103,7 @@ pub record Opened : Type 0 where
   pub at : ℕ
   pub tables : Tables
   pub sound : AreOpened at tables
+
+-- a tenant's trails are legal at a moment
+abbrev pub HasLegalTrails : ℕ → Tables → Type 0
+HasLegalTrails time t = AreLegalIn t.plain.registry time t.plain.cases

@@ -159,6 +159,10 @@ are_stored lists = list_all is_stored_tenant lists.tenants && list_all (λ x. ar
 abbrev pub is_stored_case : Sealed → Case → Bool
 is_stored_case sealed c = list_all (λ (e : Entry). is_stored e.deed) c.trail && are_sealed (sealed c.number)
 
+-- so are all of a tenant's reports
+abbrev pub AreStoredCases : Tables → Type 0
+AreStoredCases x = list_all (is_stored_case x.sealed) x.plain.cases ≡ true
+
 -- ---- what is asked of events
 
 -- after this past of tenant t: what was asked is of the tenant, and a number was left where one was drawn for no report

@@ -1,9 +1,9 @@
 //! Laws of the definitions, each a function with no body.
-ghost use Rattle.std.specs.Prelude.{◌≡◌, ◌+◌, ◌≤◌, ◌<◌, if◌then◌else◌, filter, map, ℕ, List, false, true, Some, option_and_then};
+ghost use Rattle.std.specs.Prelude.{◌≡◌, ◌+◌, ◌≤◌, ◌<◌, if◌then◌else◌, filter, map, ℕ, List, false, true, Some};
 ghost use Rattle.serde_json.specs.Data.{Data};
 ghost use Rattle.serde_json.specs.Find.{get};
 ghost use Rattle.serde_json.specs.Read.{read};
-ghost use Rattle.std.specs.Prelude.{Bool, is_some, length, ℤ, None, ◌++◌, ◌∷◌, []};
+ghost use Rattle.std.specs.Prelude.{is_some, length, None, ◌++◌, ◌∷◌, []};
 ghost use Rattle.wb_model.specs.declared.entry.Actor.{Actor};
 ghost use Rattle.wb_model.specs.declared.entry.Entry.{Entry};
 ghost use Rattle.wb_model.specs.declared.registry.ContextItem.{ContextItem};
@@ -23,28 +23,22 @@ ghost use Rattle.wb_model.specs.AnswerRanges.{are_answers};
 ghost use Rattle.wb_model.specs.Bodies.{answers};
 ghost use Rattle.wb_model.specs.Fits.{fits_command};
 ghost use Rattle.wb_model.specs.Submissions.{submission_entry};
-ghost use Rattle.wb_model.specs.Doings.{Doing, doing_fault, doing_deed};
-ghost use Rattle.wb_model.specs.Legal.{Reckoning, reckoning, ascends, are_readers, is_first, is_next, is_legal, last_at, AsksRightly, IsSound, AreLegal};
+ghost use Rattle.wb_model.specs.Doings.{Doing, doing_fault};
+ghost use Rattle.wb_model.specs.Legal.{Reckoning, reckoning, ascends, are_readers, doing_by, is_first, is_next, is_legal, last_at, AsksRightly, IsSound, AreLegalIn};
 ghost use Rattle.wb_model.specs.declared.command.Asked.{Asked};
 ghost use Rattle.wb_model.specs.Host.{Tables};
-ghost use Rattle.wb_model.specs.Opened.{Ascend};
+ghost use Rattle.wb_model.specs.Opened.{Ascend, HasLegalTrails};
 ghost use Rattle.wb_model.specs.Trails.{has_identity, dialogue, dialogue_places, remark_places, remarks_at};
-ghost use Rattle.wb_base.specs.declared.callers.Presented.{Presented};
 ghost use Rattle.wb_base.specs.AnswerList.{Answered};
-ghost use Rattle.wb_model.specs.declared.command.Command.TheVariants as commands;
-ghost use Rattle.wb_model.specs.Readings.{Asks};
-ghost use Rattle.wb_base.specs.FormFaults.{is_good};
-ghost use Rattle.wb_base.specs.FormShape.{form_of};
 ghost use Rattle.wb_model.specs.Requests.{Frame};
 ghost use Rattle.wb_model.specs.Host.{Host, purge_at, reply_to, host_after, tables_after};
 ghost use Rattle.wb_model.specs.Tenants.{Tenancy, Hosts, AllHostsAlike, OneLaterAlike, is_report_reader, hosts_reply, hosts_after, hosts_lost};
 ghost use Rattle.wb_model.specs.declared.event.Event.{Event};
-ghost use Rattle.wb_model.specs.Absence.{begins_here, AreApart, AllDrawAnother, DrawOthersAfter, later_replies, is_purged, replies_purged, without, gapped, all_gapped, first_last, BeginsAt, replies, past_with, without_place, replies_without, replies_after, is_purged_after, holds, NoneIsLost, HoldsLive};
+ghost use Rattle.wb_model.specs.Absence.{begins_here, AnswersAfterWithout, AnswersWithout, AreApart, AllDrawAnother, DrawOthersAfter, is_purged, without, gapped, all_gapped, first_last, BeginsAt, replies, past_without, is_purged_after, holds, NoneIsLost, HoldsLive, EndsWithout, IsNotLive, SubmitsTo};
 ghost use Rattle.wb_model.specs.Past.{registry, numbering, held, sealed, trail, last, live, is_lost, Past, Opening, Turn, now, live_reports, recent, standing_sessions, tables};
-ghost use Rattle.wb_model.specs.PastTurns.{verdict_at, reply_at, at_frame, what_at};
+ghost use Rattle.wb_model.specs.PastTurns.{verdict_at, reply_at, at_frame, tables_then, tables_turned};
 ghost use Rattle.wb_model.specs.Opened.{is_numbering, AreOrdered, AreOpened, Opened};
-ghost use Rattle.std.specs.List.{list_all};
-ghost use Rattle.wb_model.specs.Readable.{AreReadable, OpensReadable, AreRanged, AreTimely, are_stored, is_count, is_stored_case};
+ghost use Rattle.wb_model.specs.Readable.{AreReadable, OpensReadable, AreRanged, AreTimely, are_stored, is_count, AreStoredCases};
 ghost use Rattle.wb_model.specs.Tables.{lasts};
 ghost use Rattle.wb_model.specs.Pasts.{AllOpened, part, tenants, has_tenant, time, standing_hosts, reply_in, with_turn, with_loss};
 ghost use Rattle.wb_model.specs.Alike.{HostsAlike, LaterAlike, SubmissionsAlike, is_reader};
@@ -62,8 +56,8 @@ ghost use Rattle.wb_model.specs.SetUps.{AreSetUp, tenant_ids, has_tenant as has_
 ghost use Rattle.wb_model.specs.KeptRules.{AreKept};
 ghost use Rattle.wb_model.specs.Openings.{registry_of, empty_tables};
 ghost use Rattle.wb_model.specs.ByVerdicts.{AreByVerdicts, AskInRange};
-ghost use Rattle.wb_model.specs.ScriptsAlike.{PlacesAlike, AllPlacesAlike, hidden_replies};
-ghost use Rattle.wb_model.specs.OtherOpenings.{OpeningsAlike, IsOpenedWithout, StartTogether, rows_without};
+ghost use Rattle.wb_model.specs.ScriptsAlike.{PastsAlike, PlacesAlike, AllPlacesAlike, hidden_replies, AnswersAlike};
+ghost use Rattle.wb_model.specs.OtherOpenings.{OpeningsAlike, IsOpenedWithout, StartTogether, AnswersOverBoth, AnswersAfterOverBoth, EndsOverBoth, HoldsOverBoth, HasRowsWithout, LeaveAlike, LeaveWithout, LeaveWithoutAfter};
 ghost use Rattle.wb_model.specs.Reopened.{left_time, left_tables, left_hosts, reopening, without_sessions};
 
 /// A turn does not tell two hosts apart that differ in the identity answers of report r alone.
@@ -125,15 +119,13 @@ pub fn alike_scripts_get_the_same_replies()
 ///
 /// This holds wherever turns are lost at the same places of both scripts.
 pub fn alike_openings_get_the_same_replies()
-    ensures openings { (t r : ℕ) (o p : AllOpened) → OpeningsAlike t r o p → AllHostsAlike t r (standing_hosts (Opening o)) (standing_hosts (Opening p)) }
+    ensures openings { (t r : ℕ) (o p : AllOpened) → OpeningsAlike t r o p → PastsAlike t r (Opening o) (Opening p) }
     ensures marks { (t r : ℕ) (o p : AllOpened) → OpeningsAlike t r o p → is_some ((o.tables t).sealed r) ≡ is_some ((p.tables t).sealed r) }
-    ensures replies { (t r : ℕ) (past other : Past AllOpened) (places others : List Place) → AllHostsAlike t r (standing_hosts past) (standing_hosts other) → AllPlacesAlike t r past places others → hidden_replies t r past places (script_replies past places) ≡ hidden_replies t r past places (script_replies other others) }
-    ensures same { (t r : ℕ) (past other : Past AllOpened) (places : List Place) → AllHostsAlike t r (standing_hosts past) (standing_hosts other) → hidden_replies t r past places (script_replies past places) ≡ hidden_replies t r past places (script_replies other places) }
-    ensures hosts { (t r : ℕ) (past other : Past AllOpened) (places others : List Place) → AllHostsAlike t r (standing_hosts past) (standing_hosts other) → AllPlacesAlike t r past places others → AllHostsAlike t r (standing_hosts (past_after past places)) (standing_hosts (past_after other others)) }
-    ensures rows { (t r : ℕ) (past other : Past AllOpened) → AllHostsAlike t r (standing_hosts past) (standing_hosts other) → rows_but t r (rows past) ≡ rows_but t r (rows other) }
-    ensures reopened { (t r : ℕ) (past other : Past AllOpened) → AllHostsAlike t r (standing_hosts past) (standing_hosts other) →
-        (ids : ascends (tenants past) ≡ true) (sound : (u : ℕ) → AreOpened (left_time past) (left_tables past u)) (other_ids : ascends (tenants other) ≡ true) (other_sound : (u : ℕ) → AreOpened (left_time other) (left_tables other u)) →
-        OpeningsAlike t r (reopening past ids sound) (reopening other other_ids other_sound) }
+    ensures replies { (t r : ℕ) (past other : Past AllOpened) (places others : List Place) → PastsAlike t r past other → AllPlacesAlike t r past places others → AnswersAlike t r past places other others }
+    ensures same { (t r : ℕ) (past other : Past AllOpened) (places : List Place) → PastsAlike t r past other → AnswersAlike t r past places other places }
+    ensures hosts { (t r : ℕ) (past other : Past AllOpened) (places others : List Place) → PastsAlike t r past other → AllPlacesAlike t r past places others → PastsAlike t r (past_after past places) (past_after other others) }
+    ensures rows { (t r : ℕ) (past other : Past AllOpened) → PastsAlike t r past other → rows_but t r (rows past) ≡ rows_but t r (rows other) }
+    ensures reopened { (t r : ℕ) (past other : Past AllOpened) → PastsAlike t r past other → LeaveAlike t r past other }
 {}
 
 /// The hosts that stand for a past answer as the past says, and then stand for the past with that turn, made or lost.
@@ -147,7 +139,7 @@ pub fn hosts_stand_for_their_past()
 
 /// The tables of one tenant's past with one more turn are one step on its tables.
 pub fn a_turn_is_a_step_on_the_tables()
-    ensures { (t : ℕ) (past : Past Opened) (f : Frame) → tables (Turn (record { moment = f.moment; words = f.words; what = what_at t past f }) past) (at_frame past f).time ≡ tables_after (tables past (at_frame past f).time) (at_frame past f) f.asked }
+    ensures { (t : ℕ) (past : Past Opened) (f : Frame) → tables_turned t past f ≡ tables_after (tables_then past f) (at_frame past f) f.asked }
 {}
 
 /// The sessions that stand by the past's own words are those that stood just after its last turn, where they still last.
@@ -160,15 +152,15 @@ pub fn sessions_stand_turn_by_turn()
 /// What is done on a report, and is not refused, is a legal entry after its trail, whatever the trail is; and so is the
 /// entry with which a submission begins its trail. A legal trail stays legal with such an entry.
 pub fn what_is_not_refused_is_legal()
-    ensures doing { (days : Reckoning) (last time : ℕ) (es : List Entry) (by : Actor) (d : Doing) → last ≤ time → AsksRightly days time by d → doing_fault es (user_by by) d ≡ None → is_next days last es (record { at = time; by = by; deed = doing_deed days.calendar time es d }) ≡ true }
-    ensures submission { (at : TurnContext) (g : Registry) (o : Outcome) (c : ContextItem) (form : FormItem) → 1 ≤ c.retention → c.retention ≤ 3_650 → are_readers c.recipients ≡ true → is_first (reckoning g.settings) (submission_entry at g o c form) ≡ true }
+    ensures doing { (days : Reckoning) (last time : ℕ) (es : List Entry) (by : Actor) (d : Doing) → last ≤ time → AsksRightly days time by d → doing_fault es (user_by by) d ≡ None → is_next days last es (doing_by days time by es d) ≡ true }
+    ensures first { (at : TurnContext) (g : Registry) (o : Outcome) (c : ContextItem) (f : FormItem) → 1 ≤ c.retention → c.retention ≤ 3_650 → are_readers c.recipients ≡ true → is_first (reckoning g.settings) (submission_entry at g o c f) ≡ true }
     ensures more { (days : Reckoning) (es : List Entry) (e : Entry) → is_legal days es ≡ true → is_next days (last_at 0 es) es e ≡ true → is_legal days (es ++ e ∷ []) ≡ true }
 {}
 
 /// A turn over purged tables, whose registry is in its ranges, keeps the trails of all reports legal, and the registry in
 /// its ranges.
 pub fn a_turn_keeps_trails_legal()
-    ensures trails { (t : Tables) (at : TurnContext) (a : Asked) → fits_command a.command ≡ true → IsSound t.plain.registry → Ascend 0 t.plain.cases → AreLegal (reckoning t.plain.registry.settings) at.time t.plain.cases → AreLegal (reckoning t.plain.registry.settings) at.time (tables_after t at a).plain.cases }
+    ensures trails { (t : Tables) (at : TurnContext) (a : Asked) → fits_command a.command ≡ true → IsSound t.plain.registry → Ascend 0 t.plain.cases → HasLegalTrails at.time t → AreLegalIn t.plain.registry at.time (tables_after t at a).plain.cases }
     ensures registry { (t : Tables) (at : TurnContext) (a : Asked) → fits_command a.command ≡ true → IsSound t.plain.registry → IsSound (tables_after t at a).plain.registry }
 {}
 
@@ -207,8 +199,8 @@ pub fn a_numbering_is_left_by_draws()
 ///
 /// A script whose requests are in their ranges makes such a past from such a past, and an opening is one.
 pub fn verdicts_keep_trails_legal()
-    ensures live { (t time : ℕ) (past : Past Opened) → AreByVerdicts t past → now past ≤ time → AreLegal (reckoning (registry past).settings) time (live_reports past time) }
-    ensures held { (t : ℕ) (past : Past Opened) → AreByVerdicts t past → AreLegal (reckoning (registry past).settings) (now past) (held past).plain.cases }
+    ensures live { (t time : ℕ) (past : Past Opened) → AreByVerdicts t past → now past ≤ time → AreLegalIn (registry past) time (live_reports past time) }
+    ensures held { (t : ℕ) (past : Past Opened) → AreByVerdicts t past → AreLegalIn (registry past) (now past) (held past).plain.cases }
     ensures registry { (t : ℕ) (past : Past Opened) → AreByVerdicts t past → IsSound (registry past) }
     ensures scripts { (t : ℕ) (past : Past AllOpened) (places : List Place) → AskInRange places → AreByVerdicts t (part t past) → AreByVerdicts t (part t (past_after past places)) }
 {}
@@ -225,7 +217,7 @@ pub fn hosts_hold_what_is_read_back()
     ensures moments { (past : Past AllOpened) (places : List Place) → AreTimely places → time past ≤ 99_999_999_999 → time (past_after past places) ≤ 99_999_999_999 }
     ensures openings { (t : ℕ) (past : Past AllOpened) (places : List Place) → OpensReadable t (part t past) → OpensReadable t (part t (past_after past places)) }
     ensures setups { (lists : Lists) (t : ℕ) → AreSetUp lists → are_stored lists ≡ true → has_tenant_in lists t ≡ true → AreReadable t (empty_tables (registry_of lists t)) }
-    ensures kept_rows { (at : ℕ) (lists : Lists) (t : ℕ) (x : Tables) → AreKept at lists t x → are_stored lists ≡ true → has_tenant_in lists t ≡ true → is_count x.plain.numbering.last ≡ true → list_all (is_stored_case x.sealed) x.plain.cases ≡ true → AreReadable t x }
+    ensures kept_rows { (at : ℕ) (lists : Lists) (t : ℕ) (x : Tables) → AreKept at lists t x → are_stored lists ≡ true → has_tenant_in lists t ≡ true → is_count x.plain.numbering.last ≡ true → AreStoredCases x → AreReadable t x }
 {}
 
 /// Answers in JSON that was read stand in byte order of their fields' ids, each in its range: those that a whole value is, and
@@ -243,10 +235,9 @@ pub fn identity_answers_stand_where_the_trail_says_so()
 /// The verdict on a request, its reply and the tables after its turn are told by the tables at its time, that time, the
 /// turn's number, the words and the request.
 pub fn a_turn_is_told_by_the_tables()
-    ensures verdict { (past other : Past Opened) (f : Frame) → at_frame past f ≡ at_frame other f → tables past (at_frame past f).time ≡ tables other (at_frame other f).time → verdict_at past f ≡ verdict_at other f }
-    ensures reply { (past other : Past Opened) (f : Frame) → at_frame past f ≡ at_frame other f → tables past (at_frame past f).time ≡ tables other (at_frame other f).time → reply_at past f ≡ reply_at other f }
-    ensures tables { (t : ℕ) (past other : Past Opened) (f : Frame) → at_frame past f ≡ at_frame other f → tables past (at_frame past f).time ≡ tables other (at_frame other f).time →
-        tables (Turn (record { moment = f.moment; words = f.words; what = what_at t past f }) past) (at_frame past f).time ≡ tables (Turn (record { moment = f.moment; words = f.words; what = what_at t other f }) other) (at_frame other f).time }
+    ensures verdict { (past other : Past Opened) (f : Frame) → at_frame past f ≡ at_frame other f → tables_then past f ≡ tables_then other f → verdict_at past f ≡ verdict_at other f }
+    ensures reply { (past other : Past Opened) (f : Frame) → at_frame past f ≡ at_frame other f → tables_then past f ≡ tables_then other f → reply_at past f ≡ reply_at other f }
+    ensures tables { (t : ℕ) (past other : Past Opened) (f : Frame) → at_frame past f ≡ at_frame other f → tables_then past f ≡ tables_then other f → tables_turned t past f ≡ tables_turned t other f }
 {}
 
 /// The tables of the past in which the submission of report r only drew a number are the tables without r, from the
@@ -260,13 +251,13 @@ pub fn a_gapped_past_lacks_the_report()
 ///
 /// So they do after each request's turn.
 pub fn absence_on_one_past()
-    ensures event { (t r : ℕ) (e : Event) (past : Past AllOpened) → is_lost e.what ≡ false → first_last (part t past) < r → live (part t (Turn e past)) r (time (Turn e past)) ≡ false → standing_hosts (all_gapped t r (Turn e past)) ≡ standing_hosts (Turn e past) }
-    ensures turn { (t r : ℕ) (past : Past AllOpened) (f : Frame) → first_last (part t past) < r → live (part t (with_turn past f)) r (time (with_turn past f)) ≡ false → standing_hosts (all_gapped t r (with_turn past f)) ≡ standing_hosts (with_turn past f) }
+    ensures event { (t r : ℕ) (e : Event) (past : Past AllOpened) → is_lost e.what ≡ false → first_last (part t past) < r → IsNotLive t r (Turn e past) → standing_hosts (all_gapped t r (Turn e past)) ≡ standing_hosts (Turn e past) }
+    ensures turn { (t r : ℕ) (past : Past AllOpened) (f : Frame) → first_last (part t past) < r → IsNotLive t r (with_turn past f) → standing_hosts (all_gapped t r (with_turn past f)) ≡ standing_hosts (with_turn past f) }
 {}
 
 /// A place of a script at which a submission is answered 201 begins a report under the next number of its tenant.
 pub fn a_submission_begins_a_report()
-    ensures { (past : Past AllOpened) (p : Place) (session : Presented) (close : Bool) (t c : ℕ) (given : Answered) → p.reading ≡ Asks (record { session = session; command = commands.Submit t c given; close = close }) → (play past p).reply.told.status ≡ 201 → begins_here t (last (part t past) + 1) past p p.reading ≡ true }
+    ensures { (past : Past AllOpened) (p : Place) (t : ℕ) → SubmitsTo t p → (play past p).reply.told.status ≡ 201 → begins_here t (last (part t past) + 1) past p p.reading ≡ true }
 {}
 
 /// Where place i of a script is an accepted submission to tenant t that draws the number r, the replies are those of the
@@ -278,11 +269,11 @@ pub fn a_submission_begins_a_report()
 /// lost at the same places of both scripts. No later submission to the tenant draws the report's receipt while it is live.
 pub fn absence_over_scripts()
     ensures opening { (t : ℕ) (o : AllOpened) → AreApart t (Opening o) }
-    ensures live { (i t r : ℕ) (past : Past AllOpened) (places : List Place) → AreApart t past → BeginsAt i t r past places → DrawOthersAfter i t r past places → replies_without i t r past places (map Some (script_replies past places)) ≡ replies_without i t r past places (replies past (without_place i t places)) }
-    ensures replies { (i t r : ℕ) (past : Past AllOpened) (places : List Place) → AreApart t past → BeginsAt i t r past places → DrawOthersAfter i t r past places → replies_after i t r past places (map Some (script_replies past places)) ≡ replies_after i t r past places (replies past (without_place i t places)) }
-    ensures hosts { (i t r : ℕ) (past : Past AllOpened) (places : List Place) → AreApart t past → BeginsAt i t r past places → DrawOthersAfter i t r past places → holds t r (past_after past places) ≡ false → standing_hosts (past_with past (without_place i t places)) ≡ standing_hosts (past_after past places) }
+    ensures live { (i t r : ℕ) (past : Past AllOpened) (places : List Place) → AreApart t past → BeginsAt i t r past places → DrawOthersAfter i t r past places → AnswersWithout i t r past places }
+    ensures replies { (i t r : ℕ) (past : Past AllOpened) (places : List Place) → AreApart t past → BeginsAt i t r past places → DrawOthersAfter i t r past places → AnswersAfterWithout i t r past places }
+    ensures hosts { (i t r : ℕ) (past : Past AllOpened) (places : List Place) → AreApart t past → BeginsAt i t r past places → DrawOthersAfter i t r past places → holds t r (past_after past places) ≡ false → EndsWithout i t past places }
     ensures purged { (i t r : ℕ) (past : Past AllOpened) (places : List Place) → AreApart t past → BeginsAt i t r past places → DrawOthersAfter i t r past places → is_purged_after i t r past places ≡ true → holds t r (past_after past places) ≡ false }
-    ensures gone { (i t r : ℕ) (past : Past AllOpened) (places : List Place) → BeginsAt i t r past places → NoneIsLost places → live (part t (past_after past places)) r (time (past_after past places)) ≡ false → holds t r (past_after past places) ≡ false }
+    ensures gone { (i t r : ℕ) (past : Past AllOpened) (places : List Place) → BeginsAt i t r past places → NoneIsLost places → IsNotLive t r (past_after past places) → holds t r (past_after past places) ≡ false }
 {}
 
 /// A report that a host holds when it is opened, however it came there: where a script draws its receipt for no later submission to its
@@ -298,29 +289,16 @@ pub fn absence_over_scripts()
 /// This holds wherever turns are lost at the same places, and where both are opened at one moment or the script is not before either.
 pub fn absence_over_openings()
     ensures there { (t r : ℕ) (o : AllOpened) → r ≤ (o.tables t).plain.numbering.last → (p : AllOpened) × IsOpenedWithout t r o p }
-    ensures live { (t r : ℕ) (o p : AllOpened) (places : List Place) → IsOpenedWithout t r o p → StartTogether o p places → AllDrawAnother t r (Opening o) places →
-        later_replies t r (Opening o) places (map Some (script_replies (Opening o) places)) ≡ later_replies t r (Opening o) places (map Some (script_replies (Opening p) places)) }
-    ensures replies { (t r : ℕ) (o p : AllOpened) (places : List Place) → IsOpenedWithout t r o p → StartTogether o p places → AllDrawAnother t r (Opening o) places →
-        replies_purged t r (Opening o) places (map Some (script_replies (Opening o) places)) ≡ replies_purged t r (Opening o) places (map Some (script_replies (Opening p) places)) }
-    ensures hosts { (t r : ℕ) (o p : AllOpened) (places : List Place) → IsOpenedWithout t r o p → StartTogether o p places → AllDrawAnother t r (Opening o) places → is_purged t r (Opening o) places ≡ true →
-        standing_hosts (past_after (Opening p) places) ≡ standing_hosts (past_after (Opening o) places) }
-    ensures tables { (t r : ℕ) (o p : AllOpened) (places : List Place) → IsOpenedWithout t r o p → StartTogether o p places → AllDrawAnother t r (Opening o) places → holds t r (past_after (Opening o) places) ≡ false →
-        (standing_hosts (past_after (Opening p) places)).list ≡ (standing_hosts (past_after (Opening o) places)).list }
+    ensures live { (t r : ℕ) (o p : AllOpened) (places : List Place) → IsOpenedWithout t r o p → StartTogether o p places → AllDrawAnother t r (Opening o) places → AnswersOverBoth t r o p places }
+    ensures replies { (t r : ℕ) (o p : AllOpened) (places : List Place) → IsOpenedWithout t r o p → StartTogether o p places → AllDrawAnother t r (Opening o) places → AnswersAfterOverBoth t r o p places }
+    ensures hosts { (t r : ℕ) (o p : AllOpened) (places : List Place) → IsOpenedWithout t r o p → StartTogether o p places → AllDrawAnother t r (Opening o) places → is_purged t r (Opening o) places ≡ true → EndsOverBoth o p places }
+    ensures tables { (t r : ℕ) (o p : AllOpened) (places : List Place) → IsOpenedWithout t r o p → StartTogether o p places → AllDrawAnother t r (Opening o) places → holds t r (past_after (Opening o) places) ≡ false → HoldsOverBoth o p places }
     ensures purged { (t r : ℕ) (o p : AllOpened) (places : List Place) → IsOpenedWithout t r o p → AllDrawAnother t r (Opening o) places → is_purged t r (Opening o) places ≡ true → holds t r (past_after (Opening o) places) ≡ false }
     ensures gone { (t r : ℕ) (past : Past AllOpened) (places : List Place) → HoldsLive t r past → NoneIsLost places → HoldsLive t r (past_after past places) }
-    ensures rows { (t r : ℕ) (o p : AllOpened) (places : List Place) → IsOpenedWithout t r o p → StartTogether o p places → AllDrawAnother t r (Opening o) places →
-        rows (past_after (Opening p) places) ≡ rows_without t r (rows (past_after (Opening o) places)) }
-    ensures first_rows { (i t r : ℕ) (past : Past AllOpened) (places : List Place) → AreApart t past → BeginsAt i t r past places → DrawOthersAfter i t r past places →
-        rows (past_with past (without_place i t places)) ≡ rows_without t r (rows (past_after past places)) }
-    ensures again { (t r : ℕ) (o p : AllOpened) (places : List Place) → has_tenant (Opening o) t ≡ true → IsOpenedWithout t r o p → StartTogether o p places → AllDrawAnother t r (Opening o) places →
-        (ids : ascends (tenants (past_after (Opening o) places)) ≡ true) (sound : (u : ℕ) → AreOpened (left_time (past_after (Opening o) places)) (left_tables (past_after (Opening o) places) u)) →
-        (other_ids : ascends (tenants (past_after (Opening p) places)) ≡ true) (other_sound : (u : ℕ) → AreOpened (left_time (past_after (Opening p) places)) (left_tables (past_after (Opening p) places) u)) →
-        IsOpenedWithout t r (reopening (past_after (Opening o) places) ids sound) (reopening (past_after (Opening p) places) other_ids other_sound) }
-    ensures first { (i t r : ℕ) (past : Past AllOpened) (places : List Place) → AreApart t past → BeginsAt i t r past places → DrawOthersAfter i t r past places →
-        (ids : ascends (tenants (past_after past places)) ≡ true) (sound : (u : ℕ) → AreOpened (left_time (past_after past places)) (left_tables (past_after past places) u)) →
-        (other_ids : ascends (tenants (past_with past (without_place i t places))) ≡ true)
-        (other_sound : (u : ℕ) → AreOpened (left_time (past_with past (without_place i t places))) (left_tables (past_with past (without_place i t places)) u)) →
-        IsOpenedWithout t r (reopening (past_after past places) ids sound) (reopening (past_with past (without_place i t places)) other_ids other_sound) }
+    ensures rows { (t r : ℕ) (o p : AllOpened) (places : List Place) → IsOpenedWithout t r o p → StartTogether o p places → AllDrawAnother t r (Opening o) places → HasRowsWithout t r (past_after (Opening p) places) (past_after (Opening o) places) }
+    ensures first_rows { (i t r : ℕ) (past : Past AllOpened) (places : List Place) → AreApart t past → BeginsAt i t r past places → DrawOthersAfter i t r past places → HasRowsWithout t r (past_without i t past places) (past_after past places) }
+    ensures again { (t r : ℕ) (o p : AllOpened) (places : List Place) → has_tenant (Opening o) t ≡ true → IsOpenedWithout t r o p → StartTogether o p places → AllDrawAnother t r (Opening o) places → LeaveWithoutAfter t r o p places }
+    ensures first { (i t r : ℕ) (past : Past AllOpened) (places : List Place) → AreApart t past → BeginsAt i t r past places → DrawOthersAfter i t r past places → LeaveWithout t r (past_after past places) (past_without i t past places) }
 {}
 
 /// Pasts for which one host stands answer each script alike, and one host stands for them at its end.

@@ -12,12 +12,13 @@ use Rattle.wb_notice.specs.declared.outbox.Plan.{Plan}
 use Rattle.wb_notice.specs.Notices.{IsNotice}
 use Rattle.wb_notice.specs.Outbox.{box, new_notices, new_rows}
 use Rattle.wb_notice.specs.Owed.{Unsealed}
+use Rattle.wb_base.specs.Ends.{KeeperEnd}
 
 -- ---- the rows of an outbox
 
 -- these rows were loaded, in the order of their keys: those that it held where it is honest
-pub record AreOutboxRows (honest : Type 0) (holds : List Row → Type 0) (rows : List Row) : Type 0 where
-  pub held : honest → (before : List Row) → holds before → before ≡ rows
+pub record AreOutboxRows (outbox outbox' : KeeperEnd) (rows : List Row) : Type 0 where
+  pub held : outbox'.honest → (before : List Row) → outbox.holds before → before ≡ rows
   pub ascending : IsAscending key_cmp key_of rows
 
 -- the first row that is no notice's has this key
@@ -51,29 +52,29 @@ pub record PlansDelivery (x : Unsealed) (now : ℕ) (rows : List Row) (plan : Pl
   pub good : All IsGoodChange plan.batch.items
 
 -- each row that was loaded is a notice's, and these are the new ones
-pub record Delivers (honest : Type 0) (holds : List Row → Type 0) (x : Unsealed) (now : ℕ) (news : List Row) : Type 0 where
+pub record Delivers (outbox outbox' : KeeperEnd) (x : Unsealed) (now : ℕ) (news : List Row) : Type 0 where
   pub rows : List Row
-  pub loaded : AreOutboxRows honest holds rows
+  pub loaded : AreOutboxRows outbox outbox' rows
   pub notices : All IsNotice rows
   pub added : news ≡ new_rows x now rows
 
 -- .. and these are their notices
-pub record Sends (honest : Type 0) (holds : List Row → Type 0) (x : Unsealed) (now : ℕ) (sent : News) : Type 0 where
+pub record Sends (outbox outbox' : KeeperEnd) (x : Unsealed) (now : ℕ) (sent : News) : Type 0 where
   pub rows : List Row
-  pub loaded : AreOutboxRows honest holds rows
+  pub loaded : AreOutboxRows outbox outbox' rows
   pub notices : All IsNotice rows
   pub news : AreNew x now rows sent
 
 -- ---- why nothing is
 
 -- the outbox failed, or there was no memory
-abbrev pub Fails : ℕ → ℕ → NoticeNo → Type 0
-Fails count count' Keeper = Rose count count'
-Fails count count' (OutboxRows key) = ⊥
-Fails count count' Memory = count' ≡ count
+abbrev pub Fails : KeeperEnd → KeeperEnd → NoticeNo → Type 0
+Fails outbox outbox' Keeper = Rose outbox.count outbox'.count
+Fails outbox outbox' (OutboxRows key) = ⊥
+Fails outbox outbox' Memory = outbox'.count ≡ outbox.count
 
 -- the outbox failed; or a row that was loaded is no notice's, and this is the least key of such a row; or there was no memory
-abbrev pub RefusesDelivery : ℕ → ℕ → Type 0 → (List Row → Type 0) → NoticeNo → Type 0
-RefusesDelivery count count' honest holds Keeper = Rose count count'
-RefusesDelivery count count' honest holds (OutboxRows key) = ((rows : List Row) × AreOutboxRows honest holds rows × IsFirstOther rows key) × (count' ≡ count)
-RefusesDelivery count count' honest holds Memory = count' ≡ count
+abbrev pub RefusesDelivery : KeeperEnd → KeeperEnd → NoticeNo → Type 0
+RefusesDelivery outbox outbox' Keeper = Rose outbox.count outbox'.count
+RefusesDelivery outbox outbox' (OutboxRows key) = ((rows : List Row) × AreOutboxRows outbox outbox' rows × IsFirstOther rows key) × (outbox'.count ≡ outbox.count)
+RefusesDelivery outbox outbox' Memory = outbox'.count ≡ outbox.count

@@ -1,5 +1,5 @@
 -- What the call of `notices` did, by its status.
-use Rattle.std.specs.Prelude.{◌≡◌, ℕ, ◌++◌, max, List, Option, Some, None, All, codes, decimal, length}
+use Rattle.std.specs.Prelude.{◌≡◌, ℕ, ◌++◌, max, List, Option, Some, None, All, codes, decimal, length, Ok}
 use Rattle.std.specs.List.{flat_map}
 use Rattle.std.specs.Io.KnownBytes.{Appends, Keeps}
 use Rattle.wb_base.specs.DateTexts.{date_text}
@@ -12,12 +12,14 @@ use Rattle.wb_rows.specs.Held.{Held}
 use Rattle.wb_rows.specs.Openings.{time_of}
 use Rattle.wb_cli.specs.declared.status.Status.{Status}
 use Rattle.wb_cli.specs.declared.status.Status.TheVariants.{Done, Usage, WriteFault, NoMemory, OpenFault, KeptRows, OutboxRows, OutboxFault}
-use Rattle.wb_cli.specs.Loads.{AreRead, ReadsNone}
+use Rattle.wb_cli.specs.Loads.{AreRead, ReadsNone, KeeperStood, SinkStood}
 use Rattle.wb_notice.specs.declared.notice.Notice.{Notice}
 use Rattle.wb_notice.specs.Deliveries.{AreOutboxRows, IsFirstOther}
 use Rattle.wb_notice.specs.Notices.{IsNotice, kind_name}
 use Rattle.wb_notice.specs.Outbox.{box, new_notices}
 use Rattle.wb_notice.specs.Owed.{unsealed}
+use Rattle.wb_base.specs.Ends.{KeeperEnd, SinkEnd}
+use Rattle.wb_rows.specs.Judged.{judged}
 
 -- ---- what is written
 
@@ -47,37 +49,52 @@ AsksAt words moment = (store : List ℕ) × (outbox : List ℕ) × Asks words (N
 abbrev pub time_at : ℕ → Held → ℕ
 time_at moment kept = max moment (time_of kept)
 
--- the rows that the keeper held, where it is honest, are read as tables, and one delivery over them made these notices new; with the rows that the
--- outbox held and holds now, where it is honest
-pub record HasDelivered (honest : Type 0) (holds : List Row → Type 0) (outbox_honest : Type 0) (held has : List Row → Type 0) (moment : ℕ) (notices : List Notice) : Type 0 where
+-- ---- with the ends of the keeper and of the outbox before and now
+
+-- the keeper's rows are read as tables, and one delivery over them made these notices new in the outbox
+pub record HasDelivered (keeper keeper' outbox outbox' : KeeperEnd) (moment : ℕ) (notices : List Notice) : Type 0 where
   pub kept : Held
-  pub read : AreRead honest holds kept
+  pub read : AreRead keeper keeper' kept
   pub rows : List Row
-  pub loaded : AreOutboxRows outbox_honest held rows
+  pub loaded : AreOutboxRows outbox outbox' rows
   pub all : All IsNotice rows
   pub added : notices ≡ new_notices (unsealed kept) (time_at moment kept) rows
-  pub left : outbox_honest → (before : List Row) → held before → has (box (unsealed kept) (time_at moment kept) before)
+  pub left : outbox'.honest → (before : List Row) → outbox.holds before → outbox'.holds (box (unsealed kept) (time_at moment kept) before)
 
 -- the keeper failed, or its rows are refused; or they are read, and the outbox failed, or one of its rows is no notice's; or there was no memory
-abbrev pub DeliversNone : ℕ → ℕ → Type 0 → (List Row → Type 0) → ℕ → ℕ → Type 0 → (List Row → Type 0) → Status → Type 0
-DeliversNone keeper keeper' honest holds outbox outbox' outbox_honest held OpenFault = ReadsNone keeper keeper' honest holds OpenFault
-DeliversNone keeper keeper' honest holds outbox outbox' outbox_honest held (KeptRows fault) = ReadsNone keeper keeper' honest holds (KeptRows fault)
-DeliversNone keeper keeper' honest holds outbox outbox' outbox_honest held OutboxFault = Rose outbox outbox' × ((kept : Held) × AreRead honest holds kept)
-DeliversNone keeper keeper' honest holds outbox outbox' outbox_honest held (OutboxRows key) = ((rows : List Row) × AreOutboxRows outbox_honest held rows × IsFirstOther rows key) × ((kept : Held) × AreRead honest holds kept)
-DeliversNone keeper keeper' honest holds outbox outbox' outbox_honest held NoMemory = Unit {0}
-DeliversNone keeper keeper' honest holds outbox outbox' outbox_honest held status = ⊥
+abbrev pub DeliversNone : KeeperEnd → KeeperEnd → KeeperEnd → KeeperEnd → Status → Type 0
+DeliversNone keeper keeper' outbox outbox' OpenFault = ReadsNone keeper keeper' OpenFault
+DeliversNone keeper keeper' outbox outbox' (KeptRows fault) = ReadsNone keeper keeper' (KeptRows fault)
+DeliversNone keeper keeper' outbox outbox' OutboxFault = Rose outbox.count outbox'.count × ((kept : Held) × AreRead keeper keeper' kept)
+DeliversNone keeper keeper' outbox outbox' (OutboxRows key) = ((rows : List Row) × AreOutboxRows outbox outbox' rows × IsFirstOther rows key) × ((kept : Held) × AreRead keeper keeper' kept)
+DeliversNone keeper keeper' outbox outbox' NoMemory = Unit {0}
+DeliversNone keeper keeper' outbox outbox' status = ⊥
 
--- the counts of the keeper, of the outbox and of the sink, each before and now; the rows that the keeper held where it is honest; the rows that the
--- outbox held and holds now where it is; and what the sink held and holds now
-module _ (keeper keeper' outbox outbox' sink sink' : ℕ) (honest : Type 0) (holds : List Row → Type 0) (outbox_honest : Type 0) (held has : List Row → Type 0) (told told' : Option (List ℕ)) where
+-- and of the sink
+module _ (keeper keeper' outbox outbox' : KeeperEnd) (sink sink' : SinkEnd) where
   -- what the call did at a moment
   abbrev pub NotifiedAt : ℕ → Status → Type 0
-  NotifiedAt moment Done = (notices : List Notice) × HasDelivered honest holds outbox_honest held has moment notices × Appends told told' (notices_text notices)
-  NotifiedAt moment WriteFault = (notices : List Notice) × HasDelivered honest holds outbox_honest held has moment notices × Rose sink sink' × AppendsFront told told' (notices_text notices)
-  NotifiedAt moment status = DeliversNone keeper keeper' honest holds outbox outbox' outbox_honest held status × Keeps told told'
+  NotifiedAt moment Done = (notices : List Notice) × HasDelivered keeper keeper' outbox outbox' moment notices × Appends sink.held sink'.held (notices_text notices)
+  NotifiedAt moment WriteFault = (notices : List Notice) × HasDelivered keeper keeper' outbox outbox' moment notices × Rose sink.count sink'.count × AppendsFront sink.held sink'.held (notices_text notices)
+  NotifiedAt moment status = DeliversNone keeper keeper' outbox outbox' status × Keeps sink.held sink'.held
 
   -- and with these words: for want of memory it may not have read them
   abbrev pub Notified : List (List ℕ) → Status → Type 0
-  Notified words Usage = ((moment : ℕ) → AsksAt words moment → ⊥) × Keeps told told'
-  Notified words NoMemory = Keeps told told'
+  Notified words Usage = ((moment : ℕ) → AsksAt words moment → ⊥) × Keeps sink.held sink'.held
+  Notified words NoMemory = Keeps sink.held sink'.held
   Notified words status = (moment : ℕ) × AsksAt words moment × NotifiedAt moment status
+
+-- the outbox is honest, and held notices
+abbrev pub HeldNotices : KeeperEnd → KeeperEnd → Type 0
+HeldNotices outbox outbox' = outbox'.honest × ((sent : List Row) × outbox.holds sent × All IsNotice sent)
+
+-- the keeper's rows are read, the outbox holds notices, and nothing failed
+pub record NothingHinders (keeper keeper' outbox outbox' : KeeperEnd) (sink sink' : SinkEnd) (h : Held) : Type 0 where
+  pub honest : keeper'.honest
+  pub rows : List Row
+  pub holds : keeper.holds rows
+  pub read : judged rows ≡ Ok h
+  pub notices : HeldNotices outbox outbox'
+  pub kept : KeeperStood keeper keeper'
+  pub put : KeeperStood outbox outbox'
+  pub wrote : SinkStood sink sink'

@@ -49,9 +49,9 @@ fn count_line(count: u64) -> Line
 
 // Writes the lines of notices.
 fn write_all<W: Sink>(notices: &[Notice], sink: &mut W) -> Result<(), Failed>
-    ensures ok { OnOk result (Appends (W.held sink.old) (W.held sink.new) (flat_map notice_line_of notices.now)) }
-    ensures err { OnErr result (AppendsFront (W.held sink.old) (W.held sink.new) (flat_map notice_line_of notices.now)) }
-    ensures cause { HasCause (W.count sink.old) (W.count sink.new) result }
+    ensures ok { OnOk result (Appends (W.end sink.old).held (W.end sink.new).held (flat_map notice_line_of notices.now)) }
+    ensures err { OnErr result (AppendsFront (W.end sink.old).held (W.end sink.new).held (flat_map notice_line_of notices.now)) }
+    ensures cause { HasCause (W.end sink.old).count (W.end sink.new).count result }
 {
     for notice in notices {
         match sink.write_all(notice_line(notice).as_bytes()) {
@@ -64,9 +64,9 @@ fn write_all<W: Sink>(notices: &[Notice], sink: &mut W) -> Result<(), Failed>
 
 /// Writes a line for each notice, and how many they are. It takes no memory.
 pub(crate) fn write_notices<W: Sink>(notices: &[Notice], sink: &mut W) -> Result<(), Failed>
-    ensures ok { OnOk result (Appends (W.held sink.old) (W.held sink.new) (notices_text notices.now)) }
-    ensures err { OnErr result (AppendsFront (W.held sink.old) (W.held sink.new) (notices_text notices.now)) }
-    ensures cause { HasCause (W.count sink.old) (W.count sink.new) result }
+    ensures ok { OnOk result (Appends (W.end sink.old).held (W.end sink.new).held (notices_text notices.now)) }
+    ensures err { OnErr result (AppendsFront (W.end sink.old).held (W.end sink.new).held (notices_text notices.now)) }
+    ensures cause { HasCause (W.end sink.old).count (W.end sink.new).count result }
 {
     match write_all(notices, sink) {
         Ok(()) => {}

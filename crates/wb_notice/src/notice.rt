@@ -83,7 +83,7 @@ pub(crate) fn notice_key(notice: &Notice) -> Key
     ensures { result ≡ (row_of notice.now).key }
 {
     Key {
-        kind: 6,
+        kind: Key::ENTRY,
         tenant: notice.tenant.id(),
         a: notice.number.get(),
         b: 8 * notice.user.id() as u32 + notice.kind.code(),

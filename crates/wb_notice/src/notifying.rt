@@ -1,12 +1,9 @@
 //! The call of the program that delivers notices and writes them.
-ghost use Rattle.std.specs.Prelude.{◌≡◌, ◌≢◌, ◌⊎◌, ℕ, List, Ok, All, IfOk, IfErr, OnErr};
-ghost use Rattle.wb_base.specs.Outside.{Rose};
-ghost use Rattle.wb_base.specs.declared.rows.Row.{Row};
+ghost use Rattle.std.specs.Prelude.{◌≡◌, ◌≢◌, ℕ, Ok, All, IfOk, IfErr, OnErr};
 ghost use Rattle.wb_rows.specs.Held.{Held};
-ghost use Rattle.wb_rows.specs.Judged.{judged};
 ghost use Rattle.wb_rows.specs.Loaded.{KeepsRows};
-ghost use Rattle.wb_notice.specs.Notices.{IsNotice};
-ghost use Rattle.wb_notice.specs.Notifies.{AsksAt, DeliversNone, HasDelivered, Notified, NotifiedAt, moment_of as moment_in};
+ghost use Rattle.wb_notice.specs.Notifies.{AsksAt, DeliversNone, HasDelivered, Notified, NotifiedAt, moment_of as moment_in, NothingHinders};
+ghost use Rattle.wb_cli.specs.Statuses.{IsDoneOrNoMemory};
 
 use crate::lines::write_notices;
 use crate::outbox::send;
@@ -23,12 +20,12 @@ fn deliver_kept<K: Keeper, B: Keeper>(
     keeper: &mut K,
     outbox: &mut B,
 ) -> Result<Vec<Notice>, Status>
-    ensures ok { IfOk result (λ notices. HasDelivered (K.honest keeper.new) (K.holds keeper.old) (B.honest outbox.new) (B.holds outbox.old) (B.holds outbox.new) moment notices.items) }
-    ensures err { IfErr result (DeliversNone (K.count keeper.old) (K.count keeper.new) (K.honest keeper.new) (K.holds keeper.old) (B.count outbox.old) (B.count outbox.new) (B.honest outbox.new) (B.holds outbox.old)) }
-    ensures rows { KeepsRows (K.honest keeper.new) (K.holds keeper.old) (K.holds keeper.new) }
-    ensures outbox { OnErr result (KeepsRows (B.honest outbox.new) (B.holds outbox.old) (B.holds outbox.new)) }
-    ensures back { K.honest keeper.new → K.honest keeper.old }
-    ensures outbox_back { B.honest outbox.new → B.honest outbox.old }
+    ensures ok { IfOk result (λ notices. HasDelivered (K.end keeper.old) (K.end keeper.new) (B.end outbox.old) (B.end outbox.new) moment notices.items) }
+    ensures err { IfErr result (DeliversNone (K.end keeper.old) (K.end keeper.new) (B.end outbox.old) (B.end outbox.new)) }
+    ensures rows { KeepsRows (K.end keeper.old) (K.end keeper.new) }
+    ensures outbox { OnErr result (KeepsRows (B.end outbox.old) (B.end outbox.new)) }
+    ensures back { (K.end keeper.new).honest → (K.end keeper.old).honest }
+    ensures outbox_back { (B.end outbox.new).honest → (B.end outbox.old).honest }
 {
     let tables = match load_tables(alloc, keeper) {
         Ok(tables) => tables,
@@ -51,12 +48,12 @@ fn notify_at<K: Keeper, B: Keeper, W: Sink>(
     outbox: &mut B,
     sink: &mut W,
 ) -> Status
-    ensures did { NotifiedAt (K.count keeper.old) (K.count keeper.new) (B.count outbox.old) (B.count outbox.new) (W.count sink.old) (W.count sink.new) (K.honest keeper.new) (K.holds keeper.old) (B.honest outbox.new) (B.holds outbox.old) (B.holds outbox.new) (W.held sink.old) (W.held sink.new) moment result }
-    ensures rows { KeepsRows (K.honest keeper.new) (K.holds keeper.old) (K.holds keeper.new) }
-    ensures outbox { result ≢ Status.Done → result ≢ Status.WriteFault → KeepsRows (B.honest outbox.new) (B.holds outbox.old) (B.holds outbox.new) }
-    ensures back { K.honest keeper.new → K.honest keeper.old }
-    ensures outbox_back { B.honest outbox.new → B.honest outbox.old }
-    ensures written_on { result ≢ Status.WriteFault → W.count sink.new ≡ W.count sink.old }
+    ensures did { NotifiedAt (K.end keeper.old) (K.end keeper.new) (B.end outbox.old) (B.end outbox.new) (W.end sink.old) (W.end sink.new) moment result }
+    ensures rows { KeepsRows (K.end keeper.old) (K.end keeper.new) }
+    ensures outbox { result ≢ Status.Done → result ≢ Status.WriteFault → KeepsRows (B.end outbox.old) (B.end outbox.new) }
+    ensures back { (K.end keeper.new).honest → (K.end keeper.old).honest }
+    ensures outbox_back { (B.end outbox.new).honest → (B.end outbox.old).honest }
+    ensures written_on { result ≢ Status.WriteFault → (W.end sink.new).count ≡ (W.end sink.old).count }
 {
     let notices = match deliver_kept(alloc, moment, keeper, outbox) {
         Ok(notices) => notices,
@@ -88,15 +85,15 @@ pub fn notify<K: Keeper, B: Keeper, W: Sink>(
     outbox: &mut B,
     sink: &mut W,
 ) -> Status
-    ensures did { Notified (K.count keeper.old) (K.count keeper.new) (B.count outbox.old) (B.count outbox.new) (W.count sink.old) (W.count sink.new) (K.honest keeper.new) (K.holds keeper.old) (B.honest outbox.new) (B.holds outbox.old) (B.holds outbox.new) (W.held sink.old) (W.held sink.new) words.now result }
-    ensures rows { KeepsRows (K.honest keeper.new) (K.holds keeper.old) (K.holds keeper.new) }
+    ensures did { Notified (K.end keeper.old) (K.end keeper.new) (B.end outbox.old) (B.end outbox.new) (W.end sink.old) (W.end sink.new) words.now result }
+    ensures rows { KeepsRows (K.end keeper.old) (K.end keeper.new) }
     // The outbox is as before where it says neither that all was done nor that the sink failed.
-    ensures outbox { result ≢ Status.Done → result ≢ Status.WriteFault → KeepsRows (B.honest outbox.new) (B.holds outbox.old) (B.holds outbox.new) }
-    ensures back { K.honest keeper.new → K.honest keeper.old }
-    ensures outbox_back { B.honest outbox.new → B.honest outbox.old }
-    ensures written_on { result ≢ Status.WriteFault → W.count sink.new ≡ W.count sink.old }
+    ensures outbox { result ≢ Status.Done → result ≢ Status.WriteFault → KeepsRows (B.end outbox.old) (B.end outbox.new) }
+    ensures back { (K.end keeper.new).honest → (K.end keeper.old).honest }
+    ensures outbox_back { (B.end outbox.new).honest → (B.end outbox.old).honest }
+    ensures written_on { result ≢ Status.WriteFault → (W.end sink.new).count ≡ (W.end sink.old).count }
     // All is done over rows that are read and an outbox of notices, where nothing failed, or there was no memory.
-    ensures complete { (moment : ℕ) (kept sent : List Row) (h : Held) → AsksAt words.now moment → K.honest keeper.new → K.holds keeper.old kept → judged kept ≡ Ok h → B.honest outbox.new → B.holds outbox.old sent → All IsNotice sent → (Rose (K.count keeper.old) (K.count keeper.new) → ⊥) → (Rose (B.count outbox.old) (B.count outbox.new) → ⊥) → (Rose (W.count sink.old) (W.count sink.new) → ⊥) → (result ≡ Status.Done) ⊎ (result ≡ Status.NoMemory) }
+    ensures complete { (moment : ℕ) (h : Held) → AsksAt words.now moment → NothingHinders (K.end keeper.old) (K.end keeper.new) (B.end outbox.old) (B.end outbox.new) (W.end sink.old) (W.end sink.new) h → IsDoneOrNoMemory result }
 {
     let plan = match plan(alloc, words) {
         Ok(plan) => plan,

@@ -163,11 +163,11 @@ fn plan_for(
 
 // The rows of an outbox.
 fn load<B: Keeper>(outbox: &mut B) -> Result<Sorted<Row>, NoticeNo>
-    ensures loaded { IfOk result (λ rows. AreOutboxRows (B.honest outbox.new) (B.holds outbox.old) rows.items) }
-    ensures same { B.honest outbox.new → (rows : List RowData) → B.holds outbox.old rows → B.holds outbox.new rows }
-    ensures back { B.honest outbox.new → B.honest outbox.old }
-    ensures stayed { OnOk result (B.count outbox.new ≡ B.count outbox.old) }
-    ensures err { IfErr result (Fails (B.count outbox.old) (B.count outbox.new)) }
+    ensures loaded { IfOk result (λ rows. AreOutboxRows (B.end outbox.old) (B.end outbox.new) rows.items) }
+    ensures same { (B.end outbox.new).honest → (rows : List RowData) → (B.end outbox.old).holds rows → (B.end outbox.new).holds rows }
+    ensures back { (B.end outbox.new).honest → (B.end outbox.old).honest }
+    ensures stayed { OnOk result ((B.end outbox.new).count ≡ (B.end outbox.old).count) }
+    ensures err { IfErr result (Fails (B.end outbox.old) (B.end outbox.new)) }
 {
     match outbox.load() {
         Ok(rows) => Ok(Sorted::of(rows)),
@@ -179,11 +179,11 @@ fn load<B: Keeper>(outbox: &mut B) -> Result<Sorted<Row>, NoticeNo>
 // Makes all changes of an outbox, or none; it is left alone where there are none.
 fn change<B: Keeper>(outbox: &mut B, batch: &[Change]) -> Result<(), NoticeNo>
     requires { All IsGoodChange batch.now }
-    ensures ok { B.honest outbox.new → (rows : List RowData) → B.holds outbox.old rows → OnOk result (B.holds outbox.new (all_changed rows batch.now)) }
-    ensures same { B.honest outbox.new → (rows : List RowData) → B.holds outbox.old rows → OnErr result (B.holds outbox.new rows) }
-    ensures back { B.honest outbox.new → B.honest outbox.old }
-    ensures stayed { OnOk result (B.count outbox.new ≡ B.count outbox.old) }
-    ensures err { IfErr result (Fails (B.count outbox.old) (B.count outbox.new)) }
+    ensures ok { (B.end outbox.new).honest → (rows : List RowData) → (B.end outbox.old).holds rows → OnOk result ((B.end outbox.new).holds (all_changed rows batch.now)) }
+    ensures same { (B.end outbox.new).honest → (rows : List RowData) → (B.end outbox.old).holds rows → OnErr result ((B.end outbox.new).holds rows) }
+    ensures back { (B.end outbox.new).honest → (B.end outbox.old).honest }
+    ensures stayed { OnOk result ((B.end outbox.new).count ≡ (B.end outbox.old).count) }
+    ensures err { IfErr result (Fails (B.end outbox.old) (B.end outbox.new)) }
 {
     if batch.is_empty() {
         return Ok(());
@@ -204,12 +204,12 @@ pub(crate) fn send<B: Keeper>(
     outbox: &mut B,
 ) -> Result<News, NoticeNo>
     requires { (t : ℕ) → AreKept (time_of (held_by tables.now)) tables.now.registry.lists t (tables_of (held_by tables.now) t) }
-    ensures ok { IfOk result (λ news. Sends (B.honest outbox.new) (B.holds outbox.old) (unsealed (held_by tables.now)) now news) }
-    ensures delivered { B.honest outbox.new → (rows : List RowData) → B.holds outbox.old rows → OnOk result (B.holds outbox.new (outboxes.box (unsealed (held_by tables.now)) now rows)) }
-    ensures stayed { OnOk result (B.count outbox.new ≡ B.count outbox.old) }
-    ensures err { IfErr result (RefusesDelivery (B.count outbox.old) (B.count outbox.new) (B.honest outbox.new) (B.holds outbox.old)) }
-    ensures same { B.honest outbox.new → (rows : List RowData) → B.holds outbox.old rows → OnErr result (B.holds outbox.new rows) }
-    ensures back { B.honest outbox.new → B.honest outbox.old }
+    ensures ok { IfOk result (λ news. Sends (B.end outbox.old) (B.end outbox.new) (unsealed (held_by tables.now)) now news) }
+    ensures delivered { (B.end outbox.new).honest → (rows : List RowData) → (B.end outbox.old).holds rows → OnOk result ((B.end outbox.new).holds (outboxes.box (unsealed (held_by tables.now)) now rows)) }
+    ensures stayed { OnOk result ((B.end outbox.new).count ≡ (B.end outbox.old).count) }
+    ensures err { IfErr result (RefusesDelivery (B.end outbox.old) (B.end outbox.new)) }
+    ensures same { (B.end outbox.new).honest → (rows : List RowData) → (B.end outbox.old).holds rows → OnErr result ((B.end outbox.new).holds rows) }
+    ensures back { (B.end outbox.new).honest → (B.end outbox.old).honest }
 {
     let rows = load(outbox)?;
     let plan = plan_for(alloc, tables, now, &rows)?;
@@ -229,15 +229,15 @@ pub fn deliver<B: Keeper>(
     outbox: &mut B,
 ) -> Result<Vec<Row>, NoticeNo>
     requires { (t : ℕ) → AreKept (time_of (held_by tables.now)) tables.now.registry.lists t (tables_of (held_by tables.now) t) }
-    ensures ok { IfOk result (λ rows. Delivers (B.honest outbox.new) (B.holds outbox.old) (unsealed (held_by tables.now)) now rows.items) }
+    ensures ok { IfOk result (λ rows. Delivers (B.end outbox.old) (B.end outbox.new) (unsealed (held_by tables.now)) now rows.items) }
     ensures by_key { IfOk result (λ rows. IsAscending key_cmp key_of rows.items) }
-    ensures delivered { B.honest outbox.new → (rows : List RowData) → B.holds outbox.old rows → OnOk result (B.holds outbox.new (outboxes.box (unsealed (held_by tables.now)) now rows)) }
-    ensures stayed { OnOk result (B.count outbox.new ≡ B.count outbox.old) }
+    ensures delivered { (B.end outbox.new).honest → (rows : List RowData) → (B.end outbox.old).holds rows → OnOk result ((B.end outbox.new).holds (outboxes.box (unsealed (held_by tables.now)) now rows)) }
+    ensures stayed { OnOk result ((B.end outbox.new).count ≡ (B.end outbox.old).count) }
     // Why it was not made; the outbox is then as it was.
-    ensures err { IfErr result (RefusesDelivery (B.count outbox.old) (B.count outbox.new) (B.honest outbox.new) (B.holds outbox.old)) }
-    ensures same { B.honest outbox.new → (rows : List RowData) → B.holds outbox.old rows → OnErr result (B.holds outbox.new rows) }
+    ensures err { IfErr result (RefusesDelivery (B.end outbox.old) (B.end outbox.new)) }
+    ensures same { (B.end outbox.new).honest → (rows : List RowData) → (B.end outbox.old).holds rows → OnErr result ((B.end outbox.new).holds rows) }
     // What it tells of its rows can be relied on before where it can be after.
-    ensures back { B.honest outbox.new → B.honest outbox.old }
+    ensures back { (B.end outbox.new).honest → (B.end outbox.old).honest }
 {
     Ok(send(alloc, tables, now, outbox)?.rows)
 }

@@ -63,7 +63,7 @@ fn notice_of(key: Key, day: Day) -> Option<Notice>
     ensures ranged { IfSome result (λ notice. is_ranged notice ≡ true) }
     ensures each { (notice : NoticeData) → is_ranged notice ≡ true → key ≡ (row_of notice).key → day ≡ notice.day → result ≡ Some notice }
 {
-    if key.kind != 6 {
+    if key.kind != Key::ENTRY {
         return None;
     }
     Some(Notice {

@@ -1,17 +1,28 @@
 -- What a turn stands for, and what a request that looks at something is shown.
-use Rattle.std.specs.Prelude.{◌≡◌, ℕ, Option, Some}
+use Rattle.std.specs.Prelude.{◌≡◌, ℕ, Option, Some, List, [], Bool, unwrap_or}
 use Rattle.wb_model.specs.declared.body.Told.{Told}
 use Rattle.wb_model.specs.declared.registry.ContextItem.{ContextItem}
 use Rattle.wb_model.specs.declared.registry.FormItem.{FormItem}
 use Rattle.wb_model.specs.Changes.{TurnContext}
 use Rattle.wb_model.specs.Effects as effects
-use Rattle.wb_model.specs.Effects.{Effect}
+use Rattle.wb_model.specs.Effects.{Effect, effect_of}
 use Rattle.wb_model.specs.Json.{told}
 use Rattle.wb_model.specs.Refusals.{not_found}
 use Rattle.wb_model.specs.Rules.{shown}
-use Rattle.wb_model.specs.Tables.{Registry, Plain, Who, context, newest_form}
+use Rattle.wb_model.specs.Tables.{Registry, Plain, Who, context, newest_form, TheUser}
 use Rattle.wb_model.specs.TenantViews.{context_view}
+use Rattle.wb_tables.specs.declared.tenancy.Report.{Report}
+use Rattle.wb_tables.specs.declared.tenancy.Tenancy.{Tenancy as KeptTenancy}
 use Rattle.wb_queries.specs.declared.turn.TurnContext.{TurnContext as KeptAt}
+use Rattle.wb_model.specs.Requests.{outline}
+use Rattle.wb_model.specs.Access.{in_force}
+use Rattle.wb_model.specs.Tables.{disablings as disablings_of}
+use Rattle.wb_model.specs.Views.{identity_view as identity_data}
+use Rattle.wb_model.specs.declared.command.Command.{Command}
+use Rattle.wb_base.specs.declared.callers.Presented.{Presented}
+use Rattle.wb_custody.specs.SealedAnswers.{answers_of}
+use Rattle.wb_custody.specs.declared.sealed.SealedItem.{SealedItem}
+use Rattle.wb_tables.specs.Kept.{live_plain, plain_of}
 
 abbrev pub at_of : KeptAt → TurnContext
 at_of at = record { time = at.time; turn = at.turn; words = at.words }
@@ -30,3 +41,19 @@ seen at p who _ = not_found
 -- the reply shows the open context of an id with the newest version of its form
 abbrev pub ShowsOpen : Registry → ℕ → Told → Type 0
 ShowsOpen g c t = (x : ContextItem) (form : FormItem) → context c g.contexts ≡ Some x → newest_form x.form g.forms ≡ Some form → t ≡ told 200 (context_view x form)
+
+-- what a user's request does, on no report
+abbrev pub effect_for : KeptTenancy → KeptAt → ℕ → Presented → Command → Effect
+effect_for x at user s command = effect_of (at_of at) x.configuration.registry (Some (TheUser user)) s [] (outline command)
+
+-- what a user sees of a tenant's live tables
+abbrev pub seen_by : KeptTenancy → KeptAt → ℕ → Effect → Told
+seen_by x at user effect = seen (at_of at) (live_plain at.time (plain_of x)) (Some (TheUser user)) effect
+
+-- a grant is in force of a user, to the identity answers of a report
+abbrev pub is_granted : KeptTenancy → ℕ → ℕ → Report → Bool
+is_granted x time user report = in_force user (disablings_of user x.configuration.registry.users) time report.case.items
+
+-- the identity answers of a report, shown
+abbrev pub identity_told : KeptTenancy → List SealedItem → Report → Told
+identity_told x sealed report = told 200 (identity_data report.number (unwrap_or (answers_of sealed x.configuration.tenant report.number) []))

@@ -7,11 +7,11 @@ ghost use Rattle.wb_model.specs.Effects.{effect_of};
 ghost use Rattle.wb_model.specs.Json.{told};
 ghost use Rattle.wb_model.specs.ListViews as lists;
 ghost use Rattle.wb_model.specs.Requests.{open_form, outline};
-ghost use Rattle.wb_model.specs.Tables.{TheUser, context as context_by};
+ghost use Rattle.wb_model.specs.Tables.{context as context_by};
 ghost use Rattle.wb_model.specs.TenantViews as tenants;
 ghost use Rattle.wb_model.specs.Trails.{reads as reads_by};
 ghost use Rattle.wb_model.specs.ViewRows as rows_of;
-ghost use Rattle.wb_queries.specs.Looks.{at_of};
+ghost use Rattle.wb_queries.specs.Looks.{at_of, effect_for, seen_by};
 ghost use Rattle.wb_queries.specs.Looks.{IsLook, ShowsOpen, seen};
 ghost use Rattle.wb_queries.specs.Suited.{is_shown_to_all, is_shown_to_users};
 ghost use Rattle.wb_tables.specs.Indexed.{AreFewRequests};
@@ -236,8 +236,8 @@ pub fn look_as(
     requires place { IsLookedUp (plain_of tenancy.now) }
     requires few { AreFewRequests (map case_of tenancy.now.cases.items) }
     requires shown { is_shown_to_users command.now ≡ true }
-    ensures look { (s : Shown) → IsLook (effect_of (at_of at.now) tenancy.now.configuration.registry (Some (TheUser user)) s [] (outline command.now)) }
-    ensures told { IfOk result (λ told. (s : Shown) → told ≡ seen (at_of at.now) (live_plain at.now.time (plain_of tenancy.now)) (Some (TheUser user)) (effect_of (at_of at.now) tenancy.now.configuration.registry (Some (TheUser user)) s [] (outline command.now))) }
+    ensures look { (s : Shown) → IsLook (effect_for tenancy.now at.now user s command.now) }
+    ensures told { IfOk result (λ told. (s : Shown) → told ≡ seen_by tenancy.now at.now user (effect_for tenancy.now at.now user s command.now)) }
 {
     match command {
         Command::List { .. } => list(alloc, tenancy, at, user),

@@ -4,9 +4,9 @@ ghost use Rattle.wb_custody.specs.SealedAnswers.{answers_of};
 ghost use Rattle.wb_model.specs.Access.{requests, in_force};
 ghost use Rattle.wb_model.specs.Json.{told};
 ghost use Rattle.wb_model.specs.Refusals.{not_found as not_found_told};
-ghost use Rattle.wb_model.specs.Tables.{disablings as disablings_of};
 ghost use Rattle.wb_model.specs.Views.{recipient_view as recipient_data, reporter_view as reporter_data, identity_view as identity_data};
 ghost use Rattle.wb_tables.specs.Kept.{case_of};
+ghost use Rattle.wb_queries.specs.Looks.{is_granted, identity_told};
 
 use crate::refused::not_found;
 use crate::turn::TurnContext;
@@ -92,8 +92,8 @@ pub fn read_identity(
     report: &Report,
 ) -> Result<Told, Memory>
     requires custodied { report.now.desk.items ≡ requests report.now.case.items }
-    ensures shown { IfOk result (λ t. t ≡ (if in_force user (disablings_of user tenancy.now.configuration.registry.users) at.now.time report.now.case.items then told 200 (identity_data report.now.number (unwrap_or (answers_of sealed.now.items tenancy.now.configuration.tenant report.now.number) [])) else not_found_told)) }
-    ensures hidden { in_force user (disablings_of user tenancy.now.configuration.registry.users) at.now.time report.now.case.items ≡ false → result ≡ Ok not_found_told }
+    ensures shown { IfOk result (λ t. t ≡ (if is_granted tenancy.now at.now.time user report.now then identity_told tenancy.now sealed.now.items report.now else not_found_told)) }
+    ensures hidden { is_granted tenancy.now at.now.time user report.now ≡ false → result ≡ Ok not_found_told }
 {
     let configuration = &tenancy.configuration;
     if report

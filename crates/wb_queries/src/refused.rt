@@ -6,7 +6,7 @@ ghost use Rattle.wb_views.specs.RefusalBodies.{detail_of};
 ghost use Rattle.wb_queries.specs.Targeted.{told_of};
 
 use std::alloc::Global;
-use wb_base::{AnswerFault, FormFault, Memory, Text};
+use wb_base::{AnswerFault, FormFault, Memory, Text, limits};
 use wb_json::{role_name, state_name, status_name};
 use wb_list::TryClone;
 use wb_model::{AdminFault, Body, CaseFault, CustodyFault, Told, Was};
@@ -106,9 +106,19 @@ fn refuse_act(alloc: Global, fault: CaseFault) -> Result<Told, Memory>
         CaseFault::ContextClosed => reply(alloc, 409, "context_closed", &Detail::Null),
         CaseFault::NotReader => reply(alloc, 409, "not_reader", &Detail::Null),
         CaseFault::LastReader => reply(alloc, 409, "last_reader", &Detail::Null),
-        CaseFault::PostponeSpent => reply(alloc, 409, "postpone_spent", &Detail::Whole(10)),
+        CaseFault::PostponeSpent => reply(
+            alloc,
+            409,
+            "postpone_spent",
+            &Detail::Whole(limits::POSTPONEMENTS as u64),
+        ),
         CaseFault::NotExternal => reply(alloc, 409, "not_external", &Detail::Null),
-        CaseFault::TrailFull => reply(alloc, 409, "trail_full", &Detail::Whole(4_096)),
+        CaseFault::TrailFull => reply(
+            alloc,
+            409,
+            "trail_full",
+            &Detail::Whole(limits::TRAIL_ENTRIES as u64),
+        ),
         CaseFault::Memory => Err(Memory),
     }
 }
@@ -130,8 +140,18 @@ fn refuse_move(alloc: Global, fault: CustodyFault) -> Result<Told, Memory>
             reply(alloc, 409, "not_granted", &Detail::Word(state_name(state)))
         }
         CustodyFault::NoSuchRequest => reply(alloc, 404, "not_found", &Detail::Bare),
-        CustodyFault::DeskFull => reply(alloc, 409, "desk_full", &Detail::Whole(100)),
-        CustodyFault::TrailFull => reply(alloc, 409, "trail_full", &Detail::Whole(4_096)),
+        CustodyFault::DeskFull => reply(
+            alloc,
+            409,
+            "desk_full",
+            &Detail::Whole(limits::REQUESTS as u64),
+        ),
+        CustodyFault::TrailFull => reply(
+            alloc,
+            409,
+            "trail_full",
+            &Detail::Whole(limits::TRAIL_ENTRIES as u64),
+        ),
         CustodyFault::Memory => Err(Memory),
     }
 }

@@ -1,6 +1,6 @@
 -- What a host begins with that is opened over what is kept and a setup: its tenants, and the rows of those that the setup adds.
 use Rattle.std.specs.Prelude.{◌≡◌, ℕ, ◌==◌, Bool, true, false, if◌then◌else◌, List, [], ◌∷◌, ◌++◌, map, not, filter, None}
-use Rattle.wb_base.specs.declared.rows.Change.{Change}
+use Rattle.wb_base.specs.declared.rows.Change.{Change as RowChange}
 use Rattle.wb_row_codec.specs.declared.item.NumberingItem.{NumberingItem}
 use Rattle.wb_model.specs.declared.registry.Lists.{Lists}
 use Rattle.wb_model.specs.Legal.{ascends_from}
@@ -11,10 +11,15 @@ use Rattle.wb_model.specs.Tables.{Case, has_receipt}
 use Rattle.wb_model.specs.Tenants.{Tenancy}
 use Rattle.wb_rows.specs.Reports.{Report}
 use Rattle.wb_rows.specs.Held.{Held}
-use Rattle.wb_rows.specs.Openings.{case_of, cases_of, tables_of}
+use Rattle.wb_rows.specs.Openings.{case_of, cases_of, tables_of, tenancies_of}
 use Rattle.wb_rows.specs.Puts.{tenant_puts}
 use Rattle.wb_tables.specs.Kept.{PlainTenancy}
 use Rattle.wb_setup.specs.Joined.{joined}
+use Rattle.wb_base.specs.KeptRows.{all_changed, key_cmp, key_of}
+use Rattle.wb_base.specs.declared.rows.Row.{Row}
+use Rattle.wb_base.specs.declared.form.Format.{Format}
+use Rattle.wb_model.specs.Rows.{rows_in, rows_of}
+use Rattle.std.specs.List.Sorted.{IsStrictlySortedBy}
 
 -- ---- the tenants
 
@@ -58,9 +63,20 @@ abbrev pub new_tenancy : Lists → ℕ → Tenancy
 new_tenancy lists t = record { id = t; tables = empty_tables (registry_of lists t) }
 
 -- the rows of the tenants that are none of these
-abbrev pub new_puts : Lists → (ℕ → Bool) → List ℕ → List Change
+abbrev pub new_puts : Lists → (ℕ → Bool) → List ℕ → List RowChange
 new_puts lists is_old ts = tenant_puts (map (new_tenancy lists) (filter (λ t. not (is_old t)) ts))
 
 -- those of the tenants that a setup adds
-abbrev pub setup_puts : Lists → Lists → List Change
+abbrev pub setup_puts : Lists → Lists → List RowChange
 setup_puts setup kept = new_puts (joined setup kept) (has_tenant kept) (tenant_ids (joined setup kept))
+
+-- the rows of a format of what is held
+abbrev pub AreRowsIn : Format → Held → List Row → Type 0
+AreRowsIn format h rows = rows_in format (tenancies_of h) ≡ rows
+
+-- after these changes the rows are those of what is held, in format 2
+abbrev pub BecomeRowsOf : Held → List Row → List RowChange → Type 0
+BecomeRowsOf h rows batch = all_changed rows batch ≡ rows_of (tenancies_of h)
+
+abbrev pub InKeyOrder : List Row → Type 0
+InKeyOrder rows = IsStrictlySortedBy key_cmp (map key_of rows)

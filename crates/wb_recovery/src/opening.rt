@@ -1,16 +1,15 @@
 //! What a host begins with: what is kept, and what a setup adds of other tenants.
 ghost use Rattle.std.specs.Prelude.{◌≡◌, ◌==◌, ◌++◌, ◌∷◌, [], ℕ, true, find, map, All, List, IfOk, OnOk};
 ghost use Rattle.std.specs.List.{list_all, list_any};
-ghost use Rattle.std.specs.List.Sorted.{IsStrictlySortedBy};
 ghost use Rattle.std.specs.Option.{option_copied};
-ghost use Rattle.wb_base.specs.KeptRows.{all_changed, key_cmp, key_of, IsGoodChange};
+ghost use Rattle.wb_base.specs.KeptRows.{IsGoodChange};
 ghost use Rattle.wb_base.specs.declared.rows.Row.{Row as RowData};
 ghost use Rattle.wb_base.specs.declared.rows.Change.TheVariants.{Put};
 ghost use Rattle.wb_model.specs.Legal.{ascends_from};
 ghost use Rattle.wb_model.specs.Opened.{Apart};
 ghost use Rattle.wb_model.specs.Openings.{empty_tables, registry_of};
-ghost use Rattle.wb_model.specs.Rows.{converted, rows_in, rows_of};
-ghost use Rattle.wb_model.specs.SetUps.{AreSetUp, has_tenant, tenant_ids};
+ghost use Rattle.wb_model.specs.Rows.{converted};
+ghost use Rattle.wb_model.specs.SetUps.{AreSetUp, tenant_ids};
 ghost use Rattle.wb_model.specs.Tables.{Case, has_receipt};
 ghost use Rattle.wb_rows.specs.Reports.{case_report};
 ghost use Rattle.wb_rows.specs.Held.{held_by};
@@ -21,7 +20,7 @@ ghost use Rattle.wb_rows.specs.TrailRule.{is_legal_report};
 ghost use Rattle.wb_tables.specs.Kept.{place_of};
 ghost use Rattle.wb_setup.specs.Keys.{AreInOrder};
 ghost use Rattle.wb_tenants.specs.Sets.{HasTenant};
-ghost use Rattle.wb_recovery.specs.HeldPlaces.{bare, HoldNoOthers, held_places, new_puts, new_tenancy, setup_puts};
+ghost use Rattle.wb_recovery.specs.HeldPlaces.{bare, HoldNoOthers, held_places, new_puts, new_tenancy, setup_puts, AreRowsIn, BecomeRowsOf, InKeyOrder};
 
 use crate::moments::{first_moment, latest_kept};
 use crate::reports::add_reports;
@@ -226,7 +225,7 @@ pub fn begin(alloc: Global, setup: &Setup, format: Format, kept: Tables) -> Resu
     ensures batch { IfOk result (λ x. x.batch.items ≡ converted format (tenancies_of (held_by kept)) ++ setup_puts setup.now.lists kept.registry.lists) }
     ensures good { IfOk result (λ x. All IsGoodChange x.batch.items) }
     // The rows that are kept become those of all tenants, in format 2. Nothing is held of a tenant that is not there.
-    ensures rows { IfOk result (λ x. HoldNoOthers (held_by kept) → (rows : List RowData) → IsStrictlySortedBy key_cmp (map key_of rows) → rows_in format (tenancies_of (held_by kept)) ≡ rows → all_changed rows x.batch.items ≡ rows_of (tenancies_of (with_setup setup.now.lists (held_by kept)))) }
+    ensures rows { IfOk result (λ x. HoldNoOthers (held_by kept) → (rows : List RowData) → InKeyOrder rows → AreRowsIn format (held_by kept) rows → BecomeRowsOf (with_setup setup.now.lists (held_by kept)) rows x.batch.items) }
 {
     kept_rows_and_a_setup_make_an_opening();
     setups_and_kept_rows_make_openings();

@@ -8,7 +8,7 @@ ghost use Rattle.wb_json.specs.Gives.{Gives};
 
 use serde_json::Value;
 use std::alloc::Global;
-use wb_base::{Form, FormFault, UserId};
+use wb_base::{Form, FormFault, UserId, limits};
 use wb_form::{FormText, has_only, size};
 use wb_json::{
     ReadError, flag_under, read_list, rights_under, role_under, text_if_under, text_under,
@@ -45,7 +45,7 @@ fn are_distinct(users: &[UserId]) -> bool
 fn are_recipients(users: &[UserId]) -> bool
     ensures { result ≡ recipients_test users.now }
 {
-    1 <= users.len() && users.len() <= 32 && are_distinct(users)
+    1 <= users.len() && users.len() <= limits::READERS && are_distinct(users)
 }
 
 // The recipients that a value is.
@@ -77,9 +77,9 @@ pub fn settings_set(alloc: Global, value: &Value) -> Result<SettingsSet, ReadErr
     if size(value) != 3 {
         return Err(ReadError::Other);
     }
-    let name = text_under(alloc, value, "name", 1, 128)?;
-    let notice_days = whole_under(value, "notice_days", 0, 30)?;
-    let quota = whole_under(value, "quota", 1, 100_000)?;
+    let name = text_under(alloc, value, "name", 1, limits::NAME_BYTES)?;
+    let notice_days = whole_under(value, "notice_days", 0, limits::NOTICE_DAYS)?;
+    let quota = whole_under(value, "quota", 1, limits::QUOTA)?;
     Ok(SettingsSet {
         name,
         notice_days: notice_days as u8,
@@ -94,11 +94,11 @@ pub fn user_set(alloc: Global, value: &Value) -> Result<UserSet, ReadError>
     if !has_only(value, &["enabled", "may", "name", "password", "role"]) {
         return Err(ReadError::Other);
     }
-    let name = text_under(alloc, value, "name", 1, 64)?;
+    let name = text_under(alloc, value, "name", 1, limits::USER_NAME_BYTES)?;
     let role = role_under(value, "role")?;
     let enabled = flag_under(value, "enabled")?;
     let may = rights_under(value, "may")?;
-    let password = text_if_under(alloc, value, "password", 1, 128)?;
+    let password = text_if_under(alloc, value, "password", 1, limits::NAME_BYTES)?;
     Ok(UserSet {
         name,
         role,
@@ -115,11 +115,11 @@ pub fn context_set(alloc: Global, value: &Value) -> Result<ContextSet, ReadError
     if size(value) != 5 {
         return Err(ReadError::Other);
     }
-    let name = text_under(alloc, value, "name", 1, 128)?;
-    let form = whole_under(value, "form", 1, 16)?;
+    let name = text_under(alloc, value, "name", 1, limits::NAME_BYTES)?;
+    let form = whole_under(value, "form", 1, limits::FORMS)?;
     let is_open = flag_under(value, "open")?;
     let recipients = recipients_under(alloc, value, "recipients")?;
-    let retention = whole_under(value, "retention", 1, 3_650)?;
+    let retention = whole_under(value, "retention", 1, limits::RETENTION_DAYS)?;
     Ok(ContextSet {
         name,
         form,

@@ -7,7 +7,7 @@ ghost use Rattle.wb_json.specs.Gives.{Gives};
 use crate::members::{decision_under, some_answers_under};
 use serde_json::Value;
 use std::alloc::Global;
-use wb_base::Text;
+use wb_base::{Text, limits};
 use wb_form::{flag_at, has_only, size};
 use wb_json::{
     ReadError, answers_under, status_under, text_if_under, text_under, user_under, whole_under,
@@ -29,8 +29,8 @@ fn by_password(alloc: Global, t: u32, value: &Value) -> Result<Command, ReadErro
     if size(value) != 2 {
         return Err(ReadError::Other);
     }
-    let user = text_under(alloc, value, "user", 1, 64)?;
-    let password = text_under(alloc, value, "password", 1, 128)?;
+    let user = text_under(alloc, value, "user", 1, limits::USER_NAME_BYTES)?;
+    let password = text_under(alloc, value, "password", 1, limits::NAME_BYTES)?;
     Ok(Command::Login { t, user, password })
 }
 
@@ -52,7 +52,7 @@ pub fn submission(alloc: Global, t: u32, value: &Value) -> Result<Command, ReadE
     if size(value) != 2 {
         return Err(ReadError::Other);
     }
-    let context = whole_under(value, "context", 1, 64)?;
+    let context = whole_under(value, "context", 1, limits::CONTEXTS)?;
     let answers = answers_under(alloc, value, "answers")?;
     Ok(Command::Submit {
         t,
@@ -68,7 +68,7 @@ pub fn own_comment(alloc: Global, t: u32, value: &Value) -> Result<Command, Read
     if size(value) != 1 {
         return Err(ReadError::Other);
     }
-    let text = text_under(alloc, value, "text", 1, 4_096)?;
+    let text = text_under(alloc, value, "text", 1, limits::TEXT_BYTES)?;
     Ok(Command::OwnComment { t, text })
 }
 
@@ -90,7 +90,7 @@ pub fn comment(alloc: Global, t: u32, n: u32, value: &Value) -> Result<Command, 
     if !has_only(value, &["internal", "text"]) {
         return Err(ReadError::Other);
     }
-    let text = text_under(alloc, value, "text", 1, 4_096)?;
+    let text = text_under(alloc, value, "text", 1, limits::TEXT_BYTES)?;
     match flag_at(value, "internal") {
         Some(internal) => Ok(Command::Comment {
             t,
@@ -109,7 +109,7 @@ pub fn label(alloc: Global, t: u32, n: u32, value: &Value) -> Result<Command, Re
     if size(value) != 1 {
         return Err(ReadError::Other);
     }
-    let label = text_under(alloc, value, "label", 0, 64)?;
+    let label = text_under(alloc, value, "label", 0, limits::LABEL_BYTES)?;
     Ok(Command::Label { t, n, label })
 }
 
@@ -131,7 +131,7 @@ pub fn feedback(alloc: Global, t: u32, n: u32, value: &Value) -> Result<Command,
     if size(value) != 1 {
         return Err(ReadError::Other);
     }
-    let text = text_under(alloc, value, "text", 1, 4_096)?;
+    let text = text_under(alloc, value, "text", 1, limits::TEXT_BYTES)?;
     Ok(Command::Feedback { t, n, text })
 }
 
@@ -153,7 +153,7 @@ pub fn transfer(t: u32, n: u32, value: &Value) -> Result<Command, ReadError>
     if size(value) != 1 {
         return Err(ReadError::Other);
     }
-    let context = whole_under(value, "context", 1, 64)?;
+    let context = whole_under(value, "context", 1, limits::CONTEXTS)?;
     Ok(Command::Transfer { t, n, context })
 }
 
@@ -164,7 +164,7 @@ pub fn extend(alloc: Global, t: u32, n: u32, value: &Value) -> Result<Command, R
     if size(value) != 1 {
         return Err(ReadError::Other);
     }
-    let reason = text_under(alloc, value, "reason", 1, 1_024)?;
+    let reason = text_under(alloc, value, "reason", 1, limits::REASON_BYTES)?;
     Ok(Command::Extend { t, n, reason })
 }
 
@@ -175,7 +175,7 @@ pub fn ask(alloc: Global, t: u32, n: u32, value: &Value) -> Result<Command, Read
     if size(value) != 1 {
         return Err(ReadError::Other);
     }
-    let reason = text_under(alloc, value, "reason", 1, 1_024)?;
+    let reason = text_under(alloc, value, "reason", 1, limits::REASON_BYTES)?;
     Ok(Command::Ask { t, n, reason })
 }
 
@@ -199,7 +199,7 @@ pub fn decide(alloc: Global, t: u32, n: u32, k: u32, value: &Value) -> Result<Co
         return Err(ReadError::Other);
     }
     let decision = decision_under(value, "decision")?;
-    let reason = text_under(alloc, value, "reason", 1, 1_024)?;
+    let reason = text_under(alloc, value, "reason", 1, limits::REASON_BYTES)?;
     let withhold = withheld(alloc, decision, value)?;
     Ok(Command::Decide {
         t,

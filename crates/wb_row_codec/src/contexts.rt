@@ -10,7 +10,7 @@ ghost use Rattle.wb_json.specs.Gives.{Gives};
 
 use serde_json::Value;
 use std::alloc::Global;
-use wb_base::{Form, FormFault, Format, Tenant, UserId};
+use wb_base::{Form, FormFault, Format, Tenant, UserId, limits};
 use wb_form::{FormText, has_score};
 use wb_json::{ReadError, flag_under, read_list, text_under, whole_under};
 use wb_list::Items;
@@ -44,7 +44,7 @@ fn ascend(users: &[UserId]) -> bool
 fn are_readers(users: &[UserId]) -> bool
     ensures { result ≡ readers_test users.now }
 {
-    1 <= users.len() && users.len() <= 32 && ascend(users)
+    1 <= users.len() && users.len() <= limits::READERS && ascend(users)
 }
 
 // The recipients under a key.
@@ -75,11 +75,11 @@ pub fn read_context(
     ensures context { Gives (context_of tenant id (view value.now)) result }
     ensures fits { IfOk result (λ x. is_context_item x ≡ true) }
 {
-    let form = whole_under(value, "form", 1, 16)?;
-    let name = text_under(alloc, value, "name", 1, 128)?;
+    let form = whole_under(value, "form", 1, limits::FORMS)?;
+    let name = text_under(alloc, value, "name", 1, limits::NAME_BYTES)?;
     let is_open = flag_under(value, "open")?;
     let recipients = recipients_under(alloc, value, "recipients")?;
-    let retention = whole_under(value, "retention", 1, 3_650)?;
+    let retention = whole_under(value, "retention", 1, limits::RETENTION_DAYS)?;
     Ok(ContextItem {
         tenant,
         id,

@@ -5,7 +5,7 @@ ghost use Rattle.wb_row_codec.specs.Shapes.{numbering as numbering_of};
 ghost use Rattle.wb_json.specs.Gives.{Gives};
 
 use serde_json::Value;
-use wb_base::Moment;
+use wb_base::{Moment, limits};
 use wb_json::{ReadError, long_under, whole_under};
 use wb_model::Numbering;
 
@@ -13,7 +13,7 @@ use wb_model::Numbering;
 pub fn moment_under(value: &Value, key: &str) -> Result<Moment, ReadError>
     ensures { Gives (under key.now (whole 0 99_999_999_999) (view value.now)) result }
 {
-    let seconds = long_under(value, key, 0, 99_999_999_999)?;
+    let seconds = long_under(value, key, 0, limits::LAST_MOMENT)?;
     match Moment::try_new(seconds) {
         Some(moment) => Ok(moment),
         None => Err(ReadError::Other),

@@ -10,7 +10,7 @@ use crate::numberings::moment_under;
 use crate::read_moves::follow_deed;
 use serde_json::Value;
 use std::alloc::Global;
-use wb_base::UserId;
+use wb_base::{UserId, limits};
 use wb_json::{
     ReadError, answers_under, flag_under, list_under, status_under, str_under, text_under,
     whole_under,
@@ -22,15 +22,15 @@ fn submitted(alloc: Global, value: &Value) -> Result<Deed, ReadError>
 {
     let ack_due = day_under(value, "ack_due")?;
     let answers = answers_under(alloc, value, "answers")?;
-    let context = whole_under(value, "context", 1, 64)?;
+    let context = whole_under(value, "context", 1, limits::CONTEXTS)?;
     let expires = day_under(value, "expires")?;
     let feedback_due = day_under(value, "feedback_due")?;
-    let form = whole_under(value, "form", 1, 16)?;
+    let form = whole_under(value, "form", 1, limits::FORMS)?;
     let mark = flag_under(value, "mark")?;
     let readers = list_under(alloc, value, "readers")?;
     let receipt = digest_under(value, "receipt")?;
     let received = day_under(value, "received")?;
-    let version = whole_under(value, "version", 1, 99)?;
+    let version = whole_under(value, "version", 1, limits::VERSIONS)?;
     Ok(Deed::Submitted {
         ack_due,
         answers,
@@ -50,14 +50,14 @@ fn comment(alloc: Global, value: &Value) -> Result<Deed, ReadError>
     ensures { Gives (said.comment (view value.now)) result }
 {
     let internal = flag_under(value, "internal")?;
-    let text = text_under(alloc, value, "text", 1, 4_096)?;
+    let text = text_under(alloc, value, "text", 1, limits::TEXT_BYTES)?;
     Ok(Deed::Comment { internal, text })
 }
 
 fn label(alloc: Global, value: &Value) -> Result<Deed, ReadError>
     ensures { Gives (said.label (view value.now)) result }
 {
-    let text = text_under(alloc, value, "text", 0, 64)?;
+    let text = text_under(alloc, value, "text", 0, limits::LABEL_BYTES)?;
     Ok(Deed::Label { text })
 }
 

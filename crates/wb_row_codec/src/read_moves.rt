@@ -8,7 +8,7 @@ ghost use Rattle.wb_json.specs.Gives.{Gives};
 use crate::members::day_under;
 use serde_json::Value;
 use std::alloc::Global;
-use wb_base::Text;
+use wb_base::{Text, limits};
 use wb_json::{ReadError, list_under, long_under, read_text, text_under, user_under, whole_under};
 use wb_model::Deed;
 
@@ -23,7 +23,7 @@ fn acknowledged(value: &Value) -> Result<Deed, ReadError>
 fn feedback(alloc: Global, value: &Value) -> Result<Deed, ReadError>
     ensures { Gives (said.feedback (view value.now)) result }
 {
-    let text = text_under(alloc, value, "text", 1, 4_096)?;
+    let text = text_under(alloc, value, "text", 1, limits::TEXT_BYTES)?;
     Ok(Deed::Feedback { text })
 }
 
@@ -44,7 +44,7 @@ fn unshared(value: &Value) -> Result<Deed, ReadError>
 fn transferred(alloc: Global, value: &Value) -> Result<Deed, ReadError>
     ensures { Gives (said.transferred (view value.now)) result }
 {
-    let context = whole_under(value, "context", 1, 64)?;
+    let context = whole_under(value, "context", 1, limits::CONTEXTS)?;
     let readers = list_under(alloc, value, "readers")?;
     Ok(Deed::Transferred { context, readers })
 }
@@ -60,7 +60,7 @@ fn extended(alloc: Global, value: &Value) -> Result<Deed, ReadError>
     ensures { Gives (said.extended (view value.now)) result }
 {
     let feedback_due = day_under(value, "feedback_due")?;
-    let reason = text_under(alloc, value, "reason", 1, 1_024)?;
+    let reason = text_under(alloc, value, "reason", 1, limits::REASON_BYTES)?;
     Ok(Deed::Extended {
         feedback_due,
         reason,
@@ -70,8 +70,8 @@ fn extended(alloc: Global, value: &Value) -> Result<Deed, ReadError>
 fn asked(alloc: Global, value: &Value) -> Result<Deed, ReadError>
     ensures { Gives (said.asked (view value.now)) result }
 {
-    let reason = text_under(alloc, value, "reason", 1, 1_024)?;
-    let stamp = whole_under(value, "stamp", 0, 10_000)?;
+    let reason = text_under(alloc, value, "reason", 1, limits::REASON_BYTES)?;
+    let stamp = whole_under(value, "stamp", 0, limits::DISABLINGS)?;
     Ok(Deed::Asked { reason, stamp })
 }
 
@@ -99,7 +99,7 @@ fn granted(alloc: Global, value: &Value) -> Result<Deed, ReadError>
     ensures { Gives (said.granted (view value.now)) result }
 {
     let effective = long_under(value, "effective", 0, 100_002_591_999)?;
-    let reason = text_under(alloc, value, "reason", 1, 1_024)?;
+    let reason = text_under(alloc, value, "reason", 1, limits::REASON_BYTES)?;
     let request = whole_under(value, "request", 0, u32::MAX)?;
     let withheld = withheld_under(alloc, value, "withheld")?;
     Ok(Deed::Granted {
@@ -113,7 +113,7 @@ fn granted(alloc: Global, value: &Value) -> Result<Deed, ReadError>
 fn denied(alloc: Global, value: &Value) -> Result<Deed, ReadError>
     ensures { Gives (said.denied (view value.now)) result }
 {
-    let reason = text_under(alloc, value, "reason", 1, 1_024)?;
+    let reason = text_under(alloc, value, "reason", 1, limits::REASON_BYTES)?;
     let request = whole_under(value, "request", 0, u32::MAX)?;
     Ok(Deed::Denied { reason, request })
 }
@@ -121,7 +121,7 @@ fn denied(alloc: Global, value: &Value) -> Result<Deed, ReadError>
 fn revoked(alloc: Global, value: &Value) -> Result<Deed, ReadError>
     ensures { Gives (said.revoked (view value.now)) result }
 {
-    let reason = text_under(alloc, value, "reason", 1, 1_024)?;
+    let reason = text_under(alloc, value, "reason", 1, limits::REASON_BYTES)?;
     let request = whole_under(value, "request", 0, u32::MAX)?;
     Ok(Deed::Revoked { reason, request })
 }

@@ -16,7 +16,7 @@ use crate::users::read_user;
 use crate::{EntryItem, Item, NumberingItem};
 use serde_json::Value;
 use std::alloc::Global;
-use wb_base::{Format, Key, Memory, Number, Row, Tenant, UserId};
+use wb_base::{Format, Key, Memory, Number, Row, Tenant, UserId, limits};
 use wb_custody::SealedItem;
 use wb_json::{ReadError, read_answers};
 
@@ -61,7 +61,7 @@ fn form_item(
     ensures item { Gives (of_kind format 4 tenant a b (view value.now)) result }
     ensures fits { IfOk result (λ item. is_in_range item ≡ true) }
 {
-    if a < 1 || 16 < a || b < 1 || 99 < b {
+    if a < 1 || limits::FORMS < a || b < 1 || limits::VERSIONS < b {
         return Err(ReadError::Other);
     }
     Ok(Item::Form(read_version(alloc, format, tenant, a, b, value)?))
@@ -72,7 +72,7 @@ fn context_item(alloc: Global, tenant: Tenant, a: u32, value: &Value) -> Result<
     ensures item { Gives (of_kind Weighed 5 tenant a 0 (view value.now)) result }
     ensures fits { IfOk result (λ item. is_in_range item ≡ true) }
 {
-    if a < 1 || 64 < a {
+    if a < 1 || limits::CONTEXTS < a {
         return Err(ReadError::Other);
     }
     Ok(Item::Context(read_context(alloc, tenant, a, value)?))
@@ -132,16 +132,16 @@ fn read_kind(
     ensures fits { IfOk result (λ item. is_in_range item ≡ true) }
 {
     match key.kind {
-        1 => Ok(Item::Settings(read_settings(alloc, tenant, value)?)),
-        2 => Ok(Item::Numbering(NumberingItem {
+        Key::SETTINGS => Ok(Item::Settings(read_settings(alloc, tenant, value)?)),
+        Key::NUMBERING => Ok(Item::Numbering(NumberingItem {
             tenant,
             numbering: read_numbering(value)?,
         })),
-        3 => user_item(alloc, tenant, key.a, value),
-        4 => form_item(alloc, format, tenant, key.a, key.b, value),
-        5 => context_item(alloc, tenant, key.a, value),
-        6 => entry_item(alloc, tenant, key.a, key.b, value),
-        7 => sealed_item(alloc, tenant, key.a, value),
+        Key::USER => user_item(alloc, tenant, key.a, value),
+        Key::FORM => form_item(alloc, format, tenant, key.a, key.b, value),
+        Key::CONTEXT => context_item(alloc, tenant, key.a, value),
+        Key::ENTRY => entry_item(alloc, tenant, key.a, key.b, value),
+        Key::SEALED => sealed_item(alloc, tenant, key.a, value),
         _ => Err(ReadError::Other),
     }
 }

@@ -40,7 +40,7 @@ pub fn format_row(alloc: Global) -> Result<Row, Memory>
     let value = format_value(alloc)?;
     Ok(Row {
         key: Key {
-            kind: 0,
+            kind: Key::FORMAT,
             tenant: 0,
             a: 0,
             b: 0,
@@ -56,7 +56,7 @@ pub fn numbering_row(alloc: Global, tenant: Tenant, numbering: &Numbering) -> Re
     let value = numbering_value(alloc, numbering)?;
     Ok(Row {
         key: Key {
-            kind: 2,
+            kind: Key::NUMBERING,
             tenant: tenant.id(),
             a: 0,
             b: 0,
@@ -78,7 +78,7 @@ pub fn entry_row(
     let value = entry_value(alloc, entry)?;
     Ok(Row {
         key: Key {
-            kind: 6,
+            kind: Key::ENTRY,
             tenant: tenant.id(),
             a: number.get(),
             b: at,
@@ -99,7 +99,7 @@ pub fn sealed_row(
     let value = answers_value(alloc, answers.as_slice())?;
     Ok(Row {
         key: Key {
-            kind: 7,
+            kind: Key::SEALED,
             tenant: tenant.id(),
             a: number.get(),
             b: 0,

@@ -13,7 +13,7 @@ ghost use Rattle.wb_json.specs.Gives.{Gives};
 use crate::members::signed_under;
 use serde_json::Value;
 use std::alloc::Global;
-use wb_base::{Calendar, Day, Salt, Tenant, are_holidays};
+use wb_base::{Calendar, Day, Salt, Tenant, are_holidays, limits};
 use wb_json::{ReadError, list_if_under, text_under, whole_under};
 use wb_list::Items;
 use wb_model::TenantItem;
@@ -72,10 +72,10 @@ pub fn read_settings(alloc: Global, tenant: Tenant, value: &Value) -> Result<Ten
     let _id = tenant.id();
     let external = flag_if_under(value, "external")?;
     let calendar = read_calendar(alloc, value)?;
-    let name = text_under(alloc, value, "name", 1, 128)?;
-    let notice_days = whole_under(value, "notice_days", 0, 30)?;
+    let name = text_under(alloc, value, "name", 1, limits::NAME_BYTES)?;
+    let notice_days = whole_under(value, "notice_days", 0, limits::NOTICE_DAYS)?;
     let offset = signed_under(value, "offset", -720, 840)?;
-    let quota = whole_under(value, "quota", 1, 100_000)?;
+    let quota = whole_under(value, "quota", 1, limits::QUOTA)?;
     let salt = salt_under(value, "salt")?;
     Ok(TenantItem {
         tenant,

@@ -83,7 +83,7 @@ pub fn settings_row(alloc: Global, item: &TenantItem) -> Result<Row, Memory>
     let value = settings_value(alloc, item)?;
     Ok(Row {
         key: Key {
-            kind: 1,
+            kind: Key::SETTINGS,
             tenant: item.tenant.id(),
             a: 0,
             b: 0,
@@ -114,7 +114,7 @@ pub fn user_row(alloc: Global, user: &UserItem) -> Result<Row, Memory>
     let value = user_value(alloc, user)?;
     Ok(Row {
         key: Key {
-            kind: 3,
+            kind: Key::USER,
             tenant: user.tenant.id(),
             a: user.id.id() as u32,
             b: 0,
@@ -137,7 +137,7 @@ pub fn form_row(
     let value = form.show_as(alloc, format)?;
     Ok(Row {
         key: Key {
-            kind: 4,
+            kind: Key::FORM,
             tenant: tenant.id(),
             a: id,
             b: version,
@@ -172,7 +172,7 @@ pub fn context_row(alloc: Global, context: &ContextItem) -> Result<Row, Memory>
     let value = context_value(alloc, context)?;
     Ok(Row {
         key: Key {
-            kind: 5,
+            kind: Key::CONTEXT,
             tenant: context.tenant.id(),
             a: context.id,
             b: 0,

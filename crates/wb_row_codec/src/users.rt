@@ -8,7 +8,7 @@ ghost use Rattle.wb_json.specs.Gives.{Gives};
 use crate::members::digest_under;
 use serde_json::Value;
 use std::alloc::Global;
-use wb_base::{Tenant, UserId};
+use wb_base::{Tenant, UserId, limits};
 use wb_json::{ReadError, flag_under, rights_under, role_under, text_under, whole_under};
 use wb_model::UserItem;
 
@@ -23,10 +23,10 @@ pub fn read_user(
     ensures fits { IfOk result (λ x. is_user_item x ≡ true) }
 {
     let _id = id.id();
-    let disabled = whole_under(value, "disabled", 0, 10_000)?;
+    let disabled = whole_under(value, "disabled", 0, limits::DISABLINGS)?;
     let enabled = flag_under(value, "enabled")?;
     let may = rights_under(value, "may")?;
-    let name = text_under(alloc, value, "name", 1, 64)?;
+    let name = text_under(alloc, value, "name", 1, limits::USER_NAME_BYTES)?;
     let role = role_under(value, "role")?;
     let secret = digest_under(value, "secret")?;
     Ok(UserItem {

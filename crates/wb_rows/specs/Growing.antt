@@ -1,14 +1,15 @@
 -- The reports that are read so far, and those of the entries that are left.
-use Rattle.std.specs.Prelude.{◌≡◌, Bool, false, List, ◌++◌, Option, Some, None, Result, Ok, Err}
+use Rattle.std.specs.Prelude.{◌≡◌, Bool, false, List, ◌++◌, Option, Some, None, Result, Ok, Err, map}
 use Rattle.wb_base.specs.declared.rows.Key.{Key}
 use Rattle.wb_row_codec.specs.declared.item.EntryItem.{EntryItem}
 use Rattle.wb_model.specs.declared.registry.Lists.{Lists}
 use Rattle.wb_rows.specs.declared.faults.RowFault.{RowFault}
 use Rattle.wb_rows.specs.declared.faults.RowFault.TheVariants.{BadRow, BadSet, Memory}
 use Rattle.wb_rows.specs.declared.open.Open.{Open}
-use Rattle.wb_rows.specs.Reports.{Report}
+use Rattle.wb_rows.specs.Reports.{Report, case_report}
 use Rattle.wb_rows.specs.OpenReports.{report_of, IsOpen}
 use Rattle.wb_rows.specs.TrailRule.{days, reports_after, reports_of}
+use Rattle.wb_rows.specs.declared.cases.CaseItem.{CaseItem}
 
 -- the reports of the one that is read so far, where there is one, and of the entries that are left
 abbrev pub rest_of : Lists → Option Open → List EntryItem → Result (List Report) Key
@@ -39,3 +40,6 @@ abbrev pub IsTrailFault : Result (List Report) Key → RowFault → Type 0
 IsTrailFault wanted (BadRow k) = ⊥
 IsTrailFault wanted (BadSet rule k) = (rule ≡ 5) × (wanted ≡ Err k)
 IsTrailFault wanted Memory = Unit {0}
+
+abbrev pub after_all : List CaseItem → Result (List Report) Key → Result (List Report) Key
+after_all done rest = with_all (map case_report done) rest

@@ -1,5 +1,5 @@
 -- What a set of rows is read as: the tables, or the first fault.
-use Rattle.std.specs.Prelude.{◌≡◌, List, [], ◌∷◌, Bool, if◌then◌else◌, Option, Some, None, Result, Ok, Err}
+use Rattle.std.specs.Prelude.{◌≡◌, List, [], ◌∷◌, Bool, if◌then◌else◌, Option, Some, None, Result, Ok, Err, map}
 use Rattle.std.specs.Option.{option_or}
 use Rattle.wb_base.specs.declared.form.Format.{Format}
 use Rattle.wb_base.specs.declared.form.Format.TheVariants.{Plain, Weighed}
@@ -15,18 +15,19 @@ use Rattle.wb_rows.specs.declared.faults.RowFault.TheVariants.{BadRow, BadSet}
 use Rattle.wb_rows.specs.declared.items.ItemsByKind.{ItemsByKind}
 use Rattle.wb_rows.specs.declared.report_rules.Blames.{Blames}
 use Rattle.wb_rows.specs.Blame.{first_breaking, first_repeated, blamed}
-use Rattle.wb_rows.specs.Reports.{Report}
+use Rattle.wb_rows.specs.Reports.{Report, case_report}
 use Rattle.wb_rows.specs.Held.{Held}
 use Rattle.wb_rows.specs.KeptItems.{kept_of}
 use Rattle.wb_rows.specs.ListRules.{list_fault}
 use Rattle.wb_rows.specs.Places.{entry_key, numbering_key, sealed_key}
 use Rattle.wb_rows.specs.ReadItems.{items_in}
-use Rattle.wb_rows.specs.ReportRules.{is_right_entry, is_drawn, has_its_seal, is_right_seal, same_receipt, is_right_numbering}
+use Rattle.wb_rows.specs.ReportRules.{is_right_entry, has_its_seal, is_right_seal, same_receipt, is_right_numbering, first_undrawn_in}
 use Rattle.wb_rows.specs.TrailRule.{reports_of}
+use Rattle.wb_rows.specs.declared.cases.CaseItem.{CaseItem}
 
 -- the first row of rule 7: an entry, or identity answers, of a number that was not drawn
 abbrev pub first_undrawn : ItemsByKind → Option Key
-first_undrawn k = option_or (first_breaking (λ x. is_drawn k.numberings x.tenant x.number) entry_key k.entries) (first_breaking (λ x. is_drawn k.numberings x.tenant x.number) sealed_key k.sealed)
+first_undrawn k = first_undrawn_in k.numberings k.entries k.sealed
 
 -- the first row of rule 8: an entry without its identity answers, or identity answers without an entry, or that are not valid
 abbrev pub first_unsealed : ItemsByKind → List Report → Option Key
@@ -101,3 +102,7 @@ pub record IsParted (rows : List Row) (format : Format) (own : List Row) : Type 
   pub judged : judged rows ≡ judged_in format own
   pub stated : format_of rows ≡ format
   pub whole : with_format format own ≡ rows
+
+-- the reports that were read of so many items are judged so
+abbrev pub AreJudged : ItemsByKind → List CaseItem → Result Held RowFault → Type 0
+AreJudged k cases r = judged_reports k (Ok (map case_report cases)) ≡ r

@@ -1,20 +1,21 @@
 -- What is held, tenant by tenant: the tables with which a host is opened over it, and the moment of the opening.
-use Rattle.std.specs.Prelude.{ℕ, ◌==◌, List, [], ◌∷◌, ◌++◌, map, filter, find}
+use Rattle.std.specs.Prelude.{ℕ, ◌==◌, List, [], ◌∷◌, ◌++◌, map, filter, find, true, false, ◌≡◌}
 use Rattle.std.specs.Option.{option_map_or}
 use Rattle.wb_row_codec.specs.declared.item.NumberingItem.{NumberingItem}
 use Rattle.wb_model.specs.declared.entry.Entry.{Entry}
 use Rattle.wb_model.specs.declared.numbering.Numbering.{Numbering}
 use Rattle.wb_model.specs.declared.registry.Lists.{Lists}
 use Rattle.wb_model.specs.Host.{Tables}
-use Rattle.wb_model.specs.Openings.{registry_of}
+use Rattle.wb_model.specs.Openings.{registry_of, empty_tables}
 use Rattle.wb_model.specs.Reopened.{latest}
-use Rattle.wb_model.specs.SetUps.{tenant_ids}
+use Rattle.wb_model.specs.SetUps.{tenant_ids, has_tenant}
 use Rattle.wb_model.specs.Tables.{Case}
 use Rattle.wb_model.specs.Tenants.{Tenancy}
 use Rattle.wb_rows.specs.Reports.{Report}
 use Rattle.wb_rows.specs.Held.{Held}
 use Rattle.wb_rows.specs.ReportRules.{is_numbering_of}
 use Rattle.wb_setup.specs.Joined.{joined}
+use Rattle.wb_model.specs.Readable.{AreReadable}
 
 -- ---- the tables of a tenant
 
@@ -58,3 +59,11 @@ time_of h = latest (map (λ (x : NumberingItem). x.numbering.at) h.numberings ++
 -- what is held, and the setup's tenants that are not there, of whom nothing is held yet
 abbrev pub with_setup : Lists → Held → Held
 with_setup setup h = record h { lists = joined setup h.lists }
+
+-- what is held of each of these tenants is read back
+abbrev pub AreReadableIn : Lists → Held → Type 0
+AreReadableIn lists h = (t : ℕ) → has_tenant lists t ≡ true → AreReadable t (tables_of h t)
+
+-- nothing is held of a tenant that is not there
+abbrev pub HasNothingElse : Held → Type 0
+HasNothingElse h = (t : ℕ) → has_tenant h.lists t ≡ false → tables_of h t ≡ empty_tables (registry_of h.lists t)

@@ -1,7 +1,7 @@
 -- The rules of reports and numberings: rules 6 to 10.
 use Rattle.std.specs.Prelude.{ℕ, ◌==◌, ◌&&◌, ◌||◌, not, nat_le, if◌then◌else◌, Bool, true, false, List, [], ◌∷◌, find, Option, Some, None, is_some}
 use Rattle.std.specs.List.{list_all}
-use Rattle.std.specs.Option.{option_map_or}
+use Rattle.std.specs.Option.{option_map_or, option_or}
 use Rattle.wb_base.specs.AnswerList.{Answered, is_text}
 use Rattle.wb_custody.specs.declared.sealed.SealedItem.{SealedItem}
 use Rattle.wb_custody.specs.SealedAnswers.{answers_of}
@@ -15,6 +15,9 @@ use Rattle.wb_model.specs.Opened.{is_numbering}
 use Rattle.wb_model.specs.Openings.{registry_of}
 use Rattle.wb_model.specs.Trails.{Submission, submission_in, is_marked, has_identity}
 use Rattle.wb_rows.specs.Reports.{Report}
+use Rattle.wb_base.specs.declared.rows.Key.{Key}
+use Rattle.wb_rows.specs.Blame.{first_breaking}
+use Rattle.wb_rows.specs.Places.{entry_key, sealed_key}
 
 -- ---- 6
 
@@ -78,3 +81,7 @@ is_by_draw x e = not ((e.tenant == x.tenant) && is_some (submission_in e.entry.d
 -- 10: a numbering is one that draws may have left, and no submission is after its moment
 unfoldable pub is_right_numbering : List EntryItem → NumberingItem → Bool
 is_right_numbering entries x = is_numbering x.numbering && list_all (is_by_draw x) entries
+
+-- the first entry, or else the first identity answers, of a number that was not drawn
+abbrev pub first_undrawn_in : List NumberingItem → List EntryItem → List SealedItem → Option Key
+first_undrawn_in numberings entries sealed = option_or (first_breaking (λ x. is_drawn numberings x.tenant x.number) entry_key entries) (first_breaking (λ x. is_drawn numberings x.tenant x.number) sealed_key sealed)

@@ -11,7 +11,7 @@ pub fn numbering_key(item: &NumberingItem) -> Key
     ensures { result ≡ numbering_key_of item.now }
 {
     Key {
-        kind: 2,
+        kind: Key::NUMBERING,
         tenant: item.tenant.id(),
         a: 0,
         b: 0,
@@ -23,7 +23,7 @@ pub fn entry_key(item: &EntryItem) -> Key
     ensures { result ≡ entry_key_of item.now }
 {
     Key {
-        kind: 6,
+        kind: Key::ENTRY,
         tenant: item.tenant.id(),
         a: item.number.get(),
         b: item.place,
@@ -35,7 +35,7 @@ pub fn sealed_key(item: &SealedItem) -> Key
     ensures { result ≡ sealed_key_of item.now }
 {
     Key {
-        kind: 7,
+        kind: Key::SEALED,
         tenant: item.tenant.id(),
         a: item.number.get(),
         b: 0,

@@ -1,21 +1,15 @@
 //! Laws of rows, each a function with no body: that what is written is read, and what the rows that a change puts make of
 //! the rows of a host.
-ghost use Rattle.std.specs.Prelude.{◌≡◌, ◌+◌, ◌<◌, ℕ, List, [], ◌∷◌, ◌++◌, length, filter, map, not, All, Bool, true, false, Option, Some, Ok};
-ghost use Rattle.wb_base.specs.AnswerList.{Answered};
-ghost use Rattle.wb_base.specs.KeptRows.{all_changed};
-ghost use Rattle.wb_base.specs.declared.rows.Change.TheVariants.{Put};
-ghost use Rattle.wb_model.specs.declared.entry.Entry.{Entry};
-ghost use Rattle.wb_model.specs.Changes.{Notes, Configures};
+ghost use Rattle.std.specs.Prelude.{◌≡◌, ℕ, List, map, All, Bool, true, false, Some, Ok};
 ghost use Rattle.wb_model.specs.Host.{changed};
 ghost use Rattle.wb_model.specs.Legal.{ascends};
-ghost use Rattle.wb_model.specs.Opened.{Ascend, AreOrdered, AreVersions};
-ghost use Rattle.wb_model.specs.Openings.{registry_of, empty_tables};
+ghost use Rattle.wb_model.specs.Opened.{Ascend, AreVersions};
 ghost use Rattle.wb_model.specs.Past.{Past};
 ghost use Rattle.wb_model.specs.Pasts.{AllOpened};
-ghost use Rattle.wb_model.specs.Readable.{AreReadable, are_stored};
+ghost use Rattle.wb_model.specs.Readable.{are_stored};
 ghost use Rattle.wb_model.specs.Reopened.{left_time};
-ghost use Rattle.wb_model.specs.Rows.{row, rows, rows_of, entry_data};
-ghost use Rattle.wb_model.specs.SetUps.{AreSetUp, has_tenant};
+ghost use Rattle.wb_model.specs.Rows.{row, rows};
+ghost use Rattle.wb_model.specs.SetUps.{AreSetUp};
 ghost use Rattle.wb_model.specs.declared.registry.Lists.{Lists};
 ghost use Rattle.wb_model.specs.Settings.{Setting};
 ghost use Rattle.wb_model.specs.Tables.{Case, report};
@@ -26,12 +20,12 @@ ghost use Rattle.wb_rows.specs.HeldRows.{rows_of as rows_held, rows_in};
 ghost use Rattle.wb_rows.specs.HeldItems.{items_of};
 ghost use Rattle.wb_rows.specs.Judged.{judged};
 ghost use Rattle.wb_rows.specs.Left.{left, IsReadBack};
-ghost use Rattle.wb_rows.specs.Openings.{tables_of, with_setup};
+ghost use Rattle.wb_rows.specs.Openings.{with_setup, AreReadableIn, HasNothingElse};
 ghost use Rattle.wb_setup.specs.Joined.{joined};
 ghost use Rattle.std.specs.List.{list_all};
 ghost use Rattle.wb_base.specs.declared.form.Format.TheVariants.{Plain};
 ghost use Rattle.wb_row_codec.specs.Items.{is_kept_in};
-ghost use Rattle.wb_rows.specs.Puts.{sealed_put, setting_row, tenant_puts, IsVersion};
+ghost use Rattle.wb_rows.specs.Puts.{IsVersion, StandBefore, StandAfter, EntriesPutTheirRows, SettingPutsItsRow, IsNew, NewTenantsPutTheirRows};
 
 /// The rows of tables that keep the rules, with each value in its range, are refused by no rule, and are read as these tables.
 pub fn what_is_written_is_read()
@@ -55,8 +49,7 @@ pub fn what_hosts_leave_is_read()
 
 /// What a host is opened with, over tables that were read and a setup, is such that the rows of its hosts are read back.
 pub fn openings_are_read_back()
-    ensures { (setup : Lists) (h : Held) → AreSetUp setup → are_stored setup ≡ true → AreSetUp h.lists → are_stored h.lists ≡ true → ((t : ℕ) → has_tenant h.lists t ≡ true → AreReadable t (tables_of h t)) → ((t : ℕ) → has_tenant h.lists t ≡ false → tables_of h t ≡ empty_tables (registry_of h.lists t)) →
-        (t : ℕ) → has_tenant (joined setup h.lists) t ≡ true → AreReadable t (tables_of (with_setup setup h) t) }
+    ensures { (setup : Lists) (h : Held) → AreSetUp setup → are_stored setup ≡ true → AreSetUp h.lists → are_stored h.lists ≡ true → AreReadableIn h.lists h → HasNothingElse h → AreReadableIn (joined setup h.lists) (with_setup setup h) }
 {}
 
 /// One more entry on a report puts its row, and that of the identity answers that come with it. The rows after these are
@@ -64,21 +57,18 @@ pub fn openings_are_read_back()
 ///
 /// Tenants stand in the order of their ids, and a tenant's reports in that of their numbers.
 pub fn an_entry_puts_its_rows()
-    ensures { (before after : List Tenancy) (x : Tenancy) → All (λ (b : Tenancy). b.id < x.id) before → All (λ (a : Tenancy). x.id < a.id) after → Ascend 0 x.tables.plain.cases → (n : ℕ) (case : Case) → report n x.tables.plain.cases ≡ Some case → (now : ℕ) (entry : Entry) (given : Option Answered) →
-        all_changed (rows_of (before ++ (x ∷ after))) (Put (row 6 x.id n (length case.trail + 1) (entry_data entry)) ∷ sealed_put x.id n given) ≡ rows_of (before ++ (record { id = x.id; tables = changed now (Notes n entry) given x.tables } ∷ after)) }
+    ensures { (before after : List Tenancy) (x : Tenancy) → StandBefore before x → StandAfter after x → Ascend 0 x.tables.plain.cases → (n : ℕ) (case : Case) → report n x.tables.plain.cases ≡ Some case → EntriesPutTheirRows before x after n case }
 {}
 
 /// A setting of a tenant puts one row, and the rows after it are those of the changed tables.
 ///
 /// Tenants stand in the order of their ids, and no form has more than 99 versions.
 pub fn a_setting_puts_its_row()
-    ensures { (before after : List Tenancy) (x : Tenancy) → All (λ (b : Tenancy). b.id < x.id) before → All (λ (a : Tenancy). x.id < a.id) after → AreVersions x.tables.plain.registry.forms → (setting : Setting) → IsVersion setting → (now : ℕ) (secret : Option Answered) →
-        all_changed (rows_of (before ++ (x ∷ after))) (Put (setting_row x.id x.tables.plain.registry setting) ∷ []) ≡ rows_of (before ++ (record { id = x.id; tables = changed now (Configures setting) secret x.tables } ∷ after)) }
+    ensures { (before after : List Tenancy) (x : Tenancy) → StandBefore before x → StandAfter after x → AreVersions x.tables.plain.registry.forms → (setting : Setting) → IsVersion setting → SettingPutsItsRow before x after setting }
 {}
 
 /// Tenants that are added to others put their rows, tenant by tenant; they have no report yet, and what they are set up
 /// with is in order. The rows after these are those of all of them, which stand in the order of their ids.
 pub fn new_tenants_put_their_rows()
-    ensures { (is_old : Tenancy → Bool) (all : List Tenancy) → ascends (map (λ (x : Tenancy). x.id) all) ≡ true → All (λ (x : Tenancy). is_old x ≡ false → (x.tables.plain.cases ≡ []) × AreOrdered x.tables.plain.registry × AreVersions x.tables.plain.registry.forms) all →
-        all_changed (rows_of (filter is_old all)) (tenant_puts (filter (λ x. not (is_old x)) all)) ≡ rows_of all }
+    ensures { (is_old : Tenancy → Bool) (all : List Tenancy) → ascends (map (λ (x : Tenancy). x.id) all) ≡ true → All (λ (x : Tenancy). is_old x ≡ false → IsNew x) all → NewTenantsPutTheirRows is_old all }
 {}

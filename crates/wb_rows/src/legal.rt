@@ -9,7 +9,7 @@ ghost use Rattle.wb_rows.specs.Reckoned.{reckoned};
 ghost use Rattle.wb_rows.specs.Legality.{is_fit_after, right_days as right_days_of, right_acknowledgement as right_acknowledgement_of, right_postponement as right_postponement_of};
 
 use crate::days::Days;
-use wb_base::{Calendar, Day, Moment, Text, UserId};
+use wb_base::{Calendar, Day, Moment, Text, UserId, limits};
 use wb_case::Case;
 use wb_model::{Actor, Deed, Entry};
 use wb_terms::{ack_due, day_of, expiry, feedback_due};
@@ -66,7 +66,7 @@ fn ascend(users: &[UserId]) -> bool
 fn are_readers(users: &[UserId]) -> bool
     ensures { result ≡ legal.are_readers users.now }
 {
-    1 <= users.len() && users.len() <= 32 && ascend(users)
+    1 <= users.len() && users.len() <= limits::READERS && ascend(users)
 }
 
 // Whether a day is 1 to 3,650 days after another.
@@ -74,7 +74,7 @@ fn is_within(from: Day, until: Day) -> bool
     requires { IsEarlyDay from }
     ensures { result ≡ legal.is_within from 1 3_650 until }
 {
-    expiry(from, 1) <= until && until <= expiry(from, 3650)
+    expiry(from, 1) <= until && until <= expiry(from, limits::RETENTION_DAYS as u16)
 }
 
 // Whether the days of a submission are right.
@@ -124,7 +124,7 @@ fn right_postponement(today: Day, before: Day, until: Day) -> bool
     requires { IsEarlyDay today }
     ensures { result ≡ right_postponement_of today before until }
 {
-    before <= until && (until == before || until <= expiry(today, 3650))
+    before <= until && (until == before || until <= expiry(today, limits::RETENTION_DAYS as u16))
 }
 
 // Whether a grant is in force at once where its notice is withheld, and else after 0 to 30 whole days.
@@ -135,7 +135,9 @@ fn is_effective(at: Moment, effective: u64, withheld: &Option<Text>) -> bool
     match withheld {
         Some(_) => effective == time,
         None => {
-            time <= effective && effective - time <= DAY * 30 && (effective - time) % DAY == 0
+            time <= effective
+                && effective - time <= DAY * limits::NOTICE_DAYS as u64
+                && (effective - time) % DAY == 0
         }
     }
 }

@@ -75,7 +75,7 @@ impl Marked for UserItem {
 
     fn key(&self) -> Key {
         Key {
-            kind: 3,
+            kind: Key::USER,
             tenant: self.tenant.id(),
             a: u32::from(self.id.id()),
             b: 0,
@@ -105,7 +105,7 @@ fn first_gap(registry: &Registry, forms: &[FormItem]) -> Option<Key>
     for form in forms {
         if !follows(registry, form) {
             return Some(Key {
-                kind: 4,
+                kind: Key::FORM,
                 tenant: form.tenant.id(),
                 a: form.id,
                 b: form.version,
@@ -150,7 +150,7 @@ fn first_wrong_context(registry: &Registry, contexts: &[ContextItem]) -> Option<
     for context in contexts {
         if !is_right_context(registry, context) {
             return Some(Key {
-                kind: 5,
+                kind: Key::CONTEXT,
                 tenant: context.tenant.id(),
                 a: context.id,
                 b: 0,

@@ -21,7 +21,7 @@ ghost use Rattle.wb_rows.specs.Held.{Held, held_by};
 ghost use Rattle.wb_rows.specs.HeldItems.{items_of};
 ghost use Rattle.wb_rows.specs.HeldRows.{own_rows, rows_in, rows_of};
 ghost use Rattle.wb_rows.specs.Left.{left as left_by, IsReadBack};
-ghost use Rattle.wb_rows.specs.Judged.{AreBlames, judged, judged_in, judged_kept, judged_reports, is_format_key as format_key, format_of as format_in, IsParted};
+ghost use Rattle.wb_rows.specs.Judged.{AreBlames, judged, judged_in, judged_kept, judged_reports, is_format_key as format_key, format_of as format_in, IsParted, AreJudged};
 ghost use Rattle.wb_base.specs.AnswerList.{is_text};
 ghost use Rattle.wb_base.specs.declared.form.Format.TheVariants.{Plain};
 ghost use Rattle.wb_row_codec.specs.Items.{is_kept_in};
@@ -49,7 +49,7 @@ const FORMAT_TEXT: &str = "{\"format\":2}";
 fn is_format_key(key: Key) -> bool
     ensures { result ≡ format_key key }
 {
-    key.kind == 0 && key.tenant == 0 && key.a == 0 && key.b == 0
+    key.kind == Key::FORMAT && key.tenant == 0 && key.a == 0 && key.b == 0
 }
 
 /// The format of rows that are read.
@@ -150,8 +150,8 @@ fn judge_blames(
     blames: Blames,
 ) -> Result<Tables, RowFault>
     requires { list_all is_form_item registry.lists.forms ≡ true }
-    ensures ok { IfOk result (λ tables. (k : ItemsByKindData) → k.lists ≡ registry.lists → k.numberings ≡ numberings → k.sealed ≡ sealed.items → AreBlames k blames → judged_reports k (Ok (map case_report cases.items)) ≡ Ok (held_by tables)) }
-    ensures err { IfErr result (λ fault. fault ≢ faults.Memory → (k : ItemsByKindData) → k.lists ≡ registry.lists → k.numberings ≡ numberings → k.sealed ≡ sealed.items → AreBlames k blames → judged_reports k (Ok (map case_report cases.items)) ≡ Err fault) }
+    ensures ok { IfOk result (λ tables. (k : ItemsByKindData) → k.lists ≡ registry.lists → k.numberings ≡ numberings → k.sealed ≡ sealed.items → AreBlames k blames → AreJudged k cases.items (Ok (held_by tables))) }
+    ensures err { IfErr result (λ fault. fault ≢ faults.Memory → (k : ItemsByKindData) → k.lists ≡ registry.lists → k.numberings ≡ numberings → k.sealed ≡ sealed.items → AreBlames k blames → AreJudged k cases.items (Err fault)) }
 {
     let seal = first_wrong_seal(alloc, &registry, &cases, sealed.as_slice())?;
     match report_fault(blames, seal) {

@@ -6,7 +6,7 @@ ghost use Rattle.wb_model.specs.SetUps.{is_form_item};
 ghost use Rattle.wb_rows.specs.Blame.{first_breaking, first_repeated as first_repeated_in, blamed};
 ghost use Rattle.wb_rows.specs.Reports.{case_report};
 ghost use Rattle.wb_rows.specs.Places.{entry_key as entry_key_of, sealed_key as sealed_key_of, numbering_key as numbering_key_of};
-ghost use Rattle.wb_rows.specs.ReportRules.{is_right_entry as is_right_entry_in, is_drawn as is_drawn_in, has_its_seal as has_its_seal_in, is_right_seal as is_right_seal_in, same_receipt, is_right_numbering as is_right_numbering_in};
+ghost use Rattle.wb_rows.specs.ReportRules.{is_right_entry as is_right_entry_in, is_drawn as is_drawn_in, has_its_seal as has_its_seal_in, is_right_seal as is_right_seal_in, same_receipt, is_right_numbering as is_right_numbering_in, first_undrawn_in};
 
 use crate::repeated::{Marked, first_repeated};
 use crate::{
@@ -158,7 +158,7 @@ pub fn find_blames(
 ) -> Result<Blames, Memory>
     requires { list_all is_form_item registry.now.lists.forms ≡ true }
     ensures wrong { IfOk result (λ b. b.wrong ≡ first_breaking (is_right_entry_in registry.now.lists) entry_key_of entries.now) }
-    ensures undrawn { IfOk result (λ b. b.undrawn ≡ option_or (first_breaking (λ x. is_drawn_in numberings.now x.tenant x.number) entry_key_of entries.now) (first_breaking (λ x. is_drawn_in numberings.now x.tenant x.number) sealed_key_of sealed.now.items)) }
+    ensures undrawn { IfOk result (λ b. b.undrawn ≡ first_undrawn_in numberings.now entries.now sealed.now.items) }
     ensures unsealed { IfOk result (λ b. b.unsealed ≡ first_breaking (has_its_seal_in sealed.now.items) entry_key_of entries.now) }
     ensures receipt { IfOk result (λ b. b.receipt ≡ first_repeated_in same_receipt entry_key_of entries.now) }
     ensures numbering { IfOk result (λ b. b.numbering ≡ first_breaking (is_right_numbering_in entries.now) numbering_key_of numberings.now) }

@@ -8,7 +8,7 @@ ghost use Rattle.wb_custody.specs.Desks.{HasRoom};
 ghost use Rattle.wb_model.specs.declared.registry.Lists.{Lists};
 ghost use Rattle.wb_model.specs.Legal.{is_next, is_first as is_first_of};
 ghost use Rattle.wb_model.specs.SetUps.{is_tenant_item};
-ghost use Rattle.wb_rows.specs.Growing.{rest_of, with_all, IsOpenIn, AreReady, IsBlame, IsTrailFault};
+ghost use Rattle.wb_rows.specs.Growing.{rest_of, with_all, IsOpenIn, AreReady, IsBlame, IsTrailFault, after_all};
 ghost use Rattle.wb_rows.specs.Reports.{case_report};
 ghost use Rattle.wb_rows.specs.OpenReports.{report_of, IsOpen, IsStill};
 ghost use Rattle.wb_rows.specs.Places.{entry_key as entry_key_of};
@@ -154,7 +154,7 @@ fn next(
     requires tenants { list_all is_tenant_item registry.now.lists.tenants ≡ true }
     requires ready { AreReady registry.now.lists report }
     ensures ready { IfOk result (IsOpenIn registry.now.lists) }
-    ensures ok { IfOk result (λ o. (left : List EntryData) → with_all (map case_report done.old.items) (rest_of registry.now.lists report (item ∷ left)) ≡ with_all (map case_report done.new.items) (reports_after registry.now.lists (report_of o) left)) }
+    ensures ok { IfOk result (λ o. (left : List EntryData) → after_all done.old.items (rest_of registry.now.lists report (item ∷ left)) ≡ after_all done.new.items (reports_after registry.now.lists (report_of o) left)) }
     ensures err { IfErr result (λ fault. (left : List EntryData) → IsTrailFault (with_all (map case_report done.old.items) (rest_of registry.now.lists report (item ∷ left))) fault) }
 {
     match report {

@@ -15,20 +15,21 @@ use Rattle.wb_setup.specs.declared.setup.SetupFault.TheVariants as faults
 use Rattle.wb_setup.specs.Setups.{setup as lists_in}
 use Rattle.wb_desk.specs.Openings.{IsOpenedBy}
 use Rattle.wb_desk.specs.Turns.{StandsFor}
+use Rattle.wb_base.specs.Ends.{KeeperEnd}
 
--- the keeper's count before and now, and the rows that it holds before and now where it is honest
-module _ (keeper keeper' : ℕ) (honest : Type 0) (holds holds' : List Row → Type 0) where
+-- with the keeper's end before and now
+module _ (keeper keeper' : KeeperEnd) where
   -- the hosts stand for what the rows and the setup open: the keeper held the rows, and holds those of the start
   pub record Opens (loaded : List Row) (setup : List ℕ) (start : Past AllOpened) (hosts : Hosts) : Type 0 where
     pub opened : IsOpenedBy loaded setup start
     pub stands : StandsFor hosts start
-    pub kept : honest → (before : List Row) → holds before → (before ≡ loaded) × holds' (rows start)
-    pub later : keeper ≤ keeper'
+    pub kept : keeper'.honest → (before : List Row) → keeper.holds before → (before ≡ loaded) × keeper'.holds (rows start)
+    pub later : keeper.count ≤ keeper'.count
 
   -- the setup opens no host: it is refused, or the keeper failed, or the rows that it held are refused, or there was no memory
   abbrev pub Refuses : List ℕ → Status → Type 0
-  Refuses setup (Setup fault) = (fault ≢ faults.Memory) × (lists_in setup ≡ Err fault) × (keeper' ≡ keeper)
-  Refuses setup OpenFault = Rose keeper keeper' × ((lists : Lists) × (lists_in setup ≡ Ok lists))
-  Refuses setup (KeptRows fault) = ((loaded : List Row) × AreLoaded honest holds loaded × (judged loaded ≡ Err fault)) × ((lists : Lists) × (lists_in setup ≡ Ok lists)) × (keeper ≤ keeper')
-  Refuses setup NoMemory = keeper ≤ keeper'
+  Refuses setup (Setup fault) = (fault ≢ faults.Memory) × (lists_in setup ≡ Err fault) × (keeper'.count ≡ keeper.count)
+  Refuses setup OpenFault = Rose keeper.count keeper'.count × ((lists : Lists) × (lists_in setup ≡ Ok lists))
+  Refuses setup (KeptRows fault) = ((loaded : List Row) × AreLoaded keeper keeper' loaded × (judged loaded ≡ Err fault)) × ((lists : Lists) × (lists_in setup ≡ Ok lists)) × (keeper.count ≤ keeper'.count)
+  Refuses setup NoMemory = keeper.count ≤ keeper'.count
   Refuses setup status = ⊥

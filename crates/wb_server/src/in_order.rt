@@ -1,13 +1,10 @@
 //! A host is served behind a lock with tickets, and taken apart at the end of its one history.
-ghost use Rattle.std.specs.Prelude.{◌≡◌, ◌<◌, ◌≤◌, ℕ, List, [], true, false, All, length, vec_len, slice_index_or, IfOk, IfErr};
+ghost use Rattle.std.specs.Prelude.{◌≡◌, ◌<◌, ◌≤◌, List, true, false, vec_len, IfOk, IfErr};
 ghost use Rattle.wb_model.specs.Rows.{rows_of};
 ghost use Rattle.wb_tables.specs.Standing.{hosts_of};
-ghost use Rattle.wb_desk.specs.Hosted.{begun};
-ghost use Rattle.wb_front.specs.Attended.{clock_of, RoseOften};
-ghost use Rattle.wb_ticket.specs.OneHistory.{IsLastOf};
 ghost use Rattle.wb_ticket.specs.Owned.{TurnEntry};
-ghost use Rattle.wb_server.specs.InOrder.{WasServedInOrder};
-ghost use Rattle.wb_server.specs.Workers.{AtEach, HasNone};
+ghost use Rattle.wb_server.specs.InOrder.{AreServedInOrder, IsLastClosed};
+ghost use Rattle.wb_server.specs.Workers.{AllHaveNone, OneFailed};
 
 use crate::placing::{place, unplace};
 use crate::stations::ServeEnd;
@@ -45,18 +42,18 @@ fn serve_on<
 where
     Li::End: Send,
     requires some { (0 < vec_len stations.old) × (vec_len stations.old ≤ 64) }
-    requires kept { K.honest keeper → K.holds keeper (rows_of (hosts_of desk).list) }
+    requires kept { (K.end keeper).honest → (K.end keeper).holds (rows_of (hosts_of desk).list) }
     requires opened { A.desk ≡ desk }
-    requires honest { (K.honest keeper → A.honest) × (A.honest → K.honest keeper) }
+    requires honest { ((K.end keeper).honest → A.honest) × (A.honest → (K.end keeper).honest) }
     requires turns { (turns.name ≡ A.name) × (turns.parts ≡ A.parts) × (turns.parts ≡ vec_len stations.old) }
     requires numbers { (numbers.name ≡ B.name) × (numbers.parts ≡ B.parts) × (numbers.parts ≡ vec_len stations.old) }
     ensures stations { vec_len stations.new ≡ vec_len stations.old }
-    ensures served { IfOk result (λ ended. (lists : List (List TurnEntry)) × (length lists ≡ vec_len stations.old) × IsLastOf (begun desk (K.count keeper)) lists ended.closed.desk ended.closed.turns ended.closed.numbers (K.count ended.closed.keeper) × AtEach (λ s. Li.told s.listener) (λ s. clock_of (T.left s.ticker) (T.count s.ticker)) stations.old.items stations.new.items (λ i. WasServedInOrder (slice_index_or lists i []))) }
-    ensures left { IfOk result (λ e. e.all ≡ true → All (λ s. HasNone (Li.told s.listener)) stations.new.items) }
-    ensures failed { IfOk result (λ e. e.all ≡ false → (i : ℕ) × (i < vec_len stations.old) × ((d : _) (e : _) → RoseOften 16 (Li.count (slice_index_or stations.old.items i d).listener) (Li.count (slice_index_or stations.new.items i e).listener))) }
+    ensures served { IfOk result (λ ended. (lists : List (List TurnEntry)) × IsLastClosed K.end desk keeper lists ended.closed × AreServedInOrder Li.end T.end stations.old.items stations.new.items lists) }
+    ensures left { IfOk result (λ e. e.all ≡ true → AllHaveNone Li.end stations.new.items) }
+    ensures failed { IfOk result (λ e. e.all ≡ false → OneFailed Li.end stations.old.items stations.new.items) }
     ensures none { IfErr result (λ _. stations.new.items ≡ stations.old.items) }
-    ensures kept { IfOk result (λ e. K.honest e.closed.keeper → K.holds e.closed.keeper (rows_of (hosts_of e.closed.desk).list)) }
-    ensures honest { IfOk result (λ e. K.honest e.closed.keeper → K.honest keeper) }
+    ensures kept { IfOk result (λ e. (K.end e.closed.keeper).honest → (K.end e.closed.keeper).holds (rows_of (hosts_of e.closed.desk).list)) }
+    ensures honest { IfOk result (λ e. (K.end e.closed.keeper).honest → (K.end keeper).honest) }
 {
     let count = stations.len();
     let mut workers = Vec::with_capacity(alloc, count)?;
@@ -96,16 +93,16 @@ pub fn serve_in_order<
 where
     Li::End: Send,
     requires some { (0 < vec_len stations.old) × (vec_len stations.old ≤ 64) }
-    requires kept { K.honest keeper → K.holds keeper (rows_of (hosts_of desk).list) }
+    requires kept { (K.end keeper).honest → (K.end keeper).holds (rows_of (hosts_of desk).list) }
     ensures stations { vec_len stations.new ≡ vec_len stations.old }
     // From the host that was given there is one history, and what is left is its last state. It is split into lists, one a station: what came
     // over the links of the station and was a turn is an entry of its list, in order.
-    ensures served { IfOk result (λ ended. (lists : List (List TurnEntry)) × (length lists ≡ vec_len stations.old) × IsLastOf (begun desk (K.count keeper)) lists ended.closed.desk ended.closed.turns ended.closed.numbers (K.count ended.closed.keeper) × AtEach (λ s. Li.told s.listener) (λ s. clock_of (T.left s.ticker) (T.count s.ticker)) stations.old.items stations.new.items (λ i. WasServedInOrder (slice_index_or lists i []))) }
-    ensures left { IfOk result (λ e. e.all ≡ true → All (λ s. HasNone (Li.told s.listener)) stations.new.items) }
-    ensures failed { IfOk result (λ e. e.all ≡ false → (i : ℕ) × (i < vec_len stations.old) × ((d : _) (e : _) → RoseOften 16 (Li.count (slice_index_or stations.old.items i d).listener) (Li.count (slice_index_or stations.new.items i e).listener))) }
+    ensures served { IfOk result (λ ended. (lists : List (List TurnEntry)) × IsLastClosed K.end desk keeper lists ended.closed × AreServedInOrder Li.end T.end stations.old.items stations.new.items lists) }
+    ensures left { IfOk result (λ e. e.all ≡ true → AllHaveNone Li.end stations.new.items) }
+    ensures failed { IfOk result (λ e. e.all ≡ false → OneFailed Li.end stations.old.items stations.new.items) }
     ensures none { IfErr result (λ _. stations.new.items ≡ stations.old.items) }
-    ensures kept { IfOk result (λ e. K.honest e.closed.keeper → K.holds e.closed.keeper (rows_of (hosts_of e.closed.desk).list)) }
-    ensures honest { IfOk result (λ e. K.honest e.closed.keeper → K.honest keeper) }
+    ensures kept { IfOk result (λ e. (K.end e.closed.keeper).honest → (K.end e.closed.keeper).holds (rows_of (hosts_of e.closed.desk).list)) }
+    ensures honest { IfOk result (λ e. (K.end e.closed.keeper).honest → (K.end keeper).honest) }
 {
     let parts = stations.len() as u64;
     serve_on::<K, Brand, Brand, Li, T, R>(

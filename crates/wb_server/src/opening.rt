@@ -27,9 +27,9 @@ fn refused(fault: SetupFault) -> Status
 
 /// The host that a setup's bytes open over the rows that a keeper holds, or how a run ends for which they open none.
 pub fn open_by<K: Keeper>(alloc: Global, keeper: &mut K, setup: &[u8]) -> Result<Desk, Status>
-    ensures ok { IfOk result (λ desk. (loaded : List Row) × (start : Past AllOpened) × Opens (K.count keeper.old) (K.count keeper.new) (K.honest keeper.new) (K.holds keeper.old) (K.holds keeper.new) loaded setup.now start (hosts_of desk)) }
-    ensures err { IfErr result (λ status. Refuses (K.count keeper.old) (K.count keeper.new) (K.honest keeper.new) (K.holds keeper.old) (K.holds keeper.new) setup.now status × KeepsRows (K.honest keeper.new) (K.holds keeper.old) (K.holds keeper.new)) }
-    ensures back { K.honest keeper.new → K.honest keeper.old }
+    ensures ok { IfOk result (λ desk. (loaded : List Row) × (start : Past AllOpened) × Opens (K.end keeper.old) (K.end keeper.new) loaded setup.now start (hosts_of desk)) }
+    ensures err { IfErr result (λ status. Refuses (K.end keeper.old) (K.end keeper.new) setup.now status × KeepsRows (K.end keeper.old) (K.end keeper.new)) }
+    ensures back { (K.end keeper.new).honest → (K.end keeper.old).honest }
 {
     let setup = match Setup::read(alloc, setup) {
         Ok(setup) => setup,

@@ -1,6 +1,6 @@
 //! Stations are given to workers, and come back from them in their order.
-ghost use Rattle.std.specs.Prelude.{◌≡◌, ◌<◌, ◌≤◌, ◌-◌, ℕ, [], true, false, All, vec_len, vec_capacity, slice_index_or};
-ghost use Rattle.wb_server.specs.Workers.{HasEnded, HasNone};
+ghost use Rattle.std.specs.Prelude.{◌≡◌, ◌<◌, ◌≤◌, ◌-◌, ℕ, true, false, All, vec_len, vec_capacity, slice_index_or};
+ghost use Rattle.wb_server.specs.Workers.{HasEnded, AllHaveNone};
 
 use crate::worker::{Worker, make_worker};
 use wb_front::{Station, Worked};
@@ -36,12 +36,12 @@ pub(crate) fn unplace<Li: Listener, T: Ticker, O: Drop>(
 ) -> bool
     requires empty { (vec_len stations.old ≡ 0) × (vec_len owns.old ≡ 0) }
     requires room { (vec_len workers ≤ vec_capacity stations.old) × (vec_len workers ≤ vec_capacity owns.old) }
-    requires ended { All (λ w. HasEnded (Li.told w.station.listener) w.worked) workers.items }
+    requires ended { All (λ w. HasEnded (Li.end w.station.listener) w.worked) workers.items }
     ensures stations { vec_len stations.new ≡ vec_len workers }
     ensures owns { vec_len owns.new ≡ vec_len workers }
     ensures order { (k : ℕ) (d : _) (e : _) → k < vec_len workers → slice_index_or stations.new.items k e ≡ (slice_index_or workers.items (vec_len workers - 1 - k) d).station }
     ensures given { (k : ℕ) (d : _) (e : _) → k < vec_len workers → slice_index_or owns.new.items k e ≡ (slice_index_or workers.items (vec_len workers - 1 - k) d).own }
-    ensures left { result ≡ true → All (λ s. HasNone (Li.told s.listener)) stations.new.items }
+    ensures left { result ≡ true → AllHaveNone Li.end stations.new.items }
     ensures failed { result ≡ false → (k : ℕ) × (k < vec_len workers) × ((d : _) → (slice_index_or workers.items k d).worked ≡ Worked.ListenFault) }
 {
     let mut ended = true;

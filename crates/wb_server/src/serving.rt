@@ -1,25 +1,16 @@
 //! The call that serves.
-ghost use Rattle.std.specs.Prelude.{◌≡◌, ◌≢◌, ◌⊎◌, ◌<◌, ◌≤◌, ℕ, List, [], Option, Some, None, Ok, Err, All, IfSome, true, false, if◌then◌else◌, vec_len, slice_index_or, length, IfOk, IfErr};
-ghost use Rattle.std.specs.Io.KnownBytes.{Keeps};
+ghost use Rattle.std.specs.Prelude.{◌≡◌, ◌≢◌, ◌⊎◌, ◌<◌, ◌≤◌, ℕ, List, Option, Some, None, Ok, Err, IfSome, true, false, if◌then◌else◌, vec_len, IfOk, IfErr};
 ghost use Rattle.wb_base.specs.declared.rows.Row.{Row as KeptRow};
-ghost use Rattle.wb_base.specs.Outside.{Rose};
-ghost use Rattle.wb_model.specs.declared.registry.Lists.{Lists};
 ghost use Rattle.wb_model.specs.Rows.{rows_of};
 ghost use Rattle.wb_tables.specs.Standing.{Standing, hosts_of};
-ghost use Rattle.wb_setup.specs.Setups.{setup as lists_in};
-ghost use Rattle.wb_rows.specs.Held.{Held};
-ghost use Rattle.wb_rows.specs.Judged.{judged};
 ghost use Rattle.wb_desk.specs.GoneOn.{IsLater};
-ghost use Rattle.wb_desk.specs.Hosted.{Hand, turns_of, begun, fresh};
-ghost use Rattle.wb_front.specs.Attended.{clock_of, RoseOften};
-ghost use Rattle.wb_ticket.specs.OneHistory.{IsLastOf};
-ghost use Rattle.wb_ticket.specs.Owned.{TurnEntry};
-ghost use Rattle.wb_server.specs.InOrder.{WasServedInOrder};
-ghost use Rattle.wb_server.specs.Workers.{AtEach, HasNone, WasServed};
+ghost use Rattle.wb_desk.specs.Hosted.{Hand, turns_of};
+ghost use Rattle.wb_server.specs.InOrder.{AreServedInOrder, IsLastClosed};
+ghost use Rattle.wb_server.specs.Workers.{AllHaveNone, OneFailed, AreServed};
 ghost use Rattle.wb_cli.specs.declared.plans.Lock.{Lock as LockOf};
 ghost use Rattle.wb_cli.specs.declared.plans.Plan.TheVariants.{Serve};
 ghost use Rattle.wb_cli.specs.CommandLine.{Asks};
-ghost use Rattle.wb_server.specs.Serves.{AsksLock, ByLock, HasEndedServing, IsServeForm, ServesNone, OpensOne, ServesIt, ServesInOrder, setup_limit};
+ghost use Rattle.wb_server.specs.Serves.{AsksLock, HasEndedServing, IsServeForm, ServesNone, OpensOne, ServesBy, ServesAsked, ServesUnlessHindered, IsUntouched, WhereOpens};
 
 use crate::starting::start;
 use crate::{ServeEnd, serve_all, serve_in_order};
@@ -79,16 +70,16 @@ fn serve_by<K: Keeper + Send, Li: Listener + Send, T: Ticker + Send, R: Threads 
 where
     Li::End: Send,
     requires some { (0 < vec_len stations.old) × (vec_len stations.old ≤ 64) }
-    requires kept { K.honest keeper → K.holds keeper (rows_of (hosts_of desk).list) }
+    requires kept { (K.end keeper).honest → (K.end keeper).holds (rows_of (hosts_of desk).list) }
     ensures stations { vec_len stations.new ≡ vec_len stations.old }
-    ensures mutex { lock ≡ Lock.Mutex → IfOk result (λ ended. (passes : List Hand) × (length passes ≡ vec_len stations.old) × (turns_of passes ≡ ended.closed.turns) × AtEach (λ s. Li.told s.listener) (λ s. clock_of (T.left s.ticker) (T.count s.ticker)) stations.old.items stations.new.items (λ i. WasServed desk (slice_index_or passes i fresh))) }
+    ensures mutex { lock ≡ Lock.Mutex → IfOk result (λ ended. (passes : List Hand) × (turns_of passes ≡ ended.closed.turns) × AreServed Li.end T.end stations.old.items stations.new.items desk passes) }
     ensures later { lock ≡ Lock.Mutex → IfOk result (λ ended. IsLater desk ended.closed.turns ended.closed.desk) }
-    ensures ticket { lock ≡ Lock.Ticket → IfOk result (λ ended. (lists : List (List TurnEntry)) × (length lists ≡ vec_len stations.old) × IsLastOf (begun desk (K.count keeper)) lists ended.closed.desk ended.closed.turns ended.closed.numbers (K.count ended.closed.keeper) × AtEach (λ s. Li.told s.listener) (λ s. clock_of (T.left s.ticker) (T.count s.ticker)) stations.old.items stations.new.items (λ i. WasServedInOrder (slice_index_or lists i []))) }
-    ensures left { IfOk result (λ e. e.all ≡ true → All (λ s. HasNone (Li.told s.listener)) stations.new.items) }
-    ensures failed { IfOk result (λ e. e.all ≡ false → (i : ℕ) × (i < vec_len stations.old) × ((d : _) (e : _) → RoseOften 16 (Li.count (slice_index_or stations.old.items i d).listener) (Li.count (slice_index_or stations.new.items i e).listener))) }
+    ensures ticket { lock ≡ Lock.Ticket → IfOk result (λ ended. (lists : _) × IsLastClosed K.end desk keeper lists ended.closed × AreServedInOrder Li.end T.end stations.old.items stations.new.items lists) }
+    ensures left { IfOk result (λ e. e.all ≡ true → AllHaveNone Li.end stations.new.items) }
+    ensures failed { IfOk result (λ e. e.all ≡ false → OneFailed Li.end stations.old.items stations.new.items) }
     ensures none { IfErr result (λ _. stations.new.items ≡ stations.old.items) }
-    ensures kept { IfOk result (λ e. K.honest e.closed.keeper → K.holds e.closed.keeper (rows_of (hosts_of e.closed.desk).list)) }
-    ensures honest { IfOk result (λ e. K.honest e.closed.keeper → K.honest keeper) }
+    ensures kept { IfOk result (λ e. (K.end e.closed.keeper).honest → (K.end e.closed.keeper).holds (rows_of (hosts_of e.closed.desk).list)) }
+    ensures honest { IfOk result (λ e. (K.end e.closed.keeper).honest → (K.end keeper).honest) }
 {
     match lock {
         Lock::Mutex => serve_all(rt, alloc, routes, desk, keeper, stations),
@@ -114,15 +105,15 @@ fn serve_text<
 where
     Li::End: Send,
     requires some { (0 < vec_len stations.old) × (vec_len stations.old ≤ 64) }
-    requires held { K.honest keeper → (rows : List KeptRow) × K.holds keeper rows }
-    ensures read_on { result.status ≢ Status.ReadFault → S.count setup.new ≡ S.count setup.old }
-    ensures keeper { result.keeper ≡ None → (result.status ≡ Status.NoMemory) × ((k : _) × (desk : Standing) × OpensOne (S.left setup.old) (S.left setup.new) (K.honest k) (K.holds keeper) desk) }
+    requires held { (K.end keeper).honest → (rows : List KeptRow) × (K.end keeper).holds rows }
+    ensures read_on { result.status ≢ Status.ReadFault → (S.end setup.new).count ≡ (S.end setup.old).count }
+    ensures keeper { result.keeper ≡ None → (result.status ≡ Status.NoMemory) × ((k : _) × (desk : Standing) × OpensOne (S.end setup.old) (S.end setup.new) (K.end keeper) (K.end k) desk) }
     ensures stations { vec_len stations.new ≡ vec_len stations.old }
     ensures none { (HasEndedServing result.status → ⊥) → stations.new.items ≡ stations.old.items }
-    ensures cause { (HasEndedServing result.status → ⊥) → IfSome result.keeper (λ k. ServesNone (S.left setup.old) (S.count setup.old) (S.count setup.new) (S.left setup.new) (K.count keeper) (K.count k) (K.honest k) (K.holds keeper) (K.holds k) result.status) }
-    ensures served { HasEndedServing result.status → (k : _) × (result.keeper ≡ Some k) × ByLock lock (ServesIt (S.left setup.old) (S.left setup.new) (K.honest k) (K.holds keeper) (K.holds k) (λ desk passes. (length passes ≡ vec_len stations.old) × AtEach (λ s. Li.told s.listener) (λ s. clock_of (T.left s.ticker) (T.count s.ticker)) stations.old.items stations.new.items (λ i. WasServed desk (slice_index_or passes i fresh)))) (ServesInOrder (S.left setup.old) (S.left setup.new) (K.honest k) (K.holds keeper) (K.holds k) (K.count keeper) (K.count k) (λ lists. (length lists ≡ vec_len stations.old) × AtEach (λ s. Li.told s.listener) (λ s. clock_of (T.left s.ticker) (T.count s.ticker)) stations.old.items stations.new.items (λ i. WasServedInOrder (slice_index_or lists i [])))) }
-    ensures done { result.status ≡ Status.Done → All (λ s. HasNone (Li.told s.listener)) stations.new.items }
-    ensures failed { result.status ≡ Status.ListenFault → (i : ℕ) × (i < vec_len stations.old) × ((d : _) (e : _) → RoseOften 16 (Li.count (slice_index_or stations.old.items i d).listener) (Li.count (slice_index_or stations.new.items i e).listener)) }
+    ensures cause { (HasEndedServing result.status → ⊥) → IfSome result.keeper (λ k. ServesNone (S.end setup.old) (S.end setup.new) (K.end keeper) (K.end k) result.status) }
+    ensures served { HasEndedServing result.status → (k : _) × (result.keeper ≡ Some k) × ServesBy Li.end T.end stations.old.items stations.new.items lock (S.end setup.old) (S.end setup.new) (K.end keeper) (K.end k) }
+    ensures done { result.status ≡ Status.Done → AllHaveNone Li.end stations.new.items }
+    ensures failed { result.status ≡ Status.ListenFault → OneFailed Li.end stations.old.items stations.new.items }
 {
     let mut keeper = keeper;
     let (routes, desk) = match start(alloc, setup, &mut keeper) {
@@ -181,25 +172,25 @@ where
     Li::End: Send,
     // There are as many stations as the words say workers.
     requires stations { (text : List ℕ) (listen : List ℕ) (workers : ℕ) (lock : LockOf) (store : Option (List ℕ)) → Asks words.now (Serve text listen workers lock store) → vec_len stations.old ≡ workers }
-    requires held { K.honest keeper → (rows : List KeptRow) × K.holds keeper rows }
+    requires held { (K.end keeper).honest → (rows : List KeptRow) × (K.end keeper).holds rows }
     // Words are told to be no form only where they are none; then that is told, or there was no memory, and nothing is read or served.
     ensures usage { result.status ≡ Status.Usage → IsServeForm words.now → ⊥ }
-    ensures no_form { (IsServeForm words.now → ⊥) → ((result.status ≡ Status.Usage) ⊎ (result.status ≡ Status.NoMemory)) × (result.keeper ≡ Some keeper) × Keeps (S.left setup.old) (S.left setup.new) × (S.count setup.new ≡ S.count setup.old) }
+    ensures no_form { (IsServeForm words.now → ⊥) → ((result.status ≡ Status.Usage) ⊎ (result.status ≡ Status.NoMemory)) × (result.keeper ≡ Some keeper) × IsUntouched (S.end setup.old) (S.end setup.new) }
     // The setup's source failed at no call of a run that does not say so.
-    ensures read_on { result.status ≢ Status.ReadFault → S.count setup.new ≡ S.count setup.old }
-    ensures keeper { result.keeper ≡ None → (result.status ≡ Status.NoMemory) × ((k : _) × (desk : Standing) × OpensOne (S.left setup.old) (S.left setup.new) (K.honest k) (K.holds keeper) desk) }
+    ensures read_on { result.status ≢ Status.ReadFault → (S.end setup.new).count ≡ (S.end setup.old).count }
+    ensures keeper { result.keeper ≡ None → (result.status ≡ Status.NoMemory) × ((k : _) × (desk : Standing) × OpensOne (S.end setup.old) (S.end setup.new) (K.end keeper) (K.end k) desk) }
     ensures stations { vec_len stations.new ≡ vec_len stations.old }
     // Where no host served, the stations are as they were, and there is a cause.
     ensures none { (HasEndedServing result.status → ⊥) → stations.new.items ≡ stations.old.items }
-    ensures cause { IsServeForm words.now → (HasEndedServing result.status → ⊥) → IfSome result.keeper (λ k. ServesNone (S.left setup.old) (S.count setup.old) (S.count setup.new) (S.left setup.new) (K.count keeper) (K.count k) (K.honest k) (K.holds keeper) (K.holds k) result.status) }
+    ensures cause { IsServeForm words.now → (HasEndedServing result.status → ⊥) → IfSome result.keeper (λ k. ServesNone (S.end setup.old) (S.end setup.new) (K.end keeper) (K.end k) result.status) }
     // Where one served, it was one that the text opened over what the keeper held, by the lock that the words ask for. By a mutex each reply
     // over the links of the stations, which came back in order, was a turn of that host. By a lock with tickets all turns are one script,
     // played as promised, and the replies are its replies.
-    ensures served { HasEndedServing result.status → (k : _) × (result.keeper ≡ Some k) × ((lock : LockOf) × AsksLock words.now lock × ByLock lock (ServesIt (S.left setup.old) (S.left setup.new) (K.honest k) (K.holds keeper) (K.holds k) (λ desk passes. (length passes ≡ vec_len stations.old) × AtEach (λ s. Li.told s.listener) (λ s. clock_of (T.left s.ticker) (T.count s.ticker)) stations.old.items stations.new.items (λ i. WasServed desk (slice_index_or passes i fresh)))) (ServesInOrder (S.left setup.old) (S.left setup.new) (K.honest k) (K.holds keeper) (K.holds k) (K.count keeper) (K.count k) (λ lists. (length lists ≡ vec_len stations.old) × AtEach (λ s. Li.told s.listener) (λ s. clock_of (T.left s.ticker) (T.count s.ticker)) stations.old.items stations.new.items (λ i. WasServedInOrder (slice_index_or lists i []))))) }
-    ensures done { result.status ≡ Status.Done → All (λ s. HasNone (Li.told s.listener)) stations.new.items }
-    ensures failed { result.status ≡ Status.ListenFault → (i : ℕ) × (i < vec_len stations.old) × ((d : _) (e : _) → RoseOften 16 (Li.count (slice_index_or stations.old.items i d).listener) (Li.count (slice_index_or stations.new.items i e).listener)) }
+    ensures served { HasEndedServing result.status → ServesAsked Li.end T.end stations.old.items stations.new.items words.now (S.end setup.old) (S.end setup.new) K.end keeper result.keeper }
+    ensures done { result.status ≡ Status.Done → AllHaveNone Li.end stations.new.items }
+    ensures failed { result.status ≡ Status.ListenFault → OneFailed Li.end stations.old.items stations.new.items }
     // A text within the limit that is accepted, over rows that are read, is served, or there was no memory, or the keeper failed in opening.
-    ensures complete { (text : List ℕ) (lists : Lists) (kept : List KeptRow) (held : Held) → IsServeForm words.now → S.left setup.old ≡ Some text → length text ≤ setup_limit → lists_in text ≡ Ok lists → K.holds keeper kept → judged kept ≡ Ok held → (Rose (S.count setup.old) (S.count setup.new) → ⊥) → IfSome result.keeper (λ k. K.honest k → HasEndedServing result.status ⊎ ((result.status ≡ Status.NoMemory) ⊎ ((result.status ≡ Status.OpenFault) × Rose (K.count keeper) (K.count k)))) }
+    ensures complete { IsServeForm words.now → WhereOpens (S.end setup.old) (S.end setup.new) (K.end keeper) (IfSome result.keeper (λ k. ServesUnlessHindered (K.end keeper) (K.end k) result.status)) }
 {
     match asked_lock(alloc, words) {
         Ok(lock) => serve_text(rt, alloc, lock, setup, stations, keeper),

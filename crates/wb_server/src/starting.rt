@@ -9,20 +9,17 @@ ghost use Rattle.wb_server.specs.Serves.{IsText, ServesNone, Unread};
 
 use crate::open_by;
 use std::alloc::Global;
-use wb_base::{Keeper, Source};
+use wb_base::{Keeper, Source, limits};
 use wb_cli::Status;
 use wb_desk::Desk;
 use wb_wire::Routes;
 
-/// How many bytes a setup's text has at most.
-const SETUP_LIMIT: usize = 1_048_576;
-
 // The text of the setup, read to its end.
 fn read_text<S: Source>(alloc: Global, setup: &mut S) -> Result<Vec<u8>, Status>
-    ensures ok { IfOk result (λ text. IsText (S.left setup.old) (S.left setup.new) text.items) }
-    ensures err { IfErr result (λ status. Unread (S.left setup.old) (S.count setup.old) (S.count setup.new) status) }
-    ensures later { S.count setup.old ≤ S.count setup.new }
-    ensures stayed { result ≢ Err Status.ReadFault → S.count setup.new ≡ S.count setup.old }
+    ensures ok { IfOk result (λ text. IsText (S.end setup.old) (S.end setup.new) text.items) }
+    ensures err { IfErr result (λ status. Unread (S.end setup.old) (S.end setup.new) status) }
+    ensures later { (S.end setup.old).count ≤ (S.end setup.new).count }
+    ensures stayed { result ≢ Err Status.ReadFault → (S.end setup.new).count ≡ (S.end setup.old).count }
 {
     let mut text = Vec::new(alloc);
     let mut piece = [0; 8_192];
@@ -34,7 +31,7 @@ fn read_text<S: Source>(alloc: Global, setup: &mut S) -> Result<Vec<u8>, Status>
         if count == 0 {
             return Ok(text);
         }
-        if SETUP_LIMIT - text.len() < count {
+        if limits::SETUP_BYTES - text.len() < count {
             return Err(Status::BadFrame(0));
         }
         match text.extend_from_slice(&piece[..count]) {
@@ -51,10 +48,10 @@ pub fn start<S: Source, K: Keeper>(
     setup: &mut S,
     keeper: &mut K,
 ) -> Result<(Routes, Desk), Status>
-    ensures ok { IfOk result (λ started. (text : _) × IsText (S.left setup.old) (S.left setup.new) text × ((loaded : List Row) × (start : Past AllOpened) × Opens (K.count keeper.old) (K.count keeper.new) (K.honest keeper.new) (K.holds keeper.old) (K.holds keeper.new) loaded text start (hosts_of started.1))) }
-    ensures err { IfErr result (λ status. ServesNone (S.left setup.old) (S.count setup.old) (S.count setup.new) (S.left setup.new) (K.count keeper.old) (K.count keeper.new) (K.honest keeper.new) (K.holds keeper.old) (K.holds keeper.new) status) }
-    ensures back { K.honest keeper.new → K.honest keeper.old }
-    ensures stayed { result ≢ Err Status.ReadFault → S.count setup.new ≡ S.count setup.old }
+    ensures ok { IfOk result (λ started. (text : _) × IsText (S.end setup.old) (S.end setup.new) text × ((loaded : List Row) × (start : Past AllOpened) × Opens (K.end keeper.old) (K.end keeper.new) loaded text start (hosts_of started.1))) }
+    ensures err { IfErr result (λ status. ServesNone (S.end setup.old) (S.end setup.new) (K.end keeper.old) (K.end keeper.new) status) }
+    ensures back { (K.end keeper.new).honest → (K.end keeper.old).honest }
+    ensures stayed { result ≢ Err Status.ReadFault → (S.end setup.new).count ≡ (S.end setup.old).count }
 {
     let Ok(routes) = Routes::new(alloc) else {
         return Err(Status::NoMemory);

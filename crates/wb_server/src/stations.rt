@@ -1,12 +1,11 @@
 //! A host is served behind a mutex, and taken apart at the end.
-ghost use Rattle.std.specs.Prelude.{◌≡◌, ◌<◌, ◌≤◌, ◌+◌, ℕ, List, true, false, All, length, vec_len, vec_capacity, slice_index_or, IfOk, IfErr};
+ghost use Rattle.std.specs.Prelude.{◌≡◌, ◌<◌, ◌≤◌, ◌+◌, List, true, false, All, vec_len, vec_capacity, IfOk, IfErr};
 ghost use Rattle.wb_model.specs.Drawn.{numbers_of};
 ghost use Rattle.wb_model.specs.Rows.{rows_of};
 ghost use Rattle.wb_tables.specs.Standing.{hosts_of};
 ghost use Rattle.wb_desk.specs.GoneOn.{IsLater};
 ghost use Rattle.wb_desk.specs.Hosted.{Hand, turns_of, numbers_drawn, fresh};
-ghost use Rattle.wb_front.specs.Attended.{clock_of, RoseOften};
-ghost use Rattle.wb_server.specs.Workers.{AtEach, HasNone, WasServed};
+ghost use Rattle.wb_server.specs.Workers.{AllHaveNone, OneFailed, AreServed};
 
 use crate::placing::{place, unplace};
 use crate::worker::attend_all;
@@ -65,21 +64,21 @@ fn serve_on<
 where
     Li::End: Send,
     requires some { 0 < vec_len stations.old }
-    requires kept { K.honest keeper → K.holds keeper (rows_of (hosts_of desk).list) }
+    requires kept { (K.end keeper).honest → (K.end keeper).holds (rows_of (hosts_of desk).list) }
     requires opened { A.desk ≡ desk }
-    requires honest { (K.honest keeper → A.honest) × (A.honest → K.honest keeper) }
+    requires honest { ((K.end keeper).honest → A.honest) × (A.honest → (K.end keeper).honest) }
     requires turns { (turns.name ≡ A.name) × (turns.parts ≡ A.parts) × (turns.parts ≡ vec_len stations.old) }
     requires numbers { (numbers.name ≡ B.name) × (numbers.parts ≡ B.parts) × (numbers.parts ≡ vec_len stations.old) }
     ensures stations { vec_len stations.new ≡ vec_len stations.old }
     // The passes, one a station, took part in all turns of the host that was given, and it has gone on by these.
-    ensures served { IfOk result (λ ended. (passes : List Hand) × (length passes ≡ vec_len stations.old) × (turns_of passes ≡ ended.closed.turns) × (numbers_drawn passes ≡ ended.closed.numbers) × AtEach (λ s. Li.told s.listener) (λ s. clock_of (T.left s.ticker) (T.count s.ticker)) stations.old.items stations.new.items (λ i. WasServed desk (slice_index_or passes i fresh))) }
+    ensures served { IfOk result (λ ended. (passes : List Hand) × (turns_of passes ≡ ended.closed.turns) × (numbers_drawn passes ≡ ended.closed.numbers) × AreServed Li.end T.end stations.old.items stations.new.items desk passes) }
     ensures later { IfOk result (λ ended. IsLater desk ended.closed.turns ended.closed.desk) }
     ensures books { IfOk result (λ ended. (ended.closed.desk.turns ≡ desk.turns + ended.closed.turns) × (numbers_of (hosts_of ended.closed.desk) ≡ numbers_of (hosts_of desk) + ended.closed.numbers)) }
-    ensures left { IfOk result (λ e. e.all ≡ true → All (λ s. HasNone (Li.told s.listener)) stations.new.items) }
-    ensures failed { IfOk result (λ e. e.all ≡ false → (i : ℕ) × (i < vec_len stations.old) × ((d : _) (e : _) → RoseOften 16 (Li.count (slice_index_or stations.old.items i d).listener) (Li.count (slice_index_or stations.new.items i e).listener))) }
+    ensures left { IfOk result (λ e. e.all ≡ true → AllHaveNone Li.end stations.new.items) }
+    ensures failed { IfOk result (λ e. e.all ≡ false → OneFailed Li.end stations.old.items stations.new.items) }
     ensures none { IfErr result (λ _. stations.new.items ≡ stations.old.items) }
-    ensures kept { IfOk result (λ e. K.honest e.closed.keeper → K.holds e.closed.keeper (rows_of (hosts_of e.closed.desk).list)) }
-    ensures honest { IfOk result (λ e. K.honest e.closed.keeper → K.honest keeper) }
+    ensures kept { IfOk result (λ e. (K.end e.closed.keeper).honest → (K.end e.closed.keeper).holds (rows_of (hosts_of e.closed.desk).list)) }
+    ensures honest { IfOk result (λ e. (K.end e.closed.keeper).honest → (K.end keeper).honest) }
 {
     let count = stations.len();
     let mut workers = Vec::with_capacity(alloc, count)?;
@@ -109,17 +108,17 @@ pub fn serve_all<K: Keeper + Send, Li: Listener + Send, T: Ticker + Send, R: Thr
 where
     Li::End: Send,
     requires some { 0 < vec_len stations.old }
-    requires kept { K.honest keeper → K.holds keeper (rows_of (hosts_of desk).list) }
+    requires kept { (K.end keeper).honest → (K.end keeper).holds (rows_of (hosts_of desk).list) }
     ensures stations { vec_len stations.new ≡ vec_len stations.old }
     // The passes, one a station, took part in all turns of the host that was given, and it has gone on by these.
-    ensures served { IfOk result (λ ended. (passes : List Hand) × (length passes ≡ vec_len stations.old) × (turns_of passes ≡ ended.closed.turns) × (numbers_drawn passes ≡ ended.closed.numbers) × AtEach (λ s. Li.told s.listener) (λ s. clock_of (T.left s.ticker) (T.count s.ticker)) stations.old.items stations.new.items (λ i. WasServed desk (slice_index_or passes i fresh))) }
+    ensures served { IfOk result (λ ended. (passes : List Hand) × (turns_of passes ≡ ended.closed.turns) × (numbers_drawn passes ≡ ended.closed.numbers) × AreServed Li.end T.end stations.old.items stations.new.items desk passes) }
     ensures later { IfOk result (λ ended. IsLater desk ended.closed.turns ended.closed.desk) }
     ensures books { IfOk result (λ ended. (ended.closed.desk.turns ≡ desk.turns + ended.closed.turns) × (numbers_of (hosts_of ended.closed.desk) ≡ numbers_of (hosts_of desk) + ended.closed.numbers)) }
-    ensures left { IfOk result (λ e. e.all ≡ true → All (λ s. HasNone (Li.told s.listener)) stations.new.items) }
-    ensures failed { IfOk result (λ e. e.all ≡ false → (i : ℕ) × (i < vec_len stations.old) × ((d : _) (e : _) → RoseOften 16 (Li.count (slice_index_or stations.old.items i d).listener) (Li.count (slice_index_or stations.new.items i e).listener))) }
+    ensures left { IfOk result (λ e. e.all ≡ true → AllHaveNone Li.end stations.new.items) }
+    ensures failed { IfOk result (λ e. e.all ≡ false → OneFailed Li.end stations.old.items stations.new.items) }
     ensures none { IfErr result (λ _. stations.new.items ≡ stations.old.items) }
-    ensures kept { IfOk result (λ e. K.honest e.closed.keeper → K.holds e.closed.keeper (rows_of (hosts_of e.closed.desk).list)) }
-    ensures honest { IfOk result (λ e. K.honest e.closed.keeper → K.honest keeper) }
+    ensures kept { IfOk result (λ e. (K.end e.closed.keeper).honest → (K.end e.closed.keeper).holds (rows_of (hosts_of e.closed.desk).list)) }
+    ensures honest { IfOk result (λ e. (K.end e.closed.keeper).honest → (K.end keeper).honest) }
 {
     let parts = stations.len() as u64;
     serve_on::<K, Brand, Brand, Li, T, R>(

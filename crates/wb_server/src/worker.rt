@@ -1,7 +1,6 @@
 //! A worker: a station, what it has of the gate, and how it ended.
 ghost use Rattle.std.specs.Prelude.{◌≡◌, ◌<◌, ℕ, All, length, slice_index_or};
-ghost use Rattle.wb_front.specs.Attended.{clock_of, RoseOften};
-ghost use Rattle.wb_server.specs.Workers.{HasEnded, IsServed};
+ghost use Rattle.wb_server.specs.Workers.{HasEnded, WorkerServed, WorkerFailed};
 
 use std::alloc::Global;
 use std::sync::Wait;
@@ -51,9 +50,9 @@ fn attend<
     requires of { G.of gate.now worker.old.own }
     ensures of { G.of gate.now worker.new.own }
     ensures parts { G.parts worker.new.own ≡ G.parts worker.old.own }
-    ensures served { IsServed (λ own frame told own'. G.ran own frame told own') (Li.told worker.old.station.listener) (Li.told worker.new.station.listener) worker.old.own worker.new.own (clock_of (T.left worker.old.station.ticker) (T.count worker.old.station.ticker)) (clock_of (T.left worker.new.station.ticker) (T.count worker.new.station.ticker)) }
-    ensures ended { HasEnded (Li.told worker.new.station.listener) worker.new.worked }
-    ensures failed { worker.new.worked ≡ Worked.ListenFault → RoseOften 16 (Li.count worker.old.station.listener) (Li.count worker.new.station.listener) }
+    ensures served { WorkerServed (λ own frame told own'. G.ran own frame told own') Li.end T.end worker.old worker.new }
+    ensures ended { HasEnded (Li.end worker.new.station.listener) worker.new.worked }
+    ensures failed { WorkerFailed Li.end worker.old worker.new }
 {
     let Worker {
         own,
@@ -81,9 +80,9 @@ where
     ensures len { length workers.new ≡ length workers.old }
     ensures of { All (λ w. G.of gate.now w.own) workers.new }
     ensures parts { (i : ℕ) (d : _) → i < length workers.old → G.parts (slice_index_or workers.new i d).own ≡ G.parts (slice_index_or workers.old i d).own }
-    ensures served { (i : ℕ) (d : _) → i < length workers.old → IsServed (λ own frame told own'. G.ran own frame told own') (Li.told (slice_index_or workers.old i d).station.listener) (Li.told (slice_index_or workers.new i d).station.listener) (slice_index_or workers.old i d).own (slice_index_or workers.new i d).own (clock_of (T.left (slice_index_or workers.old i d).station.ticker) (T.count (slice_index_or workers.old i d).station.ticker)) (clock_of (T.left (slice_index_or workers.new i d).station.ticker) (T.count (slice_index_or workers.new i d).station.ticker)) }
-    ensures ended { All (λ w. HasEnded (Li.told w.station.listener) w.worked) workers.new }
-    ensures failed { (i : ℕ) (d : _) → i < length workers.old → (slice_index_or workers.new i d).worked ≡ Worked.ListenFault → RoseOften 16 (Li.count (slice_index_or workers.old i d).station.listener) (Li.count (slice_index_or workers.new i d).station.listener) }
+    ensures served { (i : ℕ) (d : _) → i < length workers.old → WorkerServed (λ own frame told own'. G.ran own frame told own') Li.end T.end (slice_index_or workers.old i d) (slice_index_or workers.new i d) }
+    ensures ended { All (λ w. HasEnded (Li.end w.station.listener) w.worked) workers.new }
+    ensures failed { (i : ℕ) (d : _) → i < length workers.old → WorkerFailed Li.end (slice_index_or workers.old i d) (slice_index_or workers.new i d) }
 {
     let threads = workers.len();
     thread::for_each_mut(
@@ -94,9 +93,9 @@ where
             requires of { G.of gate.now worker.old.own }
             ensures of { G.of gate.entry.now worker.new.own }
             ensures parts { G.parts worker.new.own ≡ G.parts worker.old.own }
-            ensures served { IsServed (λ own frame told own'. G.ran own frame told own') (Li.told worker.old.station.listener) (Li.told worker.new.station.listener) worker.old.own worker.new.own (clock_of (T.left worker.old.station.ticker) (T.count worker.old.station.ticker)) (clock_of (T.left worker.new.station.ticker) (T.count worker.new.station.ticker)) }
-            ensures ended { HasEnded (Li.told worker.new.station.listener) worker.new.worked }
-            ensures failed { worker.new.worked ≡ Worked.ListenFault → RoseOften 16 (Li.count worker.old.station.listener) (Li.count worker.new.station.listener) }
+            ensures served { WorkerServed (λ own frame told own'. G.ran own frame told own') Li.end T.end worker.old worker.new }
+            ensures ended { HasEnded (Li.end worker.new.station.listener) worker.new.worked }
+            ensures failed { WorkerFailed Li.end worker.old worker.new }
         { attend(rt, alloc, gate, routes, worker) },
     );
 }

@@ -59,11 +59,7 @@ fn give(into: &mut [u8]) -> usize
 }
 
 impl Link for HeldLink {
-    ghost left = { λ _. None };
-
-    ghost got = { λ _. None };
-
-    ghost count = { λ _. 0 };
+    ghost end = { λ _. record { left = None; got = None; count = 0 } };
 
     fn faults(&self) -> u64 {
         0
@@ -114,9 +110,7 @@ impl OneLink {
 impl Listener for OneLink {
     type End = HeldLink;
 
-    ghost told = { λ _. None };
-
-    ghost count = { λ _. 0 };
+    ghost end = { λ _. record { told = None; count = 0 } };
 
     fn faults(&self) -> u64 {
         0

@@ -13,7 +13,7 @@ use crate::toml_values::{
 };
 use std::alloc::Global;
 use toml::Value;
-use wb_base::{Calendar, Day, UserId, are_holidays};
+use wb_base::{Calendar, Day, UserId, are_holidays, limits};
 use wb_json::ReadError;
 use wb_list::Items;
 use wb_terms::read_date;
@@ -31,7 +31,7 @@ fn read_recipients(alloc: Global, value: &Value) -> Result<Items<UserId>, ReadEr
     ensures { Gives (recipients_of (view value.now)) result }
 {
     let users = read_list(alloc, value)?;
-    if 1 <= users.len() && users.len() <= 32 {
+    if 1 <= users.len() && users.len() <= limits::READERS {
         Ok(users)
     } else {
         Err(ReadError::Other)
@@ -56,9 +56,9 @@ impl Part for GivenUser {
             return Err(ReadError::Other);
         }
         let id = user_id_under(value, "id")?;
-        let name = text_under(alloc, value, "name", 1, 64)?;
+        let name = text_under(alloc, value, "name", 1, limits::USER_NAME_BYTES)?;
         let role = role_under(value, "role")?;
-        let password = text_under(alloc, value, "password", 1, 128)?;
+        let password = text_under(alloc, value, "password", 1, limits::NAME_BYTES)?;
         let enabled = flag_under(value, "enabled")?;
         let may = rights_under(value, "may")?;
         Ok(GivenUser {
@@ -79,7 +79,7 @@ impl Part for GivenForm {
         if !has_only(value, &["form", "id"]) {
             return Err(ReadError::Other);
         }
-        let id = whole_under(value, "id", 1, 16)?;
+        let id = whole_under(value, "id", 1, limits::FORMS)?;
         let json = any_text_under(alloc, value, "form")?;
         Ok(GivenForm { id, json })
     }
@@ -95,10 +95,10 @@ impl Part for GivenContext {
         ) {
             return Err(ReadError::Other);
         }
-        let id = whole_under(value, "id", 1, 64)?;
-        let name = text_under(alloc, value, "name", 1, 128)?;
-        let form = whole_under(value, "form", 1, 16)?;
-        let retention = whole_under(value, "retention", 1, 3_650)?;
+        let id = whole_under(value, "id", 1, limits::CONTEXTS)?;
+        let name = text_under(alloc, value, "name", 1, limits::NAME_BYTES)?;
+        let form = whole_under(value, "form", 1, limits::FORMS)?;
+        let retention = whole_under(value, "retention", 1, limits::RETENTION_DAYS)?;
         let recipients = recipients_under(alloc, value, "recipients")?;
         let is_open = flag_under(value, "open")?;
         Ok(GivenContext {
@@ -160,11 +160,11 @@ impl Part for GivenTenant {
             return Err(ReadError::Other);
         }
         let id = tenant_id_under(value, "id")?;
-        let name = text_under(alloc, value, "name", 1, 128)?;
+        let name = text_under(alloc, value, "name", 1, limits::NAME_BYTES)?;
         let salt = salt_under(value, "salt")?;
         let offset = number_under(value, "offset", -720, 840)?;
-        let quota = whole_under(value, "quota", 1, 100_000)?;
-        let notice_days = whole_under(value, "notice_days", 0, 30)?;
+        let quota = whole_under(value, "quota", 1, limits::QUOTA)?;
+        let notice_days = whole_under(value, "notice_days", 0, limits::NOTICE_DAYS)?;
         let external = flag_if_under(value, "external")?;
         let calendar = calendar(alloc, value)?;
         let users = list_if_under(alloc, value, "user")?;

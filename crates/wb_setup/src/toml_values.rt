@@ -11,7 +11,7 @@ ghost use Rattle.wb_json.specs.Gives.{Gives};
 
 use std::alloc::Global;
 use toml::Value;
-use wb_base::{Role, Salt, Tenant, Text, UserId};
+use wb_base::{Role, Salt, Tenant, Text, UserId, limits};
 use wb_json::{ReadError, role_named, with_right};
 use wb_model::Rights;
 
@@ -186,7 +186,7 @@ pub fn user_id_under(value: &Value, key: &str) -> Result<UserId, ReadError>
 pub fn tenant_id_under(value: &Value, key: &str) -> Result<Tenant, ReadError>
     ensures { Gives (under key.now (whole 1 64) (view value.now)) result }
 {
-    let number = whole_under(value, key, 1, 64)?;
+    let number = whole_under(value, key, 1, limits::TENANTS)?;
     match Tenant::try_new(number) {
         Some(tenant) => Ok(tenant),
         None => Err(ReadError::Other),

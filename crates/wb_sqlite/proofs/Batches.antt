@@ -1,5 +1,5 @@
 -- What a batch of changes does to the told rows.
-use Rattle.std.proofs.Common.{◌≡◌, ◌⊎◌, ◌≤◌, ◌==◌, List, [], ◌∷◌, ◌++◌, All, true, inl, inr, refl, sym, subst, ◌∙◌, arith}
+use Rattle.std.proofs.Common.{◌≡◌, ◌⊎◌, ◌≤◌, ◌==◌, if◌then◌else◌, Some, List, [], ◌∷◌, ◌++◌, All, true, inl, inr, refl, sym, subst, ◌∙◌, arith}
 use Rattle.std.specs.List.{AllByRecursion}
 use Rattle.std.proofs.lemmas.Bool.{cases_Bool}
 use Rattle.std.proofs.lemmas.List.Elements.{All-head, All-tail}
@@ -13,33 +13,56 @@ use Rattle.wb_base.specs.declared.rows.Row.{Row}
 use Rattle.wb_base.specs.declared.rows.Change.{Change}
 use Rattle.wb_base.specs.declared.rows.Change.TheVariants.{Put, DropReport}
 use Rattle.wb_base.specs.KeptRows.{changed, all_changed, IsGoodChange}
-use Rattle.wb_stored.specs.Told.{Tells, HoldsRows, LeavesRows}
-use Rattle.wb_stored.proofs.Stands.{TellsBoth, both_made, both_tells, both_put_record, both_put_sealed, both_drop}
-use Rattle.wb_sqlite.specs.Statements.{Statement, Makes, make_tables, statements_of, all_statements, put_record, put_sealed, CommitsAll, IsAsCommitted}
+use Rattle.wb_stored.specs.Told.{Tells, HoldsRows, LeavesRows, IsOfRecord, IsOfSealed}
+use Rattle.wb_stored.specs.Texts as sql
+use Rattle.wb_stored.proofs.Stands.{TellsBoth, both_made, both_tells, both_put_record, both_put_sealed, both_insert_record, both_insert_sealed, both_drop}
+use Rattle.wb_sqlite.specs.Statements.{Statement, Ran, IsMade, Makes, make_tables, statements_of, all_statements, put_record, put_entry, put_sealed, CommitsAll, IsAsCommitted}
 
 module _ {S : Type 0} (g : Ghosts S) where
   -- what was made of two lists was made of one after the other
   makes_split : (xs ys : List Statement) (a c : Held S) → Makes g (xs ++ ys) a c → (b : Held S) × Makes g xs a b × Makes g ys b c
   makes_split [] ys a c made = (a, refl, made)
-  makes_split (x ∷ xs) ys a c (mid, count, made, rest) = let it = makes_split xs ys mid c rest in (it.0, (mid, count, made, it.1), it.2)
+  makes_split (x ∷ xs) ys a c (mid, made, rest) = let it = makes_split xs ys mid c rest in (it.0, (mid, made, it.1), it.2)
+
+  -- a row that is set
+  record_told : (row : Row) (a b : Held S) (rows : List Row) → IsOfRecord row → TellsBoth (state g a).now rows → Ran g sql.put_record (put_record row).given a b → TellsBoth (state g b).now (changed rows (Put row))
+  record_told row a b rows of told ran = both_put_record (state g a) (state g b) row ran.0 rows of told ran.1.0
+
+  -- a row that is inserted, or else set
+  entry_told : (row : Row) (a b : Held S) (rows : List Row) → IsOfRecord row → TellsBoth (state g a).now rows → IsMade g (Some sql.insert_record) sql.put_record (put_record row).given a b → TellsBoth (state g b).now (changed rows (Put row))
+  entry_told row a b rows of told (inl ran) = both_insert_record (state g a) (state g b) row ran.0 rows of told ran.1.0
+  entry_told row a b rows of told (inr (same, still, ran)) = record_told row same b rows of (subst (λ (d : Database). TellsBoth d rows) (sym still.0.now_is) told) ran
+
+  sealed_told : (row : Row) (a b : Held S) (rows : List Row) → IsOfSealed row → TellsBoth (state g a).now rows → IsMade g (Some sql.insert_sealed) sql.put_sealed (put_sealed row).given a b → TellsBoth (state g b).now (changed rows (Put row))
+  sealed_told row a b rows of told (inl ran) = both_insert_sealed (state g a) (state g b) row ran.0 rows of told ran.1.0
+  sealed_told row a b rows of told (inr (same, still, ran)) = both_put_sealed (state g same) (state g b) row ran.0 rows of (subst (λ (d : Database). TellsBoth d rows) (sym still.0.now_is) told) ran.1.0
+
+  low_told : (row : Row) (a b : Held S) (rows : List Row) → IsOfRecord row → TellsBoth (state g a).now rows → Makes g ((if row.key.kind == 6 then put_entry row else put_record row) ∷ []) a b → TellsBoth (state g b).now (changed rows (Put row))
+  low_told row a b rows of told made = elim (cases_Bool (row.key.kind == 6)) [
+    | inl e ↦
+        let it : Makes g (put_entry row ∷ []) a b = rw e at made in
+        subst (λ (h : Held S). TellsBoth (state g h).now (changed rows (Put row))) (sym it.2) (entry_told row a it.0 rows of told it.1)
+    | inr e ↦
+        let it : Makes g (put_record row ∷ []) a b = rw e at made in
+        subst (λ (h : Held S). TellsBoth (state g h).now (changed rows (Put row))) (sym it.2) (record_told row a it.0 rows of told it.1)
+  ]
 
   put_told : (row : Row) (a b : Held S) (rows : List Row) → IsGoodChange (Put row) → TellsBoth (state g a).now rows → Makes g (statements_of (Put row)) a b → TellsBoth (state g b).now (changed rows (Put row))
   put_told row a b rows good told made = elim (cases_Bool (row.key.kind == 7)) [
     | inl e ↦
         let is : row.key.kind ≡ 7 = grind (arith, nat_tests) in
         let it : Makes g (put_sealed row ∷ []) a b = rw e at made in
-        subst (λ (h : Held S). TellsBoth (state g h).now (changed rows (Put row))) (sym it.3) (both_put_sealed (state g a) (state g it.0) row it.1 rows (is, good.1 is) told it.2.0)
+        subst (λ (h : Held S). TellsBoth (state g h).now (changed rows (Put row))) (sym it.2) (sealed_told row a it.0 rows (is, good.1 is) told it.1)
     | inr e ↦
         let low : row.key.kind ≤ 6 = let top = good.0 in grind (arith, nat_tests) in
-        let it : Makes g (put_record row ∷ []) a b = rw e at made in
-        subst (λ (h : Held S). TellsBoth (state g h).now (changed rows (Put row))) (sym it.3) (both_put_record (state g a) (state g it.0) row it.1 rows low told it.2.0)
+        low_told row a b rows low told (rw e at made)
   ]
 
   change_told : (change : Change) (a b : Held S) (rows : List Row) → IsGoodChange change → TellsBoth (state g a).now rows → Makes g (statements_of change) a b → TellsBoth (state g b).now (changed rows change)
   change_told (Put row) a b rows good told made = put_told row a b rows good told made
   change_told (DropReport tenant number) a b rows good told first =
-      let second = first.3 in
-      subst (λ (h : Held S). TellsBoth (state g h).now (changed rows (DropReport tenant number))) (sym second.3) (both_drop (state g a) (state g first.0) (state g second.0) tenant number first.1 second.1 rows told first.2.0 second.2.0)
+      let second = first.2 in
+      subst (λ (h : Held S). TellsBoth (state g h).now (changed rows (DropReport tenant number))) (sym second.2) (both_drop (state g a) (state g first.0) (state g second.0) tenant number first.1.0 second.1.0 rows told first.1.1.0 second.1.1.0)
 
   -- all changes in turn
   all_told : (changes : List Change) (a b : Held S) (rows : List Row) → AllByRecursion IsGoodChange changes → TellsBoth (state g a).now rows → Makes g (all_statements changes) a b → TellsBoth (state g b).now (all_changed rows changes)
@@ -55,7 +78,7 @@ module _ {S : Type 0} (g : Ghosts S) where
       let it = makes_split make_tables (all_statements changes) begun c.last c.made in
       let first = it.1 in
       let tables : TellsBoth (state g it.0).now rows =
-      subst (λ (h : Held S). TellsBoth (state g h).now rows) (sym first.3.3) (both_made (state g begun) (state g first.0) (state g first.3.0) first.1 first.3.1 rows holds.told first.2.0 first.3.2.0) in
+      subst (λ (h : Held S). TellsBoth (state g h).now rows) (sym first.2.2) (both_made (state g begun) (state g first.0) (state g first.2.0) first.1.0 first.2.1.0 rows holds.told first.1.1.0 first.2.1.1.0) in
       subst (λ (d : Database). TellsBoth d (all_changed rows changes)) (sym c.now) (all_told changes it.0 c.last rows good tables it.2)
 
   pub commits_hold : (changes : List Change) (old new : Held S) (rows : List Row) → AllByRecursion IsGoodChange changes → HoldsRows (state g old) rows → CommitsAll g changes old new → HoldsRows (state g new) (all_changed rows changes)
@@ -95,7 +118,7 @@ module _ {S : Type 0} (g : Ghosts S) where
         | inr is ↦
             let at_start : Tells (state g start).now rows = subst (λ (h : Held S). Tells (state g h).now rows) (sym begun) holds.told in
             let at_mid : TellsBoth (state g mid).now rows =
-            subst (λ (h : Held S). TellsBoth (state g h).now rows) (sym tables.3.3) (both_made (state g start) (state g tables.0) (state g tables.3.0) tables.1 tables.3.1 rows at_start tables.2.0 tables.3.2.0) in
+            subst (λ (h : Held S). TellsBoth (state g h).now rows) (sym tables.2.2) (both_made (state g start) (state g tables.0) (state g tables.2.0) tables.1.0 tables.2.1.0 rows at_start tables.1.1.0 tables.2.1.1.0) in
             let told : Tells (state g last).now (all_changed rows changes) = both_tells (state g last).now (all_changed rows changes) (all_told changes mid last rows good at_mid made) in
             inr (last.schema, subst (λ (t : Trees). Tells (record { schema = last.schema; trees = t }) (all_changed rows changes)) (sym is) told)
       ]

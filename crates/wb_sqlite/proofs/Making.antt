@@ -1,17 +1,19 @@
 -- Statements made in turn: joined, and what they keep.
-use Rattle.std.proofs.Common.{◌≡◌, List, [], ◌∷◌, ◌++◌, Result, Ok, Err, IfOk, OnOk, OnErr, IsTrue, inl, inr, refl, sym, subst, ◌∙◌, arith, true, false}
+use Rattle.std.proofs.Common.{◌≡◌, ℕ, Option, Some, None, List, [], ◌∷◌, ◌++◌, Result, Ok, Err, IfOk, OnOk, OnErr, IsTrue, inl, inr, refl, sym, subst, ◌∙◌, arith, true, false}
+use Rattle.std.proofs.lemmas.Bool.{cases_Bool}
+use Rattle.sqlite_value.specs.Order.{Row as SqlRow}
 use Rattle.sqlite_trees.specs.declared.store.Store.{Ghosts}
 use Rattle.sqlite.specs.Held.{Held, state}
-use Rattle.sqlite.specs.State.{State, Survives, KeepsCommit}
+use Rattle.sqlite.specs.State.{State, Survives, KeepsCommit, IsUnchanged, ExecutesInside}
 use Rattle.sqlite.specs.Steps.{FailsToCommit}
 use Rattle.sqlite.specs.declared.error.Error.{Error}
 use Rattle.wb_base.specs.declared.rows.Change.{Change}
-use Rattle.wb_sqlite.specs.Statements.{Statement, Makes, statements_of, all_statements}
+use Rattle.wb_sqlite.specs.Statements.{Statement, IsMade, Makes, statements_of, all_statements}
 
 -- what is made after what was made is made after both
 pub makes_then : {S : Type 0} (g : Ghosts S) (xs ys : List Statement) (a b c : Held S) → Makes g xs a b → Makes g ys b c → Makes g (xs ++ ys) a c
 makes_then g [] ys a b c first second = subst (λ m. Makes g ys m c) first second
-makes_then g (x ∷ xs) ys a b c (mid, count, made, rest) second = (mid, count, made, makes_then g xs ys mid b c rest second)
+makes_then g (x ∷ xs) ys a b c (mid, made, rest) second = (mid, made, makes_then g xs ys mid b c rest second)
 
 -- nothing was committed by what committed nothing twice
 pub keeps_then : (a b c : State) → KeepsCommit a b → KeepsCommit b c → KeepsCommit a c
@@ -23,16 +25,27 @@ keeps_then a b c one two = record {
 pub keeps_same : (a : State) → KeepsCommit a a
 keeps_same a = record { was_open = λ up. up; committed = λ up. refl }
 
+-- after a statement the transaction is still open
+made_inside : {S : Type 0} (g : Ghosts S) (tried : Option (List ℕ)) (text : List ℕ) (given : SqlRow) (a b : Held S) → IsMade g tried text given a b → IsTrue b.in_transaction
+made_inside g None text given a b ran = ran.1.1.mode
+made_inside g (Some tried) text given a b (inl ran) = ran.1.1.mode
+made_inside g (Some tried) text given a b (inr (same, still, ran)) = ran.1.1.mode
+
+-- and it committed nothing
+made_keeps : {S : Type 0} (g : Ghosts S) (tried : Option (List ℕ)) (text : List ℕ) (given : SqlRow) (a b : Held S) → IsMade g tried text given a b → KeepsCommit (state g a) (state g b)
+made_keeps g None text given a b ran = record { was_open = λ up. ran.1.1.was_open; committed = λ up. ran.1.1.committed_is }
+made_keeps g (Some tried) text given a b (inl ran) = record { was_open = λ up. ran.1.1.was_open; committed = λ up. ran.1.1.committed_is }
+made_keeps g (Some tried) text given a b (inr (same, still, ran)) = record { was_open = λ up. still.0.was_open; committed = λ up. ran.1.1.committed_is ∙ still.0.committed_is }
+
 -- the transaction is still open
 pub makes_inside : {S : Type 0} (g : Ghosts S) (xs : List Statement) (a b : Held S) → Makes g xs a b → IsTrue a.in_transaction → IsTrue b.in_transaction
 makes_inside {S} g [] a b same inside = subst (λ (s : Held S). IsTrue s.in_transaction) (sym same) inside
-makes_inside g (x ∷ xs) a b (mid, count, made, rest) inside = makes_inside g xs mid b rest made.1.mode
+makes_inside g (x ∷ xs) a b (mid, made, rest) inside = makes_inside g xs mid b rest (made_inside g x.tried x.text x.given a mid made)
 
 -- nothing was committed
 pub makes_keeps : {S : Type 0} (g : Ghosts S) (xs : List Statement) (a b : Held S) → Makes g xs a b → KeepsCommit (state g a) (state g b)
 makes_keeps {S} g [] a b same = subst (λ (s : Held S). KeepsCommit (state g a) (state g s)) (sym same) (keeps_same (state g a))
-makes_keeps g (x ∷ xs) a b (mid, count, made, rest) =
-    keeps_then (state g a) (state g mid) (state g b) (record { was_open = λ up. made.1.was_open; committed = λ up. made.1.committed_is }) (makes_keeps g xs mid b rest)
+makes_keeps g (x ∷ xs) a b (mid, made, rest) = keeps_then (state g a) (state g mid) (state g b) (made_keeps g x.tried x.text x.given a mid made) (makes_keeps g xs mid b rest)
 
 -- what is made after what was made, if it is
 pub makes_on : {S T E : Type 0} (g : Ghosts S) (xs ys : List Statement) (a b c : Held S) (r : Result T E) → Makes g xs a b → OnOk r (Makes g ys b c) → OnOk r (Makes g (xs ++ ys) a c)
@@ -70,6 +83,22 @@ pub record IsUndone (a b : State) : Type 0 where
 pub commit_failed : (a b : State) (e : Error) → FailsToCommit a b e → IsTrue a.in_transaction → IsTrue b.is_open → IsUndone a b
 commit_failed a b e (inl (cause, is, why, back, told)) inside up = record { was_open = back.was_open up; now = (back.undone up).0; committed = (back.undone up).1 }
 commit_failed a b e (inr (is, outside, same)) inside up = absurd (let e : true ≡ false = sym inside ∙ outside in cc)
+
+-- in a transaction that is open still, a refused statement changed nothing
+refused_same : (sql : List ℕ) (params : SqlRow) (a b : State) (e : Error) → ExecutesInside 0 sql params a b (Err e) → IsTrue b.in_transaction → IsUnchanged a b
+refused_same sql params a b e (inl (ran, inl same)) inside = same
+refused_same sql params a b e (inl (ran, inr back)) inside = absurd (let e : true ≡ false = sym inside ∙ back.autocommit in cc)
+refused_same sql params a b e (inr (ends, is, same)) inside = same
+
+module _ {S T E : Type 0} (g : Ghosts S) (tried text : List ℕ) (given : SqlRow) (a mid b : Held S) (why : Error) (refused : ExecutesInside 0 tried given (state g a) (state g mid) (Err why)) where
+  -- where what is tried first is refused, the statement that is made then counts from before it
+  pub tried_made : (r : Result T E) → (IsTrue mid.in_transaction → OnOk r (Makes g (record { tried = None; text = text; given = given } ∷ []) mid b)) → (mid.in_transaction ≡ false → OnOk r ⊥)
+      → OnOk r (Makes g (record { tried = Some tried; text = text; given = given } ∷ []) a b)
+  tried_made (Ok value) made ended = elim (cases_Bool mid.in_transaction) [
+    | inl inside ↦ let it = made inside in (it.0, inr (mid, refused_same tried given (state g a) (state g mid) why refused inside, it.1), it.2)
+    | inr out ↦ absurd (ended out)
+  ]
+  tried_made (Err e) made ended = tt
 
 -- a premise within the outcome
 pub on_ok_if : {T E : Type 0} (P Q : Type 0) (r : Result T E) → (P → OnOk r Q) → OnOk r (P → Q)

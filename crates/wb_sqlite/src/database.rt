@@ -1,18 +1,17 @@
 //! What a keeper asks of a database.
-ghost use Rattle.std.specs.Prelude.{◌≡◌, ◌⊎◌, [], false, List, All, IsTrue, IfOk, OnOk, OnErr};
+ghost use Rattle.std.specs.Prelude.{◌≡◌, [], false, List, All, IsTrue, IfOk, OnOk, OnErr};
 ghost use Rattle.sqlite.specs.Held.{state};
 ghost use Rattle.sqlite.specs.State.{HasCleanDisk};
 ghost use Rattle.sqlite.specs.Given.{IsPlain};
 ghost use Rattle.sqlite.specs.Listing.{understood};
 ghost use Rattle.wb_list.specs.Keyed.{IsAscending};
 ghost use Rattle.wb_base.specs.declared.rows.Row.{Row as KeptRow};
-ghost use Rattle.wb_base.specs.KeptRows.{key_cmp, key_of, all_changed, IsGoodChange};
+ghost use Rattle.wb_base.specs.KeptRows.{key_cmp, key_of, IsGoodChange};
 ghost use Rattle.wb_sqlite.specs.Readings.{LoadsAll, Reads, read_record, read_sealed};
-ghost use Rattle.wb_sqlite.specs.Statements.{CommitsAll, IsAsCommitted};
+ghost use Rattle.wb_sqlite.specs.Statements.{CommitsAll, IsAsCommitted, LeavesChanged};
 ghost use Rattle.wb_sqlite.specs.Staying.{StaysAs};
 ghost use Rattle.wb_stored.specs.StoredRows.{IsRecordRow, IsSealedRow};
-ghost use Rattle.wb_stored.specs.Told.{HoldsRows, LeavesRows};
-ghost use Rattle.sqlite_trees.specs.Tree.{Trees};
+ghost use Rattle.wb_stored.specs.Told.{HoldsRows};
 
 use crate::refusal::Refusal;
 use crate::statements::{READ_RECORD, READ_SEALED, expect_all, make, make_all};
@@ -33,7 +32,7 @@ pub(crate) fn apply_all<S: Alter>(
     ensures back { HasCleanDisk (state S.Store conn.new) → IsTrue (state S.Store conn.new).is_open → IsTrue (state S.Store conn.old).is_open }
     ensures made { HasCleanDisk (state S.Store conn.new) → OnOk result (CommitsAll S.Store changes.now conn.old conn.new) }
     ensures kept { HasCleanDisk (state S.Store conn.new) → IsTrue (state S.Store conn.new).is_open → OnErr result (IsAsCommitted S.Store conn.old conn.new) }
-    ensures crash { HasCleanDisk (state S.Store conn.new) → All IsGoodChange changes.now → (rows : List KeptRow) → HoldsRows (state S.Store conn.old) rows → (db : Trees) → (state S.Store conn.new).may_leave db → (state S.Store conn.old).may_leave db ⊎ LeavesRows db (all_changed rows changes.now) }
+    ensures crash { HasCleanDisk (state S.Store conn.new) → All IsGoodChange changes.now → (rows : List KeptRow) → HoldsRows (state S.Store conn.old) rows → LeavesChanged S.Store changes.now rows conn.old conn.new }
 {
     let mut tx = conn.transaction();
     make(&mut tx)?;

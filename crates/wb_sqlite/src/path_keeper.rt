@@ -48,11 +48,7 @@ impl PathKeeper {
 impl Keeper for PathKeeper {
     ghost use Rattle.wb_sqlite.specs.PathFiles.{IsHonestFile, FileHolds};
 
-    ghost honest = { λ k. IsHonestFile k.file };
-
-    ghost holds = { λ k rows. FileHolds k.file rows };
-
-    ghost count = { λ k. k.faults };
+    ghost end = { λ k. record { honest = IsHonestFile k.file; holds = FileHolds k.file; count = k.faults } };
 
     fn faults(&self) -> u64 {
         self.faults

@@ -1,12 +1,11 @@
 //! A keeper of rows over a connection.
-ghost use Rattle.std.specs.Prelude.{◌≡◌, ◌≤◌, ◌⊎◌, false, [], List, All, IfOk, OnOk, OnErr, IsTrue};
+ghost use Rattle.std.specs.Prelude.{◌≡◌, ◌≤◌, false, [], List, All, IfOk, OnOk, OnErr, IsTrue};
 ghost use Rattle.sqlite.specs.Held.{state};
 ghost use Rattle.sqlite.specs.State.{HasCleanDisk};
 ghost use Rattle.sqlite.specs.Steps.{IsEmpty, over_memory};
 ghost use Rattle.sqlite.specs.Files.{over_files, image_of};
-ghost use Rattle.sqlite_wal.specs.Files.{image_at, outcomes};
+ghost use Rattle.sqlite_wal.specs.Files.{image_at};
 ghost use Rattle.sqlite_wal.specs.Reads.{AreClean};
-ghost use Rattle.sqlite_wal.specs.Recovery.{Image};
 ghost use Rattle.wb_list.specs.Keyed.{IsAscending};
 ghost use Rattle.wb_base.specs.Outside.{KeeperHasCause};
 ghost use Rattle.wb_base.specs.declared.rows.Row.{Row as KeptRow};
@@ -15,8 +14,9 @@ ghost use Rattle.wb_stored.specs.Told.{IsHonest, HoldsRows, LeavesRows};
 ghost use Rattle.wb_stored.specs.KeptFiles.{FilesHold, FilesHoldAlone};
 ghost use Rattle.sqlite_trees.specs.Tree.{Trees};
 ghost use Rattle.wb_sqlite.specs.Counts.{count_after};
+ghost use Rattle.wb_sqlite.specs.NewFiles.{OutcomesHold};
 ghost use Rattle.wb_sqlite.specs.Readings.{LoadsAll};
-ghost use Rattle.wb_sqlite.specs.Statements.{CommitsAll, IsAsCommitted};
+ghost use Rattle.wb_sqlite.specs.Statements.{CommitsAll, IsAsCommitted, LeavesChanged};
 
 use crate::database::{apply_all, load_all};
 use crate::opening::open_file;
@@ -107,7 +107,7 @@ impl<D: Disk + Drop> SqlKeeper<FileStore<D>> {
     pub fn close(self) -> Result<Files<D>, KeepErr>
         ensures usable { IfOk result (λ files. IsTrue (D.Disk.is_usable files.log) × IsTrue (D.Disk.is_usable files.db)) }
         ensures closed { IfOk result (λ files. AreClean D.Disk files.log files.db → (rows : List KeptRow) → HoldsRows (state over_files self.conn) rows → FilesHoldAlone (image_of D.Disk files) rows) }
-        ensures left { IfOk result (λ files. AreClean D.Disk files.log files.db → (rows : List KeptRow) → HoldsRows (state over_files self.conn) rows → (image : Image) → outcomes D.Disk files.log files.db image → FilesHoldAlone image rows) }
+        ensures left { IfOk result (λ files. AreClean D.Disk files.log files.db → (rows : List KeptRow) → HoldsRows (state over_files self.conn) rows → OutcomesHold D.Disk files rows) }
     {
         let SqlKeeper {
             conn,
@@ -128,11 +128,7 @@ impl<S: Alter + Drop> Keeper for SqlKeeper<S> {
     ghost use Rattle.sqlite.specs.Held.{state};
     ghost use Rattle.wb_stored.specs.Told.{IsHonest, HoldsRows};
 
-    ghost honest = { λ k. IsHonest (state S.Store k.conn) };
-
-    ghost holds = { λ k rows. HoldsRows (state S.Store k.conn) rows };
-
-    ghost count = { λ k. k.faults };
+    ghost end = { λ k. record { honest = IsHonest (state S.Store k.conn); holds = HoldsRows (state S.Store k.conn); count = k.faults } };
 
     fn faults(&self) -> u64 {
         self.faults
@@ -162,7 +158,7 @@ impl<S: Alter + Drop> Keeper for SqlKeeper<S> {
         ensures count { self.new.faults ≡ count_after self.old.faults result }
         ensures made { HasCleanDisk (state S.Store self.new.conn) → OnOk result (CommitsAll S.Store changes.now self.old.conn self.new.conn) }
         ensures kept { HasCleanDisk (state S.Store self.new.conn) → IsTrue (state S.Store self.new.conn).is_open → OnErr result (IsAsCommitted S.Store self.old.conn self.new.conn) }
-        ensures crash { HasCleanDisk (state S.Store self.new.conn) → (rows : List KeptRow) → HoldsRows (state S.Store self.old.conn) rows → (db : Trees) → (state S.Store self.new.conn).may_leave db → (state S.Store self.old.conn).may_leave db ⊎ LeavesRows db (all_changed rows changes.now) }
+        ensures crash { HasCleanDisk (state S.Store self.new.conn) → (rows : List KeptRow) → HoldsRows (state S.Store self.old.conn) rows → LeavesChanged S.Store changes.now rows self.old.conn self.new.conn }
         ensures durable { IsHonest (state S.Store self.new.conn) → (rows : List KeptRow) → HoldsRows (state S.Store self.new.conn) rows → (db : Trees) → (state S.Store self.new.conn).may_leave db → LeavesRows db rows }
     {
         match apply_all(&mut self.conn, changes) {

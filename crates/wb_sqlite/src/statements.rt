@@ -1,15 +1,15 @@
 //! The statements over the two tables, and what is made of changes with them.
-ghost use Rattle.std.specs.Prelude.{◌≡◌, ◌∷◌, [], IsTrue, OnOk, OnErr};
+ghost use Rattle.std.specs.Prelude.{◌≡◌, ◌∷◌, [], false, Some, None, OnOk, OnErr};
 ghost use Rattle.sqlite.specs.Held.{state};
-ghost use Rattle.sqlite.specs.State.{HasCleanDisk, IsUnchanged, Survives, KeepsCommit};
+ghost use Rattle.sqlite.specs.State.{HasCleanDisk, IsUnchanged, KeepsCommit};
 ghost use Rattle.sqlite.specs.Values.{bound};
 ghost use Rattle.wb_base.specs.declared.rows.Change.TheVariants.{Put};
-ghost use Rattle.wb_sqlite.specs.Statements.{Makes, make_tables, statements_of, all_statements, drop_trail, drop_sealed, put_record, put_sealed};
+ghost use Rattle.wb_sqlite.specs.Statements.{OkMakes, ErrKeeps, LeavesAsBefore, make_tables, statements_of, all_statements, drop_trail, drop_sealed, put_record, put_entry, put_sealed};
 
 use crate::refusal::Refusal;
 use sqlite::types::ValueRef;
-use sqlite::{Alter, Transaction, params};
-use wb_base::{Change, Row};
+use sqlite::{Alter, Error, ErrorCode, Transaction, params};
+use wb_base::{Change, Key, Row};
 use wb_stored::is_sealed;
 
 const MAKE_RECORD: &str =
@@ -23,6 +23,11 @@ const PUT_RECORD: &str =
 
 const PUT_SEALED: &str =
     "INSERT INTO sealed (tenant, a, body) VALUES (?1, ?2, ?3) ON CONFLICT (tenant, a) DO UPDATE SET body = excluded.body";
+
+const INSERT_RECORD: &str =
+    "INSERT INTO record (kind, tenant, a, b, body) VALUES (?1, ?2, ?3, ?4, ?5)";
+
+const INSERT_SEALED: &str = "INSERT INTO sealed (tenant, a, body) VALUES (?1, ?2, ?3)";
 
 const DROP_TRAIL: &str = "DELETE FROM record WHERE kind = 6 AND tenant = ?1 AND a = ?2";
 
@@ -51,20 +56,40 @@ fn run<S: Alter>(
     given: &[ValueRef<'_>],
 ) -> Result<(), Refusal>
     ensures same_reference { tx.new.conn.ghost_name ≡ tx.old.conn.ghost_name }
-    ensures made { HasCleanDisk (state S.Store tx.new.conn.now) → IsTrue tx.old.conn.now.in_transaction → OnOk result (Makes S.Store (record { text = text.now; given = bound given.now } ∷ []) tx.old.conn.now tx.new.conn.now) }
-    ensures kept { HasCleanDisk (state S.Store tx.new.conn.now) → IsTrue tx.old.conn.now.in_transaction → OnErr result (KeepsCommit (state S.Store tx.old.conn.now) (state S.Store tx.new.conn.now)) }
-    ensures survives { Survives (state S.Store tx.old.conn.now) (state S.Store tx.new.conn.now) (λ _. ⊥) }
+    ensures made { OkMakes S.Store (record { tried = None; text = text.now; given = bound given.now } ∷ []) tx.old.conn.now tx.new.conn.now result }
+    ensures ended { tx.old.conn.now.in_transaction ≡ false → OnOk result ⊥ × (tx.new.conn.now ≡ tx.old.conn.now) }
+    ensures kept { ErrKeeps S.Store tx.old.conn.now tx.new.conn.now result }
+    ensures survives { LeavesAsBefore S.Store tx.old.conn.now tx.new.conn.now }
 {
     tx.execute(text, given)?;
     Ok(())
 }
 
+// Sets a row that is new as a rule: it is inserted, and only where a row has its key already the statement is made.
+fn run_new<S: Alter>(
+    tx: &mut Transaction<'_, S>,
+    tried: &str,
+    text: &str,
+    given: &[ValueRef<'_>],
+) -> Result<(), Refusal>
+    ensures same_reference { tx.new.conn.ghost_name ≡ tx.old.conn.ghost_name }
+    ensures made { OkMakes S.Store (record { tried = Some tried.now; text = text.now; given = bound given.now } ∷ []) tx.old.conn.now tx.new.conn.now result }
+    ensures kept { ErrKeeps S.Store tx.old.conn.now tx.new.conn.now result }
+    ensures survives { LeavesAsBefore S.Store tx.old.conn.now tx.new.conn.now }
+{
+    match tx.execute(tried, given) {
+        Ok(_) => Ok(()),
+        Err(Error::SqliteFailure(ErrorCode::ConstraintViolation(_))) => run(tx, text, given),
+        Err(error) => Err(Refusal::from(error)),
+    }
+}
+
 /// Makes the tables that are not there.
 pub(crate) fn make<S: Alter>(tx: &mut Transaction<'_, S>) -> Result<(), Refusal>
     ensures same_reference { tx.new.conn.ghost_name ≡ tx.old.conn.ghost_name }
-    ensures made { HasCleanDisk (state S.Store tx.new.conn.now) → IsTrue tx.old.conn.now.in_transaction → OnOk result (Makes S.Store make_tables tx.old.conn.now tx.new.conn.now) }
-    ensures kept { HasCleanDisk (state S.Store tx.new.conn.now) → IsTrue tx.old.conn.now.in_transaction → OnErr result (KeepsCommit (state S.Store tx.old.conn.now) (state S.Store tx.new.conn.now)) }
-    ensures survives { Survives (state S.Store tx.old.conn.now) (state S.Store tx.new.conn.now) (λ _. ⊥) }
+    ensures made { OkMakes S.Store make_tables tx.old.conn.now tx.new.conn.now result }
+    ensures kept { ErrKeeps S.Store tx.old.conn.now tx.new.conn.now result }
+    ensures survives { LeavesAsBefore S.Store tx.old.conn.now tx.new.conn.now }
 {
     run(tx, MAKE_RECORD, &[])?;
     run(tx, MAKE_SEALED, &[])
@@ -75,7 +100,7 @@ fn expect<S: Alter>(tx: &mut Transaction<'_, S>, text: &str) -> Result<(), Refus
     ensures same_reference { tx.new.conn.ghost_name ≡ tx.old.conn.ghost_name }
     ensures same { HasCleanDisk (state S.Store tx.new.conn.now) → OnOk result (IsUnchanged (state S.Store tx.old.conn.now) (state S.Store tx.new.conn.now)) }
     ensures kept { HasCleanDisk (state S.Store tx.new.conn.now) → OnErr result (KeepsCommit (state S.Store tx.old.conn.now) (state S.Store tx.new.conn.now)) }
-    ensures survives { Survives (state S.Store tx.old.conn.now) (state S.Store tx.new.conn.now) (λ _. ⊥) }
+    ensures survives { LeavesAsBefore S.Store tx.old.conn.now tx.new.conn.now }
 {
     tx.prepare(text)?;
     Ok(())
@@ -88,7 +113,7 @@ pub(crate) fn expect_all<S: Alter>(tx: &mut Transaction<'_, S>) -> Result<(), Re
     ensures same { HasCleanDisk (state S.Store tx.new.conn.now) → OnOk result ((state S.Store tx.new.conn.now).now ≡ (state S.Store tx.old.conn.now).now) }
     ensures inside { HasCleanDisk (state S.Store tx.new.conn.now) → OnOk result (tx.new.conn.now.in_transaction ≡ tx.old.conn.now.in_transaction) }
     ensures keeps { HasCleanDisk (state S.Store tx.new.conn.now) → KeepsCommit (state S.Store tx.old.conn.now) (state S.Store tx.new.conn.now) }
-    ensures survives { Survives (state S.Store tx.old.conn.now) (state S.Store tx.new.conn.now) (λ _. ⊥) }
+    ensures survives { LeavesAsBefore S.Store tx.old.conn.now tx.new.conn.now }
 {
     for text in SIX {
         expect(tx, text)?;
@@ -99,9 +124,9 @@ pub(crate) fn expect_all<S: Alter>(tx: &mut Transaction<'_, S>) -> Result<(), Re
 // Sets the text under a key in `record`.
 fn write_record<S: Alter>(tx: &mut Transaction<'_, S>, row: &Row) -> Result<(), Refusal>
     ensures same_reference { tx.new.conn.ghost_name ≡ tx.old.conn.ghost_name }
-    ensures made { HasCleanDisk (state S.Store tx.new.conn.now) → IsTrue tx.old.conn.now.in_transaction → OnOk result (Makes S.Store (put_record row.now ∷ []) tx.old.conn.now tx.new.conn.now) }
-    ensures kept { HasCleanDisk (state S.Store tx.new.conn.now) → IsTrue tx.old.conn.now.in_transaction → OnErr result (KeepsCommit (state S.Store tx.old.conn.now) (state S.Store tx.new.conn.now)) }
-    ensures survives { Survives (state S.Store tx.old.conn.now) (state S.Store tx.new.conn.now) (λ _. ⊥) }
+    ensures made { OkMakes S.Store (put_record row.now ∷ []) tx.old.conn.now tx.new.conn.now result }
+    ensures kept { ErrKeeps S.Store tx.old.conn.now tx.new.conn.now result }
+    ensures survives { LeavesAsBefore S.Store tx.old.conn.now tx.new.conn.now }
 {
     let key = row.key;
     let kind = u32::from(key.kind);
@@ -113,27 +138,52 @@ fn write_record<S: Alter>(tx: &mut Transaction<'_, S>, row: &Row) -> Result<(), 
     )
 }
 
+// Sets the text of an entry of a trail in `record`.
+fn write_entry<S: Alter>(tx: &mut Transaction<'_, S>, row: &Row) -> Result<(), Refusal>
+    ensures same_reference { tx.new.conn.ghost_name ≡ tx.old.conn.ghost_name }
+    ensures made { OkMakes S.Store (put_entry row.now ∷ []) tx.old.conn.now tx.new.conn.now result }
+    ensures kept { ErrKeeps S.Store tx.old.conn.now tx.new.conn.now result }
+    ensures survives { LeavesAsBefore S.Store tx.old.conn.now tx.new.conn.now }
+{
+    let key = row.key;
+    let kind = u32::from(key.kind);
+    let text = row.text.as_str();
+    run_new(
+        tx,
+        INSERT_RECORD,
+        PUT_RECORD,
+        params![kind, key.tenant, key.a, key.b, text],
+    )
+}
+
 // Sets the text under a key in `sealed`.
 fn write_sealed<S: Alter>(tx: &mut Transaction<'_, S>, row: &Row) -> Result<(), Refusal>
     ensures same_reference { tx.new.conn.ghost_name ≡ tx.old.conn.ghost_name }
-    ensures made { HasCleanDisk (state S.Store tx.new.conn.now) → IsTrue tx.old.conn.now.in_transaction → OnOk result (Makes S.Store (put_sealed row.now ∷ []) tx.old.conn.now tx.new.conn.now) }
-    ensures kept { HasCleanDisk (state S.Store tx.new.conn.now) → IsTrue tx.old.conn.now.in_transaction → OnErr result (KeepsCommit (state S.Store tx.old.conn.now) (state S.Store tx.new.conn.now)) }
-    ensures survives { Survives (state S.Store tx.old.conn.now) (state S.Store tx.new.conn.now) (λ _. ⊥) }
+    ensures made { OkMakes S.Store (put_sealed row.now ∷ []) tx.old.conn.now tx.new.conn.now result }
+    ensures kept { ErrKeeps S.Store tx.old.conn.now tx.new.conn.now result }
+    ensures survives { LeavesAsBefore S.Store tx.old.conn.now tx.new.conn.now }
 {
     let key = row.key;
     let text = row.text.as_str();
-    run(tx, PUT_SEALED, params![key.tenant, key.a, text])
+    run_new(
+        tx,
+        INSERT_SEALED,
+        PUT_SEALED,
+        params![key.tenant, key.a, text],
+    )
 }
 
 // Sets the text under a row's key, in the table of its kind.
 fn put<S: Alter>(tx: &mut Transaction<'_, S>, row: &Row) -> Result<(), Refusal>
     ensures same_reference { tx.new.conn.ghost_name ≡ tx.old.conn.ghost_name }
-    ensures made { HasCleanDisk (state S.Store tx.new.conn.now) → IsTrue tx.old.conn.now.in_transaction → OnOk result (Makes S.Store (statements_of (Put row.now)) tx.old.conn.now tx.new.conn.now) }
-    ensures kept { HasCleanDisk (state S.Store tx.new.conn.now) → IsTrue tx.old.conn.now.in_transaction → OnErr result (KeepsCommit (state S.Store tx.old.conn.now) (state S.Store tx.new.conn.now)) }
-    ensures survives { Survives (state S.Store tx.old.conn.now) (state S.Store tx.new.conn.now) (λ _. ⊥) }
+    ensures made { OkMakes S.Store (statements_of (Put row.now)) tx.old.conn.now tx.new.conn.now result }
+    ensures kept { ErrKeeps S.Store tx.old.conn.now tx.new.conn.now result }
+    ensures survives { LeavesAsBefore S.Store tx.old.conn.now tx.new.conn.now }
 {
     if is_sealed(row.key.kind) {
         write_sealed(tx, row)
+    } else if row.key.kind == Key::ENTRY {
+        write_entry(tx, row)
     } else {
         write_record(tx, row)
     }
@@ -146,9 +196,9 @@ fn clear_trail<S: Alter>(
     number: u32,
 ) -> Result<(), Refusal>
     ensures same_reference { tx.new.conn.ghost_name ≡ tx.old.conn.ghost_name }
-    ensures made { HasCleanDisk (state S.Store tx.new.conn.now) → IsTrue tx.old.conn.now.in_transaction → OnOk result (Makes S.Store (drop_trail tenant number ∷ []) tx.old.conn.now tx.new.conn.now) }
-    ensures kept { HasCleanDisk (state S.Store tx.new.conn.now) → IsTrue tx.old.conn.now.in_transaction → OnErr result (KeepsCommit (state S.Store tx.old.conn.now) (state S.Store tx.new.conn.now)) }
-    ensures survives { Survives (state S.Store tx.old.conn.now) (state S.Store tx.new.conn.now) (λ _. ⊥) }
+    ensures made { OkMakes S.Store (drop_trail tenant number ∷ []) tx.old.conn.now tx.new.conn.now result }
+    ensures kept { ErrKeeps S.Store tx.old.conn.now tx.new.conn.now result }
+    ensures survives { LeavesAsBefore S.Store tx.old.conn.now tx.new.conn.now }
 {
     run(tx, DROP_TRAIL, params![tenant, number])
 }
@@ -160,9 +210,9 @@ fn clear_sealed<S: Alter>(
     number: u32,
 ) -> Result<(), Refusal>
     ensures same_reference { tx.new.conn.ghost_name ≡ tx.old.conn.ghost_name }
-    ensures made { HasCleanDisk (state S.Store tx.new.conn.now) → IsTrue tx.old.conn.now.in_transaction → OnOk result (Makes S.Store (drop_sealed tenant number ∷ []) tx.old.conn.now tx.new.conn.now) }
-    ensures kept { HasCleanDisk (state S.Store tx.new.conn.now) → IsTrue tx.old.conn.now.in_transaction → OnErr result (KeepsCommit (state S.Store tx.old.conn.now) (state S.Store tx.new.conn.now)) }
-    ensures survives { Survives (state S.Store tx.old.conn.now) (state S.Store tx.new.conn.now) (λ _. ⊥) }
+    ensures made { OkMakes S.Store (drop_sealed tenant number ∷ []) tx.old.conn.now tx.new.conn.now result }
+    ensures kept { ErrKeeps S.Store tx.old.conn.now tx.new.conn.now result }
+    ensures survives { LeavesAsBefore S.Store tx.old.conn.now tx.new.conn.now }
 {
     run(tx, DROP_SEALED, params![tenant, number])
 }
@@ -174,9 +224,9 @@ fn drop_report<S: Alter>(
     number: u32,
 ) -> Result<(), Refusal>
     ensures same_reference { tx.new.conn.ghost_name ≡ tx.old.conn.ghost_name }
-    ensures made { HasCleanDisk (state S.Store tx.new.conn.now) → IsTrue tx.old.conn.now.in_transaction → OnOk result (Makes S.Store (drop_trail tenant number ∷ drop_sealed tenant number ∷ []) tx.old.conn.now tx.new.conn.now) }
-    ensures kept { HasCleanDisk (state S.Store tx.new.conn.now) → IsTrue tx.old.conn.now.in_transaction → OnErr result (KeepsCommit (state S.Store tx.old.conn.now) (state S.Store tx.new.conn.now)) }
-    ensures survives { Survives (state S.Store tx.old.conn.now) (state S.Store tx.new.conn.now) (λ _. ⊥) }
+    ensures made { OkMakes S.Store (drop_trail tenant number ∷ drop_sealed tenant number ∷ []) tx.old.conn.now tx.new.conn.now result }
+    ensures kept { ErrKeeps S.Store tx.old.conn.now tx.new.conn.now result }
+    ensures survives { LeavesAsBefore S.Store tx.old.conn.now tx.new.conn.now }
 {
     clear_trail(tx, tenant, number)?;
     clear_sealed(tx, tenant, number)
@@ -185,9 +235,9 @@ fn drop_report<S: Alter>(
 // Makes a change.
 fn make_change<S: Alter>(tx: &mut Transaction<'_, S>, change: &Change) -> Result<(), Refusal>
     ensures same_reference { tx.new.conn.ghost_name ≡ tx.old.conn.ghost_name }
-    ensures made { HasCleanDisk (state S.Store tx.new.conn.now) → IsTrue tx.old.conn.now.in_transaction → OnOk result (Makes S.Store (statements_of change.now) tx.old.conn.now tx.new.conn.now) }
-    ensures kept { HasCleanDisk (state S.Store tx.new.conn.now) → IsTrue tx.old.conn.now.in_transaction → OnErr result (KeepsCommit (state S.Store tx.old.conn.now) (state S.Store tx.new.conn.now)) }
-    ensures survives { Survives (state S.Store tx.old.conn.now) (state S.Store tx.new.conn.now) (λ _. ⊥) }
+    ensures made { OkMakes S.Store (statements_of change.now) tx.old.conn.now tx.new.conn.now result }
+    ensures kept { ErrKeeps S.Store tx.old.conn.now tx.new.conn.now result }
+    ensures survives { LeavesAsBefore S.Store tx.old.conn.now tx.new.conn.now }
 {
     match change {
         Change::Put(row) => put(tx, row),
@@ -201,9 +251,9 @@ pub(crate) fn make_all<S: Alter>(
     changes: &[Change],
 ) -> Result<(), Refusal>
     ensures same_reference { tx.new.conn.ghost_name ≡ tx.old.conn.ghost_name }
-    ensures made { HasCleanDisk (state S.Store tx.new.conn.now) → IsTrue tx.old.conn.now.in_transaction → OnOk result (Makes S.Store (all_statements changes.now) tx.old.conn.now tx.new.conn.now) }
-    ensures kept { HasCleanDisk (state S.Store tx.new.conn.now) → IsTrue tx.old.conn.now.in_transaction → OnErr result (KeepsCommit (state S.Store tx.old.conn.now) (state S.Store tx.new.conn.now)) }
-    ensures survives { Survives (state S.Store tx.old.conn.now) (state S.Store tx.new.conn.now) (λ _. ⊥) }
+    ensures made { OkMakes S.Store (all_statements changes.now) tx.old.conn.now tx.new.conn.now result }
+    ensures kept { ErrKeeps S.Store tx.old.conn.now tx.new.conn.now result }
+    ensures survives { LeavesAsBefore S.Store tx.old.conn.now tx.new.conn.now }
 {
     for change in changes {
         make_change(tx, change)?;

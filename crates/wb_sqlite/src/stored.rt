@@ -14,7 +14,6 @@ use std::alloc::Global;
 use std::cmp::Ordering;
 use wb_base::{Key, Row, Text, TextFault};
 use wb_list::{Keyed, Sorted};
-use wb_stored::SEALED;
 
 // The number in a column, where it fits.
 fn number_at(row: &Stored, at: usize) -> Result<u32, Refusal>
@@ -62,7 +61,7 @@ pub(crate) fn sealed_row(alloc: Global, row: &Stored) -> Result<Row, Refusal>
     ensures { IfOk result (λ kept. IsSealedRow row.now kept) }
 {
     let key = Key {
-        kind: SEALED,
+        kind: Key::SEALED,
         tenant: number_at(row, 0)?,
         a: number_at(row, 1)?,
         b: 0,

@@ -17,7 +17,7 @@ use Rattle.wb_base.specs.declared.rows.Row.{Row}
 use Rattle.wb_stored.specs.Told.{IsKept, Stores}
 use Rattle.wb_stored.proofs.Once.{IsOnce}
 
-is_self : (a : ℤ) → is_eq (int_cmp a a) ≡ true
+pub is_self : (a : ℤ) → is_eq (int_cmp a a) ≡ true
 is_self a = grind (arith, ints, nat_tests)
 
 pub filter_table : (p : SqlRow → Bool) (rows : List SqlRow) → IsTable rows → IsTable (filter p rows)

@@ -27,7 +27,7 @@ use Rattle.wb_stored.proofs.Once.{IsOnce}
 use Rattle.wb_stored.proofs.Texts.{query_over}
 use Rattle.wb_stored.proofs.Parts.{passes, shows, chosen}
 use Rattle.wb_stored.proofs.Upserting.{offered, beside, LeftBy, Upserted}
-use Rattle.wb_stored.proofs.Kept.{IsPut, put_new, put_over}
+use Rattle.wb_stored.proofs.Kept.{IsPut, is_self, put_new, put_over}
 
 abbrev own_id : SqlRow → ℤ
 own_id r = id_in (rowid r)
@@ -40,9 +40,6 @@ is_at id r = is_eq (int_cmp (own_id r) id)
 
 not_back : (a b : ℤ) → int_cmp a b ≡ Less → is_eq (int_cmp b a) ≡ false
 not_back a b h = grind (arith, ints, nat_tests)
-
-is_self : (a : ℤ) → is_eq (int_cmp a a) ≡ true
-is_self a = grind (arith, ints, nat_tests)
 
 below : (x y : SqlRow) → HasOwn x → HasOwn y → value_cmp (rowid x) (rowid y) ≡ Less → int_cmp (own_id x) (own_id y) ≡ Less
 below x y p q h = sym (value_cmp-Int (own_id x) (own_id y)) ∙ (rw (p, q) at h)

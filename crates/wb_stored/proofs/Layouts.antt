@@ -1,4 +1,4 @@
--- Where the two tables stand in a schema, and what the six statements mean there.
+-- Where the two tables stand in a schema, and what the statements mean there.
 use Rattle.std.proofs.Common.{◌≡◌, ◌≢◌, ◌↔◌, ℕ, ℤ, Some, true, false, codes, slice_get, List, [], ◌∷◌, refl}
 use Rattle.std.specs.List.{AllByRecursion}
 use Rattle.sqlite_trees.specs.Tree.{Trees}
@@ -6,7 +6,7 @@ use Rattle.sqlite_schema.specs.declared.schema.Keys.TheVariants.{Enforced}
 use Rattle.sqlite_schema.specs.declared.command.Conflict.TheVariants.{Abort}
 use Rattle.sqlite_rules.specs.Action.{works}
 use Rattle.sqlite_rules.specs.Keys.{conflicts}
-use Rattle.sqlite.specs.Command.TheVariants.{Select, InsertOr, Delete}
+use Rattle.sqlite.specs.Command.TheVariants.{Select, Insert, InsertOr, Delete}
 use Rattle.sqlite.specs.Source.TheVariants.{Values}
 use Rattle.sqlite.specs.Order.{Row as SqlRow}
 use Rattle.sqlite.specs.Schema.{Schema}
@@ -48,6 +48,10 @@ pub record Layout : Type 0 where
   pub put_record_plain : IsPlain (understood schema text.put_record)
   pub put_sealed : command_of (understood schema text.put_sealed) ≡ InsertOr sealed_at Abort (Values text.sealed_terms 4) (text.on_key sealed_key (text.sealed_rewritten sealed_tree) ∷ [])
   pub put_sealed_plain : IsPlain (understood schema text.put_sealed)
+  pub insert_record : command_of (understood schema text.insert_record) ≡ Insert record_at (Values text.record_terms 6)
+  pub insert_record_plain : IsPlain (understood schema text.insert_record)
+  pub insert_sealed : command_of (understood schema text.insert_sealed) ≡ Insert sealed_at (Values text.sealed_terms 4)
+  pub insert_sealed_plain : IsPlain (understood schema text.insert_sealed)
 
 pub apart_first : ◌≢◌ {A = ℕ} 0 2
 apart_first e = cc
@@ -84,6 +88,10 @@ both = record {
   put_record_plain = text.put_record_both_plain;
   put_sealed = text.put_sealed_both;
   put_sealed_plain = text.put_sealed_both_plain;
+  insert_record = text.insert_record_both;
+  insert_record_plain = text.insert_record_both_plain;
+  insert_sealed = text.insert_sealed_both;
+  insert_sealed_plain = text.insert_sealed_both_plain;
 }
 
 abbrev pub turned : Layout
@@ -115,4 +123,8 @@ turned = record {
   put_record_plain = text.put_record_turned_plain;
   put_sealed = text.put_sealed_turned;
   put_sealed_plain = text.put_sealed_turned_plain;
+  insert_record = text.insert_record_turned;
+  insert_record_plain = text.insert_record_turned_plain;
+  insert_sealed = text.insert_sealed_turned;
+  insert_sealed_plain = text.insert_sealed_turned_plain;
 }

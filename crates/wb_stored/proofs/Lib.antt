@@ -1,8 +1,10 @@
 pub mod Deleting
 pub mod Empty
+pub mod Inserting
 pub mod Kept
 pub mod KeptDeletes
 pub mod KeptFiles
+pub mod KeptInserts
 pub mod KeptPuts
 pub mod Layouts
 pub mod Making

@@ -20,11 +20,13 @@ use Rattle.wb_stored.proofs.Texts as text
 use Rattle.wb_stored.proofs.Parts.{passes}
 use Rattle.wb_stored.proofs.Deleting.{deletes}
 use Rattle.wb_stored.proofs.Upserting.{LeftBy, Upserted, upserts}
+use Rattle.wb_stored.proofs.Inserting.{inserts}
 use Rattle.wb_stored.proofs.Making.{HasBoth, record_made, sealed_made, record_sound, sealed_sound}
 use Rattle.wb_stored.proofs.Once.{record_once, sealed_once}
 use Rattle.wb_stored.proofs.Kept.{keyed}
 use Rattle.wb_stored.proofs.KeptDeletes.{deleted_is}
 use Rattle.wb_stored.proofs.KeptPuts.{puts}
+use Rattle.wb_stored.proofs.KeptInserts.{puts_new}
 use Rattle.wb_stored.proofs.Values.{bound_record, bound_sealed, report_given, record_back, sealed_back, record_casts, sealed_casts, record_offers, sealed_offers, record_hit, sealed_hit, record_rewrites, sealed_rewrites}
 use Rattle.wb_stored.proofs.Layouts.{Layout, both, turned}
 use Rattle.wb_stored.proofs.ToldRows.{PutsRecord, PutsSealed, told_put_record, told_put_sealed, told_drop}
@@ -71,6 +73,32 @@ module _ (l : Layout) where
       (sealed_offers l.schema l.sealed_tree q) (sealed_casts l.sealed_tree) l.sealed_meets (sealed_hit l.schema l.sealed_tree q) (sealed_rewrites l.schema l.sealed_tree q) db next row of here (sealed_once old.now.schema db l.sealed_at name sealed_columns l.sealed_tree sound (subst (λ (known : Schema). slice_get known.tables l.sealed_at ≡ Some (sealed_table l.sealed_tree)) (sym lays.0) l.sealed_place)) u.1 in
       (next l.sealed_tree, (u.0, lays.1 ∙ sym (l.sealed_alone db next other), refl), subst (λ t. PutsSealed t (next l.sealed_tree) row) (sym lays.2) put, u.2)
 
+  insert_record : (old new : State) (row : Row) (count : ℕ) (records sealed : List SqlRow) → IsOfRecord row → IsKept stored_record IsOfRecord records → Lays old.now records sealed
+      → Executes text.insert_record (bound_record row) old new (Ok count) → (left : List SqlRow) × Lays new.now left sealed × PutsRecord records left row × IsDatabase new.now
+  insert_record old new row count records sealed of kept lays h =
+      let name = codes "record" in
+      let db = old.now.trees in
+      let next = new.now.trees in
+      let u = inserts l.schema name record_columns record_key l.record_tree text.record_terms l.record_free l.record_at l.record_place 6 (λ given. refl) text.insert_record (bound_record row) old new count lays.0 l.insert_record l.insert_record_plain h in
+      let here : IsKept stored_record IsOfRecord (db l.record_tree) = subst (IsKept stored_record IsOfRecord) lays.1 kept in
+      let once = record_once new.now.schema next l.record_at name record_columns l.record_tree u.2 (subst (λ (known : Schema). slice_get known.tables l.record_at ≡ Some (record_table l.record_tree)) (sym u.0) l.record_place) in
+      let put = puts_new stored_record IsOfRecord (λ id x. refl) record_back l.schema name record_columns record_key l.record_tree text.record_terms bound_record
+      (record_offers l.schema l.record_tree (text.record_rewritten l.record_tree)) db next row of here once u.1 in
+      (next l.record_tree, (u.0, refl, lays.2 ∙ sym (l.record_alone db next u.1.tables)), subst (λ t. PutsRecord t (next l.record_tree) row) (sym lays.1) put, u.2)
+
+  insert_sealed : (old new : State) (row : Row) (count : ℕ) (records sealed : List SqlRow) → IsOfSealed row → IsKept stored_sealed IsOfSealed sealed → Lays old.now records sealed
+      → Executes text.insert_sealed (bound_sealed row) old new (Ok count) → (left : List SqlRow) × Lays new.now records left × PutsSealed sealed left row × IsDatabase new.now
+  insert_sealed old new row count records sealed of kept lays h =
+      let name = codes "sealed" in
+      let db = old.now.trees in
+      let next = new.now.trees in
+      let u = inserts l.schema name sealed_columns sealed_key l.sealed_tree text.sealed_terms l.sealed_free l.sealed_at l.sealed_place 4 (λ given. refl) text.insert_sealed (bound_sealed row) old new count lays.0 l.insert_sealed l.insert_sealed_plain h in
+      let here : IsKept stored_sealed IsOfSealed (db l.sealed_tree) = subst (IsKept stored_sealed IsOfSealed) lays.2 kept in
+      let once = sealed_once new.now.schema next l.sealed_at name sealed_columns l.sealed_tree u.2 (subst (λ (known : Schema). slice_get known.tables l.sealed_at ≡ Some (sealed_table l.sealed_tree)) (sym u.0) l.sealed_place) in
+      let put = puts_new stored_sealed IsOfSealed (λ id x. refl) sealed_back l.schema name sealed_columns sealed_key l.sealed_tree text.sealed_terms bound_sealed
+      (sealed_offers l.schema l.sealed_tree (text.sealed_rewritten l.sealed_tree)) db next row of here once u.1 in
+      (next l.sealed_tree, (u.0, lays.1 ∙ sym (l.sealed_alone db next u.1.tables), refl), subst (λ t. PutsSealed t (next l.sealed_tree) row) (sym lays.2) put, u.2)
+
   drop_trail : (old new : State) (tenant number count : ℕ) (records sealed : List SqlRow) → IsKept stored_record IsOfRecord records → Lays old.now records sealed
       → Executes text.drop_trail (report_given tenant number) old new (Ok count) → Lays new.now (filter (λ c. not (passes text.trail_terms (report_given tenant number) c)) records) sealed × IsDatabase new.now
   drop_trail old new tenant number count records sealed kept lays h =
@@ -113,6 +141,16 @@ module _ (l : Layout) where
       let p = put_sealed old new row count t.records t.sealed of t.sound t.told.sealed_kept t.lays h in
       record { records = t.records; sealed = p.0; sound = p.3; lays = p.1; told = told_put_sealed t.records t.sealed p.0 rows row of t.told p.2 }
 
+  here_insert_record : (old new : State) (row : Row) (count : ℕ) (rows : List Row) → IsOfRecord row → TellsHere old.now rows → Executes text.insert_record (bound_record row) old new (Ok count) → TellsHere new.now (changed rows (Put row))
+  here_insert_record old new row count rows of t h =
+      let p = insert_record old new row count t.records t.sealed of t.told.record_kept t.lays h in
+      record { records = p.0; sealed = t.sealed; sound = p.3; lays = p.1; told = told_put_record t.records t.sealed p.0 rows row of t.told p.2 }
+
+  here_insert_sealed : (old new : State) (row : Row) (count : ℕ) (rows : List Row) → IsOfSealed row → TellsHere old.now rows → Executes text.insert_sealed (bound_sealed row) old new (Ok count) → TellsHere new.now (changed rows (Put row))
+  here_insert_sealed old new row count rows of t h =
+      let p = insert_sealed old new row count t.records t.sealed of t.told.sealed_kept t.lays h in
+      record { records = t.records; sealed = p.0; sound = p.3; lays = p.1; told = told_put_sealed t.records t.sealed p.0 rows row of t.told p.2 }
+
   here_drop : (old mid new : State) (tenant number n m : ℕ) (rows : List Row) → TellsHere old.now rows → Executes text.drop_trail (report_given tenant number) old mid (Ok n) → Executes text.drop_sealed (report_given tenant number) mid new (Ok m)
       → TellsHere new.now (changed rows (DropReport tenant number))
   here_drop old mid new tenant number n m rows t h k =
@@ -131,6 +169,14 @@ both_put_record old new row count rows of (inr t) h = inr (here_put_record turne
 pub both_put_sealed : (old new : State) (row : Row) (count : ℕ) (rows : List Row) → IsOfSealed row → TellsBoth old.now rows → Executes text.put_sealed (bound_sealed row) old new (Ok count) → TellsBoth new.now (changed rows (Put row))
 both_put_sealed old new row count rows of (inl t) h = inl (here_put_sealed both old new row count rows of t h)
 both_put_sealed old new row count rows of (inr t) h = inr (here_put_sealed turned old new row count rows of t h)
+
+pub both_insert_record : (old new : State) (row : Row) (count : ℕ) (rows : List Row) → IsOfRecord row → TellsBoth old.now rows → Executes text.insert_record (bound_record row) old new (Ok count) → TellsBoth new.now (changed rows (Put row))
+both_insert_record old new row count rows of (inl t) h = inl (here_insert_record both old new row count rows of t h)
+both_insert_record old new row count rows of (inr t) h = inr (here_insert_record turned old new row count rows of t h)
+
+pub both_insert_sealed : (old new : State) (row : Row) (count : ℕ) (rows : List Row) → IsOfSealed row → TellsBoth old.now rows → Executes text.insert_sealed (bound_sealed row) old new (Ok count) → TellsBoth new.now (changed rows (Put row))
+both_insert_sealed old new row count rows of (inl t) h = inl (here_insert_sealed both old new row count rows of t h)
+both_insert_sealed old new row count rows of (inr t) h = inr (here_insert_sealed turned old new row count rows of t h)
 
 pub both_drop : (old mid new : State) (tenant number n m : ℕ) (rows : List Row) → TellsBoth old.now rows → Executes text.drop_trail (report_given tenant number) old mid (Ok n) → Executes text.drop_sealed (report_given tenant number) mid new (Ok m)
     → TellsBoth new.now (changed rows (DropReport tenant number))

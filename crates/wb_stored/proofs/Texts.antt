@@ -1,7 +1,7 @@
 -- What each text means over each schema: found by computing.
 use Rattle.std.proofs.Common.{◌≡◌, List, ℕ, [], ◌∷◌, codes, Ok, Some, None, refl, false, negsuc, pos}
 use Rattle.sqlite.specs.declared.types.Value.TheVariants.{Null, Int}
-use Rattle.sqlite.specs.Command.TheVariants.{CreateTable, Nothing, Select, InsertOr, Delete}
+use Rattle.sqlite.specs.Command.TheVariants.{CreateTable, Nothing, Select, Insert, InsertOr, Delete}
 use Rattle.sqlite.specs.Compile.{table_defined_by}
 use Rattle.sqlite.specs.Term.{Term, lit, col, op1, op2}
 use Rattle.sqlite_sql.specs.declared.ops.BinaryOp.TheVariants.{Compare}
@@ -17,7 +17,7 @@ use Rattle.sqlite_schema.specs.declared.command.Upsert.{Upsert}
 use Rattle.sqlite_tied.specs.Compute.{everything}
 use Rattle.sqlite.specs.Listing.{understood, reads_listing}
 use Rattle.sqlite.proofs.Callers.{IsPlain, command_of, statement_of}
-pub use Rattle.wb_stored.specs.Texts.{make_record, make_sealed, put_record, put_sealed, drop_trail, drop_sealed, read_record, read_sealed}
+pub use Rattle.wb_stored.specs.Texts.{make_record, make_sealed, put_record, put_sealed, insert_record, insert_sealed, drop_trail, drop_sealed, read_record, read_sealed}
 use Rattle.wb_stored.specs.Tables.{record_table, record_key, sealed_table, sealed_key, no_schema, record_schema, sealed_schema, both_schema, turned_schema}
 
 -- ---- queries
@@ -226,6 +226,22 @@ pub put_sealed_both_plain : IsPlain (understood both_schema put_sealed)
 unfolding understood everything
 put_sealed_both_plain = (refl, refl)
 
+pub insert_record_both : command_of (understood both_schema insert_record) ≡ Insert 0 (Values record_terms 6)
+unfolding understood everything
+insert_record_both = refl
+
+pub insert_record_both_plain : IsPlain (understood both_schema insert_record)
+unfolding understood everything
+insert_record_both_plain = (refl, refl)
+
+pub insert_sealed_both : command_of (understood both_schema insert_sealed) ≡ Insert 1 (Values sealed_terms 4)
+unfolding understood everything
+insert_sealed_both = refl
+
+pub insert_sealed_both_plain : IsPlain (understood both_schema insert_sealed)
+unfolding understood everything
+insert_sealed_both_plain = (refl, refl)
+
 pub select_record_turned : command_of (understood turned_schema read_record) ≡ Select (record { lets = []; body = all_records 2 }) (codes "kind" ∷ codes "tenant" ∷ codes "a" ∷ codes "b" ∷ codes "body" ∷ [])
 unfolding understood everything
 select_record_turned = refl
@@ -281,3 +297,19 @@ put_sealed_turned = refl
 pub put_sealed_turned_plain : IsPlain (understood turned_schema put_sealed)
 unfolding understood everything
 put_sealed_turned_plain = (refl, refl)
+
+pub insert_record_turned : command_of (understood turned_schema insert_record) ≡ Insert 1 (Values record_terms 6)
+unfolding understood everything
+insert_record_turned = refl
+
+pub insert_record_turned_plain : IsPlain (understood turned_schema insert_record)
+unfolding understood everything
+insert_record_turned_plain = (refl, refl)
+
+pub insert_sealed_turned : command_of (understood turned_schema insert_sealed) ≡ Insert 0 (Values sealed_terms 4)
+unfolding understood everything
+insert_sealed_turned = refl
+
+pub insert_sealed_turned_plain : IsPlain (understood turned_schema insert_sealed)
+unfolding understood everything
+insert_sealed_turned_plain = (refl, refl)

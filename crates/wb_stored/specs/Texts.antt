@@ -13,6 +13,13 @@ put_record = codes "INSERT INTO record (kind, tenant, a, b, body) VALUES (?1, ?2
 abbrev pub put_sealed : List ℕ
 put_sealed = codes "INSERT INTO sealed (tenant, a, body) VALUES (?1, ?2, ?3) ON CONFLICT (tenant, a) DO UPDATE SET body = excluded.body"
 
+-- as those two, where no row has the key
+abbrev pub insert_record : List ℕ
+insert_record = codes "INSERT INTO record (kind, tenant, a, b, body) VALUES (?1, ?2, ?3, ?4, ?5)"
+
+abbrev pub insert_sealed : List ℕ
+insert_sealed = codes "INSERT INTO sealed (tenant, a, body) VALUES (?1, ?2, ?3)"
+
 abbrev pub drop_trail : List ℕ
 drop_trail = codes "DELETE FROM record WHERE kind = 6 AND tenant = ?1 AND a = ?2"
 

@@ -3,12 +3,11 @@
 
 ghost use Rattle.std.specs.Prelude.{◌≡◌, ◌==◌};
 
-/// The kind of sealed answers, whose rows stand in the table `sealed`; those of the other kinds stand in `record`.
-pub const SEALED: u8 = 7;
+use wb_base::Key;
 
-/// Whether the rows of a kind stand in the table `sealed`.
+/// Whether the rows of a kind stand in the table `sealed`, as identity answers do; those of the other kinds stand in `record`.
 pub fn is_sealed(kind: u8) -> bool
     ensures { result ≡ (kind == 7) }
 {
-    kind == SEALED
+    kind == Key::SEALED
 }

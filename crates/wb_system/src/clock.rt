@@ -9,7 +9,7 @@ use std::io;
 use std::marker::Model;
 use std::random::RandomSource;
 use std::time::Clock;
-use wb_base::{Failed, Moment, Words};
+use wb_base::{Failed, Moment, Words, limits};
 use wb_transport::Ticker;
 
 /// A ticker over a clock and a source of random bytes, seen as the count of its faults. It tells no ticks. Receipts and the secrets of
@@ -38,14 +38,11 @@ impl<'a, R: Clock + RandomSource> RealTicker<'a, R> {
     }
 }
 
-// The last moment, in seconds since 1970-01-01 00:00 UTC.
-const LAST_SECOND: u64 = 99_999_999_999;
-
 // The moment of a count of seconds. One past the last moment is told as the last.
 fn moment_of(seconds: u64) -> Moment
     ensures { result ≡ min seconds 99_999_999_999 }
 {
-    match Moment::try_new(seconds.min(LAST_SECOND)) {
+    match Moment::try_new(seconds.min(limits::LAST_MOMENT)) {
         Some(moment) => moment,
         None => unreachable!(),
     }
@@ -82,9 +79,7 @@ fn draw<R: Clock + RandomSource>(rt: &R) -> io::Result<(Moment, Words)> {
 }
 
 impl<'a, R: Clock + RandomSource> Ticker for RealTicker<'a, R> {
-    ghost left = { λ _. None };
-
-    ghost count = { λ faults. faults };
+    ghost end = { λ faults. record { left = None; count = faults } };
 
     fn faults(&self) -> u64 {
         self.faults

@@ -67,9 +67,7 @@ fn connect<N: Net<Stream = TcpStream>, C: Clock>(
 impl<'a, N: Net<Stream = TcpStream>, C: Clock> Dial for TcpDial<'a, N, C> {
     type End = TcpCall<'a, C>;
 
-    ghost told = { λ _. None };
-
-    ghost count = { λ faults. faults };
+    ghost end = { λ faults. record { told = None; count = faults } };
 
     fn faults(&self) -> u64 {
         self.faults

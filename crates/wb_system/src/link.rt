@@ -42,11 +42,7 @@ impl<'a, C: Clock> TcpLink<'a, C> {
 }
 
 impl<'a, C: Clock> Link for TcpLink<'a, C> {
-    ghost left = { λ _. None };
-
-    ghost got = { λ _. None };
-
-    ghost count = { λ faults. faults };
+    ghost end = { λ faults. record { left = None; got = None; count = faults } };
 
     fn faults(&self) -> u64 {
         self.faults

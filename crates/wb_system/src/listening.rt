@@ -56,9 +56,7 @@ fn accept(listener: Option<&TcpListener>) -> io::Result<TcpStream>
 impl<'a, C: Clock> Listener for TcpLinks<'a, C> {
     type End = TcpLink<'a, C>;
 
-    ghost told = { λ _. None };
-
-    ghost count = { λ s. s.faults };
+    ghost end = { λ s. record { told = None; count = s.faults } };
 
     fn faults(&self) -> u64 {
         self.faults

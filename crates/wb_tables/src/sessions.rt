@@ -15,7 +15,7 @@ use crate::tenancy::{Login, Tenancy, Who};
 use std::alloc::Global;
 use std::marker::Model;
 use wb_access::{Session, SessionTable};
-use wb_base::{Memory, Moment, Number, Presented, Principal, Salt, Tenant, UserId};
+use wb_base::{Memory, Moment, Number, Presented, Principal, Salt, Tenant, UserId, limits};
 use wb_list::ItemTest;
 
 /// The sessions of a tenant, by ascending turn, seen as their list and the room for more.
@@ -39,7 +39,7 @@ impl Model for Sessions {
 fn is_timely(session: &Session, time: Moment) -> bool
     ensures { result ≡ nat_lt time (session.now.at + 14_400) }
 {
-    time.seconds() < session.at.seconds() + 14_400
+    time.seconds() < session.at.seconds() + limits::SESSION_SECONDS
 }
 
 // Whether the report of a number is there.

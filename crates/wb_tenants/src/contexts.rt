@@ -10,7 +10,7 @@ ghost use Rattle.wb_tenants.specs.Sets.{HasTenant, with_context};
 
 use crate::Registry;
 use crate::copies::copy_context;
-use wb_base::{Memory, Role, Row, Tenant, UserId};
+use wb_base::{Memory, Role, Row, Tenant, UserId, limits};
 use wb_list::Items;
 use wb_model::{AdminFault, ContextItem, ContextSet};
 use wb_row_codec::context_row;
@@ -73,7 +73,7 @@ impl Registry {
         ensures named { result ≢ Some AdminFault.Memory }
     {
         if 1 <= id
-            && id <= 64
+            && id <= limits::CONTEXTS
             && self.has_form(tenant, next.form)
             && self.are_recipients(tenant, next.recipients.as_slice())
         {

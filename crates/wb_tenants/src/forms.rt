@@ -9,7 +9,7 @@ ghost use Rattle.wb_model.specs.Tables.{newest_form as newest_form_in};
 ghost use Rattle.wb_tenants.specs.Sets.{HasTenant, with_form};
 
 use crate::Registry;
-use wb_base::{Form, Format, Memory, Row, Tenant};
+use wb_base::{Form, Format, Memory, Row, Tenant, limits};
 use wb_model::{AdminFault, FormItem};
 use wb_row_codec::form_row;
 
@@ -29,10 +29,10 @@ impl Registry {
         ensures fault { result ≡ form_fault_in (registry_of self.now.lists tenant).forms id }
         ensures named { result ≢ Some AdminFault.Memory }
     {
-        if id < 1 || 16 < id {
+        if id < 1 || limits::FORMS < id {
             return Some(AdminFault::NotFound);
         }
-        if 99 <= self.newest_version(tenant, id) {
+        if limits::VERSIONS <= self.newest_version(tenant, id) {
             return Some(AdminFault::Full);
         }
         None

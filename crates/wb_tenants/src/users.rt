@@ -12,7 +12,7 @@ ghost use Rattle.wb_tenants.specs.Sets.{HasTenant, set_user as user_set, with_us
 use crate::Registry;
 use crate::copies::copy_user;
 use wb_access::digest;
-use wb_base::{Digest, Memory, Row, Salt, Tenant, Text, UserId};
+use wb_base::{Digest, Memory, Row, Salt, Tenant, Text, UserId, limits};
 use wb_model::{AdminFault, UserItem, UserSet};
 use wb_row_codec::user_row;
 
@@ -46,7 +46,7 @@ fn last_fault(before: Option<&UserItem>, next: &UserSet) -> Option<AdminFault>
     if user.role != next.role {
         return Some(AdminFault::RoleFixed(user.role));
     }
-    if user.enabled && !next.enabled && 10_000 <= user.disabled {
+    if user.enabled && !next.enabled && limits::DISABLINGS <= user.disabled {
         return Some(AdminFault::Full);
     }
     None

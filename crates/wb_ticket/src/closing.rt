@@ -86,12 +86,12 @@ pub fn close_tickets<K: Keeper, A: Origin, B: Ledger>(
     requires room { vec_len seats ≤ room }
     ensures exact { IsOk result ↔ (vec_len seats ≡ gate.seats) }
     ensures back { IfErr result (λ out. (out.gate ≡ gate) × (out.seats.items ≡ seats.items) × (out.room ≡ room)) }
-    ensures history { IfOk result (λ c. IsLastOf gate.first (map (λ s. s.mine) seats.items) c.desk c.turns c.numbers (K.count c.keeper)) }
+    ensures history { IfOk result (λ c. IsLastOf gate.first (map (λ s. s.mine) seats.items) c.desk c.turns c.numbers (K.end c.keeper).count) }
     ensures books { IfOk result (λ c. (c.turns ≡ turns_of (map (λ s. s.hand) seats.items)) × (c.numbers ≡ numbers_drawn (map (λ s. s.hand) seats.items))) }
     // An honest keeper holds the rows of the desk, which is the one that was opened, gone on by the turns of its book.
-    ensures kept { IfOk result (λ c. K.honest c.keeper → K.holds c.keeper (rows_of (hosts_of c.desk).list)) }
+    ensures kept { IfOk result (λ c. (K.end c.keeper).honest → (K.end c.keeper).holds (rows_of (hosts_of c.desk).list)) }
     ensures opened { IfOk result (λ c. (c.desk.turns ≡ A.desk.turns + c.turns) × (numbers_of (hosts_of c.desk) ≡ numbers_of (hosts_of A.desk) + c.numbers) × IsLater A.desk c.turns c.desk) }
-    ensures honest { IfOk result (λ c. K.honest c.keeper → A.honest) }
+    ensures honest { IfOk result (λ c. (K.end c.keeper).honest → A.honest) }
 {
     if seats.len() as u64 != gate.lock.seats() {
         return Err(SeatsOut { gate, seats, room });

@@ -13,6 +13,11 @@ pub record Dialed : Type 0 where
   pub out : ℕ
   pub closed : List Line
 
+-- a dialer: what its calls give and gave, where it tells, and how many of them failed, up to 2^64 - 1
+pub record DialEnd : Type 0 where
+  pub told : Option Dialed
+  pub count : ℕ
+
 abbrev pub given_of : List ℕ → List Offered → Option Line
 given_of endpoint [] = None
 given_of endpoint (next ∷ others) = if bytes_eq next.endpoint endpoint then Some next.line else None

@@ -1,7 +1,7 @@
 -- Links, listeners and tickers in memory: what they have, and the calls of theirs that fail.
-use Rattle.std.specs.Prelude.{ℕ, ◌-◌, ◌||◌, ◌==◌, nat_lt, Bool, if◌then◌else◌, List, [], ◌++◌, length, take, drop, min, map, slice_get, unwrap_or}
+use Rattle.std.specs.Prelude.{ℕ, ◌-◌, ◌||◌, ◌==◌, nat_lt, Bool, if◌then◌else◌, List, [], ◌++◌, length, take, drop, min, map, slice_get, unwrap_or, Some}
 use Rattle.wb_base.specs.MemoryEnds.{CallLog, fails_next, after_call}
-use Rattle.wb_transport.specs.Lines.{Line, Lines, Tick}
+use Rattle.wb_transport.specs.Lines.{Line, Lines, LinkEnd, ListenerEnd, Tick}
 
 -- ---- a link
 
@@ -14,6 +14,9 @@ pub record LinkState : Type 0 where
 
 abbrev pub line_of : LinkState → Line
 line_of k = record { left = k.left; got = k.got; count = k.log.faults }
+
+abbrev pub link_end : LinkState → LinkEnd
+link_end k = record { left = Some k.left; got = Some k.got; count = k.log.faults }
 
 -- how many bytes the next read gives: the next piece, or fewer where the room or what is left is smaller
 abbrev pub read_size : LinkState → ℕ → ℕ
@@ -45,6 +48,9 @@ pub record ListenerState : Type 0 where
 
 abbrev pub lines_of : ListenerState → Lines
 lines_of s = record { left = map line_of s.left; out = s.out; came = map line_of s.came }
+
+abbrev pub listener_end : ListenerState → ListenerEnd
+listener_end s = record { told = Some (lines_of s); count = s.log.faults }
 
 -- ---- a ticker
 

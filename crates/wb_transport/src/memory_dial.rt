@@ -4,6 +4,7 @@ ghost use Rattle.wb_base.specs.Outside.{HasCause};
 ghost use Rattle.wb_transport.specs.Lines.{Line, IsLine};
 ghost use Rattle.wb_transport.specs.Dials.{Dialed, given, after_call, after_close};
 ghost use Rattle.wb_transport.specs.MemoryDials.{DialState, dialed_of};
+ghost use Rattle.wb_transport.specs.MemoryLinks.{link_end};
 
 use crate::dialing::Dial;
 use crate::memory_link::MemLink;
@@ -67,16 +68,14 @@ impl MemDial {
 impl Dial for MemDial {
     type End = MemLink;
 
-    ghost told = { λ s. Some (dialed_of s) };
-
-    ghost count = { λ s. s.faults };
+    ghost end = { λ s. record { told = Some (dialed_of s); count = s.faults } };
 
     fn faults(&self) -> u64 {
         self.faults
     }
 
     fn dial(&mut self, endpoint: &str) -> Result<MemLink, Failed>
-        ensures given { (x : Dialed) → Some (dialed_of self.old) ≡ Some x → IfOk result (λ link. (line : Line) × (given endpoint.now x ≡ Some line) × IsLine (Some link.left) (Some link.got) link.log.faults line) }
+        ensures given { (x : Dialed) → Some (dialed_of self.old) ≡ Some x → IfOk result (λ link. (line : Line) × (given endpoint.now x ≡ Some line) × IsLine (link_end link) line) }
         ensures refused { (x : Dialed) → Some (dialed_of self.old) ≡ Some x → OnErr result (given endpoint.now x ≡ None) }
         ensures after { (x : Dialed) → Some (dialed_of self.old) ≡ Some x → Some (dialed_of self.new) ≡ Some (after_call endpoint.now x) }
         ensures cause { HasCause self.old.faults self.new.faults result }
@@ -91,7 +90,7 @@ impl Dial for MemDial {
     }
 
     fn close(&mut self, link: MemLink)
-        ensures after { (x : Dialed) (line : Line) → Some (dialed_of self.old) ≡ Some x → 0 < x.out → IsLine (Some link.left) (Some link.got) link.log.faults line → Some (dialed_of self.new) ≡ Some (after_close line x) }
+        ensures after { (x : Dialed) (line : Line) → Some (dialed_of self.old) ≡ Some x → 0 < x.out → IsLine (link_end link) line → Some (dialed_of self.new) ≡ Some (after_close line x) }
         ensures count { self.new.faults ≡ self.old.faults }
     {
         if 0 < self.out {

@@ -60,11 +60,9 @@ impl MemLink {
 }
 
 impl Link for MemLink {
-    ghost left = { λ k. Some k.left };
+    ghost use Rattle.wb_transport.specs.MemoryLinks.{link_end};
 
-    ghost got = { λ k. Some k.got };
-
-    ghost count = { λ k. k.log.faults };
+    ghost end = { link_end };
 
     fn faults(&self) -> u64 {
         self.calls.faults()

@@ -2,8 +2,8 @@
 ghost use Rattle.std.specs.Prelude.{◌≡◌, ◌↔◌, ◌<◌, ◌-◌, ◌+◌, ◌++◌, ◌∷◌, [], List, Some, map, IsErr, IsTrue, IfOk, IfSome, IfNone, OnErr};
 ghost use Rattle.wb_base.specs.Outside.{HasCause};
 ghost use Rattle.wb_base.specs.MemoryEnds.{fails_next, after_call};
-ghost use Rattle.wb_transport.specs.Lines.{Line, IsLine, Lines};
-ghost use Rattle.wb_transport.specs.MemoryLinks.{LinkState, ListenerState, lines_of};
+ghost use Rattle.wb_transport.specs.Lines.{HasGiven, IsLine, Line, Lines};
+ghost use Rattle.wb_transport.specs.MemoryLinks.{LinkState, ListenerState, lines_of, link_end, listener_end};
 
 use crate::links::Listener;
 use crate::memory_link::MemLink;
@@ -59,16 +59,16 @@ impl MemListener {
 impl Listener for MemListener {
     type End = MemLink;
 
-    ghost told = { λ s. Some (lines_of s) };
+    ghost use Rattle.wb_transport.specs.MemoryLinks.{listener_end};
 
-    ghost count = { λ s. s.log.faults };
+    ghost end = { listener_end };
 
     fn faults(&self) -> u64 {
         self.calls.faults()
     }
 
     fn next(&mut self) -> Result<Option<MemLink>, Failed>
-        ensures given { (x : Lines) → Some (lines_of self.old) ≡ Some x → IfOk result (λ next. IfSome next (λ link. (line : Line) × (rest : List Line) × (x.left ≡ line ∷ rest) × IsLine (Some link.left) (Some link.got) link.log.faults line × (Some (lines_of self.new) ≡ Some (record x { left = rest; out = x.out + 1 })))) }
+        ensures given { (x : Lines) → Some (lines_of self.old) ≡ Some x → IfOk result (λ next. IfSome next (λ link. HasGiven x (link_end link) (listener_end self.new))) }
         ensures none { (x : Lines) → Some (lines_of self.old) ≡ Some x → IfOk result (λ next. IfNone next ((x.left ≡ []) × (Some (lines_of self.new) ≡ Some x))) }
         ensures failed { OnErr result (Some (lines_of self.new) ≡ Some (lines_of self.old)) }
         ensures cause { HasCause self.old.log.faults self.new.log.faults result }
@@ -92,7 +92,7 @@ impl Listener for MemListener {
 
     fn back(&mut self, link: MemLink)
         requires { (x : Lines) → Some (lines_of self.old) ≡ Some x → 0 < x.out }
-        ensures came { (x : Lines) (line : Line) → Some (lines_of self.old) ≡ Some x → IsLine (Some link.left) (Some link.got) link.log.faults line → Some (lines_of self.new) ≡ Some (record x { out = x.out - 1; came = x.came ++ line ∷ [] }) }
+        ensures came { (x : Lines) (line : Line) → Some (lines_of self.old) ≡ Some x → IsLine (link_end link) line → Some (lines_of self.new) ≡ Some (record x { out = x.out - 1; came = x.came ++ line ∷ [] }) }
         ensures count { self.new.log.faults ≡ self.old.log.faults }
         ensures state { self.new ≡ record self.old { out = self.old.out - 1; came = self.old.came ++ link ∷ [] } }
     {

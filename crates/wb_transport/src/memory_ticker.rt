@@ -39,9 +39,7 @@ impl MemTicker {
 }
 
 impl Ticker for MemTicker {
-    ghost left = { λ t. Some t.left };
-
-    ghost count = { λ t. t.log.faults };
+    ghost end = { λ t. record { left = Some t.left; count = t.log.faults } };
 
     fn faults(&self) -> u64 {
         self.calls.faults()

@@ -11,7 +11,7 @@ use crate::WireFault;
 use crate::numbers::number_of;
 use httparse::spans::HeaderSpan;
 use std::str;
-use wb_base::Presented;
+use wb_base::{Presented, limits};
 
 /// The values of all fields of a name.
 pub enum Values<'a> {
@@ -125,7 +125,7 @@ fn is_token(turn: u64, rest: &[u8]) -> bool
     requires { length rest.now ≡ 33 }
     ensures { result ≡ token_test turn rest.now }
 {
-    rest[0] == b'-' && turn <= 1_000_000_000_000_000 && are_lower_hex(&rest[1..])
+    rest[0] == b'-' && turn <= limits::TURNS && are_lower_hex(&rest[1..])
 }
 
 // The session of a turn's digits and of the 33 bytes after them.

@@ -6,7 +6,7 @@ ghost use Rattle.wb_wire.specs.SetupReading.{SaysSetup};
 ghost use Rattle.wb_wire.specs.SetupText.{setup_line};
 
 use crate::numbers::{is_same, number_of, word_of};
-use wb_base::{Moment, Words};
+use wb_base::{Moment, Words, limits};
 
 /// What the line says of its frame.
 #[derive(Clone, Copy)]
@@ -99,7 +99,7 @@ pub fn read_line(line: &[u8]) -> Option<FrameHead>
         Some(moment) => moment,
         None => return None,
     };
-    if size > 300_000 {
+    if size > limits::FRAME_BYTES as u64 {
         return None;
     }
     Some(FrameHead {
@@ -108,9 +108,6 @@ pub fn read_line(line: &[u8]) -> Option<FrameHead>
         size: size as usize,
     })
 }
-
-// How many bytes a setup may have.
-const SETUP_LIMIT: u64 = 1_048_576;
 
 /// Reads the line of a setup's frame, without its line feed: how many bytes follow.
 pub fn read_setup_line(line: &[u8]) -> Option<usize>
@@ -129,7 +126,7 @@ pub fn read_setup_line(line: &[u8]) -> Option<usize>
         Some(size) => size,
         None => return None,
     };
-    if size > SETUP_LIMIT {
+    if size > limits::SETUP_BYTES as u64 {
         return None;
     }
     Some(size as usize)

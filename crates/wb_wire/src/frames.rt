@@ -76,14 +76,14 @@ impl FrameReader {
         alloc: Global,
         source: &mut S,
     ) -> Result<Option<ScriptFrame>, FrameNo>
-        ensures ok { IfOk result (λ next. TookNext (S.left source.old) (S.left source.new) next) }
+        ensures ok { IfOk result (λ next. TookNext (S.end source.old).left (S.end source.new).left next) }
         ensures goes_on { IfOk result (λ next. self.new ≡ after_next self.old next) }
         ensures limit { self.new.taken ≤ 2 ^ 40 }
-        ensures cause { self.old.stopped ≡ None → IfErr result (λ no. HasCause self.old (S.left source.old) (S.left source.new) (S.count source.old) (S.count source.new) no) }
+        ensures cause { self.old.stopped ≡ None → IfErr result (λ no. HasCause self.old (S.end source.old).left (S.end source.new).left (S.end source.old).count (S.end source.new).count no) }
         ensures stops { IfErr result (λ no. self.new ≡ record self.old { stopped = Some no }) }
-        ensures again { IfSome self.old.stopped (λ no. (result ≡ Err no) × Keeps (S.left source.old) (S.left source.new) × (S.count source.new ≡ S.count source.old)) }
-        ensures later { S.count source.old ≤ S.count source.new }
-        ensures stayed { result ≢ Err FrameNo.Read → S.count source.new ≡ S.count source.old }
+        ensures again { IfSome self.old.stopped (λ no. (result ≡ Err no) × Keeps (S.end source.old).left (S.end source.new).left × ((S.end source.new).count ≡ (S.end source.old).count)) }
+        ensures later { (S.end source.old).count ≤ (S.end source.new).count }
+        ensures stayed { result ≢ Err FrameNo.Read → (S.end source.new).count ≡ (S.end source.old).count }
     {
         if let Some(no) = self.stopped {
             return Err(no);
@@ -97,14 +97,14 @@ impl FrameReader {
     /// The bytes of the setup's frame with which the input begins, or why there are none. After an error it answers that
     /// error again and asks its source for nothing.
     pub fn setup<S: Source>(&mut self, alloc: Global, source: &mut S) -> Result<Vec<u8>, FrameNo>
-        ensures ok { IfOk result (λ bytes. TookSetup (S.left source.old) (S.left source.new) bytes.items) }
+        ensures ok { IfOk result (λ bytes. TookSetup (S.end source.old).left (S.end source.new).left bytes.items) }
         ensures goes_on { IfOk result (λ bytes. self.new ≡ after_setup self.old bytes.items) }
         ensures limit { self.new.taken ≤ 2 ^ 40 }
-        ensures cause { self.old.stopped ≡ None → IfErr result (λ no. LacksSetup self.old (S.left source.old) (S.left source.new) (S.count source.old) (S.count source.new) no) }
+        ensures cause { self.old.stopped ≡ None → IfErr result (λ no. LacksSetup self.old (S.end source.old).left (S.end source.new).left (S.end source.old).count (S.end source.new).count no) }
         ensures stops { IfErr result (λ no. self.new ≡ record self.old { stopped = Some no }) }
-        ensures again { IfSome self.old.stopped (λ no. (result ≡ Err no) × Keeps (S.left source.old) (S.left source.new) × (S.count source.new ≡ S.count source.old)) }
-        ensures later { S.count source.old ≤ S.count source.new }
-        ensures stayed { result ≢ Err FrameNo.Read → S.count source.new ≡ S.count source.old }
+        ensures again { IfSome self.old.stopped (λ no. (result ≡ Err no) × Keeps (S.end source.old).left (S.end source.new).left × ((S.end source.new).count ≡ (S.end source.old).count)) }
+        ensures later { (S.end source.old).count ≤ (S.end source.new).count }
+        ensures stayed { result ≢ Err FrameNo.Read → (S.end source.new).count ≡ (S.end source.old).count }
     {
         if let Some(no) = self.stopped {
             return Err(no);
@@ -117,12 +117,12 @@ impl FrameReader {
 
     // The bytes of the setup of a reader that has not stopped.
     fn take_setup<S: Source>(&mut self, alloc: Global, source: &mut S) -> Result<Vec<u8>, FrameNo>
-        ensures ok { IfOk result (λ bytes. TookSetup (S.left source.old) (S.left source.new) bytes.items) }
+        ensures ok { IfOk result (λ bytes. TookSetup (S.end source.old).left (S.end source.new).left bytes.items) }
         ensures goes_on { IfOk result (λ bytes. self.new ≡ after_setup self.old bytes.items) }
-        ensures cause { IfErr result (λ no. LacksSetup self.old (S.left source.old) (S.left source.new) (S.count source.old) (S.count source.new) no) }
+        ensures cause { IfErr result (λ no. LacksSetup self.old (S.end source.old).left (S.end source.new).left (S.end source.old).count (S.end source.new).count no) }
         ensures same { IfErr result (λ no. self.new ≡ self.old) }
-        ensures later { S.count source.old ≤ S.count source.new }
-        ensures stayed { result ≢ Err FrameNo.Read → S.count source.new ≡ S.count source.old }
+        ensures later { (S.end source.old).count ≤ (S.end source.new).count }
+        ensures stayed { result ≢ Err FrameNo.Read → (S.end source.new).count ≡ (S.end source.old).count }
     {
         let most = LIMIT - self.taken;
         let mut room = [0u8; LINE_ROOM];
@@ -152,12 +152,12 @@ impl FrameReader {
         alloc: Global,
         source: &mut S,
     ) -> Result<Option<ScriptFrame>, FrameNo>
-        ensures ok { IfOk result (λ next. TookNext (S.left source.old) (S.left source.new) next) }
+        ensures ok { IfOk result (λ next. TookNext (S.end source.old).left (S.end source.new).left next) }
         ensures goes_on { IfOk result (λ next. self.new ≡ after_next self.old next) }
-        ensures cause { IfErr result (λ no. HasCause self.old (S.left source.old) (S.left source.new) (S.count source.old) (S.count source.new) no) }
+        ensures cause { IfErr result (λ no. HasCause self.old (S.end source.old).left (S.end source.new).left (S.end source.old).count (S.end source.new).count no) }
         ensures same { IfErr result (λ no. self.new ≡ self.old) }
-        ensures later { S.count source.old ≤ S.count source.new }
-        ensures stayed { result ≢ Err FrameNo.Read → S.count source.new ≡ S.count source.old }
+        ensures later { (S.end source.old).count ≤ (S.end source.new).count }
+        ensures stayed { result ≢ Err FrameNo.Read → (S.end source.new).count ≡ (S.end source.old).count }
     {
         let bad = FrameNo::Bad(self.given + 1);
         let most = LIMIT - self.taken;

@@ -34,11 +34,11 @@ fn take_some<S: Source>(source: &mut S, most: u64, into: &mut [u8]) -> Result<us
     requires { 0 < length into.old }
     ensures fits { IfOk result (λ n. n ≤ length into.new) }
     ensures most { IfOk result (λ n. n ≤ most) }
-    ensures ok { IfOk result (λ n. Consumes (S.left source.old) (S.left source.new) (take n into.new)) }
-    ensures end { IfOk result (λ n. n ≡ 0 → IsAtEnd (S.left source.new)) }
-    ensures err { IfErr result (λ no. Stopped most (S.left source.old) (S.left source.new) (S.count source.old) (S.count source.new) [] no) }
-    ensures later { S.count source.old ≤ S.count source.new }
-    ensures stayed { result ≢ Err FrameNo.Read → S.count source.new ≡ S.count source.old }
+    ensures ok { IfOk result (λ n. Consumes (S.end source.old).left (S.end source.new).left (take n into.new)) }
+    ensures end { IfOk result (λ n. n ≡ 0 → IsAtEnd (S.end source.new).left) }
+    ensures err { IfErr result (λ no. Stopped most (S.end source.old).left (S.end source.new).left (S.end source.old).count (S.end source.new).count [] no) }
+    ensures later { (S.end source.old).count ≤ (S.end source.new).count }
+    ensures stayed { result ≢ Err FrameNo.Read → (S.end source.new).count ≡ (S.end source.old).count }
 {
     if most == 0 {
         let mut probe = [0u8; 1];
@@ -61,10 +61,10 @@ pub fn take_line<S: Source>(
     most: u64,
     room: &mut [u8; LINE_ROOM],
 ) -> Result<LineEnd, FrameNo>
-    ensures ok { IfOk result (λ line. TookLine most (S.left source.old) (S.left source.new) room.new line) }
-    ensures err { IfErr result (λ no. StoppedInLine most (S.left source.old) (S.left source.new) (S.count source.old) (S.count source.new) no) }
-    ensures later { S.count source.old ≤ S.count source.new }
-    ensures stayed { result ≢ Err FrameNo.Read → S.count source.new ≡ S.count source.old }
+    ensures ok { IfOk result (λ line. TookLine most (S.end source.old).left (S.end source.new).left room.new line) }
+    ensures err { IfErr result (λ no. StoppedInLine most (S.end source.old).left (S.end source.new).left (S.end source.old).count (S.end source.new).count no) }
+    ensures later { (S.end source.old).count ≤ (S.end source.new).count }
+    ensures stayed { result ≢ Err FrameNo.Read → (S.end source.new).count ≡ (S.end source.old).count }
 {
     let mut used = 0;
     let mut byte = [0u8; 1];
@@ -92,11 +92,11 @@ pub fn take_line<S: Source>(
 fn fill<S: Source>(source: &mut S, most: u64, room: &mut [u8]) -> Result<usize, FrameNo>
     ensures fits { IfOk result (λ n. n ≤ length room.new) }
     ensures most { IfOk result (λ n. n ≤ most) }
-    ensures ok { IfOk result (λ n. Consumes (S.left source.old) (S.left source.new) (take n room.new)) }
-    ensures end { IfOk result (λ n. n < length room.new → IsAtEnd (S.left source.new)) }
-    ensures err { IfErr result (λ no. StoppedInBytes (length room.new) most (S.left source.old) (S.left source.new) (S.count source.old) (S.count source.new) no) }
-    ensures later { S.count source.old ≤ S.count source.new }
-    ensures stayed { result ≢ Err FrameNo.Read → S.count source.new ≡ S.count source.old }
+    ensures ok { IfOk result (λ n. Consumes (S.end source.old).left (S.end source.new).left (take n room.new)) }
+    ensures end { IfOk result (λ n. n < length room.new → IsAtEnd (S.end source.new).left) }
+    ensures err { IfErr result (λ no. StoppedInBytes (length room.new) most (S.end source.old).left (S.end source.new).left (S.end source.old).count (S.end source.new).count no) }
+    ensures later { (S.end source.old).count ≤ (S.end source.new).count }
+    ensures stayed { result ≢ Err FrameNo.Read → (S.end source.new).count ≡ (S.end source.old).count }
 {
     let mut at = 0;
     while at < room.len() {
@@ -123,10 +123,10 @@ fn take_bytes<S: Source>(
     most: u64,
     size: usize,
 ) -> Result<Part, FrameNo>
-    ensures ok { IfOk result (λ part. TookBytes size most (S.left source.old) (S.left source.new) part) }
-    ensures err { IfErr result (λ no. StoppedInBytes size most (S.left source.old) (S.left source.new) (S.count source.old) (S.count source.new) no) }
-    ensures later { S.count source.old ≤ S.count source.new }
-    ensures stayed { result ≢ Err FrameNo.Read → S.count source.new ≡ S.count source.old }
+    ensures ok { IfOk result (λ part. TookBytes size most (S.end source.old).left (S.end source.new).left part) }
+    ensures err { IfErr result (λ no. StoppedInBytes size most (S.end source.old).left (S.end source.new).left (S.end source.old).count (S.end source.new).count no) }
+    ensures later { (S.end source.old).count ≤ (S.end source.new).count }
+    ensures stayed { result ≢ Err FrameNo.Read → (S.end source.new).count ≡ (S.end source.old).count }
 {
     let mut bytes = match zeros(alloc, size) {
         Ok(bytes) => bytes,
@@ -145,10 +145,10 @@ fn take_bytes<S: Source>(
 
 // Takes one byte, None at the end.
 fn take_byte<S: Source>(source: &mut S, most: u64) -> Result<Option<u8>, FrameNo>
-    ensures ok { IfOk result (λ byte. TookByte most (S.left source.old) (S.left source.new) byte) }
-    ensures err { IfErr result (λ no. Stopped most (S.left source.old) (S.left source.new) (S.count source.old) (S.count source.new) [] no) }
-    ensures later { S.count source.old ≤ S.count source.new }
-    ensures stayed { result ≢ Err FrameNo.Read → S.count source.new ≡ S.count source.old }
+    ensures ok { IfOk result (λ byte. TookByte most (S.end source.old).left (S.end source.new).left byte) }
+    ensures err { IfErr result (λ no. Stopped most (S.end source.old).left (S.end source.new).left (S.end source.old).count (S.end source.new).count [] no) }
+    ensures later { (S.end source.old).count ≤ (S.end source.new).count }
+    ensures stayed { result ≢ Err FrameNo.Read → (S.end source.new).count ≡ (S.end source.old).count }
 {
     let mut byte = [0u8; 1];
     match take_some(source, most, &mut byte) {
@@ -165,10 +165,10 @@ pub fn take_body<S: Source>(
     most: u64,
     size: usize,
 ) -> Result<Part, FrameNo>
-    ensures ok { IfOk result (λ part. TookBody size most (S.left source.old) (S.left source.new) part) }
-    ensures err { IfErr result (λ no. StoppedInBody size most (S.left source.old) (S.left source.new) (S.count source.old) (S.count source.new) no) }
-    ensures later { S.count source.old ≤ S.count source.new }
-    ensures stayed { result ≢ Err FrameNo.Read → S.count source.new ≡ S.count source.old }
+    ensures ok { IfOk result (λ part. TookBody size most (S.end source.old).left (S.end source.new).left part) }
+    ensures err { IfErr result (λ no. StoppedInBody size most (S.end source.old).left (S.end source.new).left (S.end source.old).count (S.end source.new).count no) }
+    ensures later { (S.end source.old).count ≤ (S.end source.new).count }
+    ensures stayed { result ≢ Err FrameNo.Read → (S.end source.new).count ≡ (S.end source.old).count }
 {
     let bytes = match take_bytes(alloc, source, most, size) {
         Ok(Part::Whole(bytes)) => bytes,

@@ -5,7 +5,6 @@ use Rattle.wb_model.specs.declared.command.Asked.{Asked}
 use Rattle.wb_model.specs.declared.wire.ScriptFrame.{ScriptFrame}
 use Rattle.wb_model.specs.declared.wire.WireFault.{WireFault}
 use Rattle.wb_model.specs.declared.wire.WireFault.TheVariants as faults
-use Rattle.wb_base.specs.declared.rows.Row.{Row}
 use Rattle.wb_model.specs.Past.{Past}
 use Rattle.wb_model.specs.Pasts.{AllOpened}
 use Rattle.wb_model.specs.Readings.{Reading, Asks, Refuses, Reads, Closes, reading_of}
@@ -21,6 +20,7 @@ use Rattle.wb_desk.specs.Turns.{StandsFor}
 use Rattle.wb_wire.specs.declared.responses.Response.{Response}
 use Rattle.wb_wire.specs.Responses.{reply_of}
 use Rattle.whistle.specs.Answered.{IsAnswerTo}
+use Rattle.wb_base.specs.Ends.{KeeperEnd}
 
 abbrev pub as_place : ScriptFrame → Reading → Loss → Place
 as_place frame reading loss = record { moment = frame.moment; words = frame.words; reading = reading; loss = loss }
@@ -28,16 +28,16 @@ as_place frame reading loss = record { moment = frame.moment; words = frame.word
 abbrev pub asked_frame : ScriptFrame → Asked → Frame
 asked_frame frame a = record { moment = frame.moment; words = frame.words; asked = a }
 
-module _ (honest : Type 0) (holds holds' : List Row → Type 0) where
-  abbrev pub Answers : Past AllOpened → ScriptFrame → Response → Hosts → ℕ → ℕ → Type 0
-  Answers past frame answer after before now = (place : Place) × IsAnswerTo honest holds holds' past frame answer after before now place
+module _ (keeper keeper' : KeeperEnd) where
+  abbrev pub Answers : Past AllOpened → ScriptFrame → Response → Hosts → Type 0
+  Answers past frame answer after = (place : Place) × IsAnswerTo keeper keeper' past frame answer after place
 
   -- a request that was read
-  pub asked : (past : Past AllOpened) (frame : ScriptFrame) (told : Told) (a : Asked) (after : Hosts) (before now : ℕ) → Reads frame.bytes (Asks a) → (loss : Loss) × Took honest holds holds' before now past (asked_frame frame a) loss told after
-      → Answers past frame (record { told = told; allow = None; close = a.close }) after before now
-  asked past frame told a after before now reads took = by took.0 took.1
+  pub asked : (past : Past AllOpened) (frame : ScriptFrame) (told : Told) (a : Asked) (after : Hosts) → Reads frame.bytes (Asks a) → (loss : Loss) × Took keeper keeper' past (asked_frame frame a) loss told after
+      → Answers past frame (record { told = told; allow = None; close = a.close }) after
+  asked past frame told a after reads took = by took.0 took.1
     where
-      by : (loss : Loss) → Took honest holds holds' before now past (asked_frame frame a) loss told after → Answers past frame (record { told = told; allow = None; close = a.close }) after before now
+      by : (loss : Loss) → Took keeper keeper' past (asked_frame frame a) loss told after → Answers past frame (record { told = told; allow = None; close = a.close }) after
       by NotLost t = (as_place frame (Asks a) NotLost, record { of_frame = record { at = refl; drawn = refl; reads = reads; losing = tt }; possible = tt; reply = ap (λ t. replying t a.close) t.told; stands = t.stands; counted = t.counted; kept = t.kept })
       by ByKeeper t = (as_place frame (Asks a) ByKeeper, record { of_frame = record { at = refl; drawn = refl; reads = reads; losing = tt }; possible = t.possible; reply = ap (λ t. replying t a.close) t.told; stands = t.stands; counted = t.counted; kept = t.kept })
       by ByMemory t = (as_place frame (Asks a) ByMemory, record { of_frame = record { at = refl; drawn = refl; reads = reads; losing = tt }; possible = t.possible; reply = ap (λ t. replying t a.close) t.told; stands = t.stands; counted = t.counted; kept = t.kept })
@@ -60,20 +60,20 @@ unread_possible past p bytes (Asks a) close other reads = other a reads
 unread_possible past p bytes (Refuses fault c) close other reads = tt
 
 -- the keeper was not asked
-module _ (honest : Type 0) (holds : List Row → Type 0) where
-  abbrev pub Unkept : Past AllOpened → ScriptFrame → Response → Hosts → ℕ → Type 0
-  Unkept past frame answer after keeper = Answers honest holds holds past frame answer after keeper keeper
+module _ (keeper : KeeperEnd) where
+  abbrev pub Unkept : Past AllOpened → ScriptFrame → Response → Hosts → Type 0
+  Unkept past frame answer after = Answers keeper keeper past frame answer after
 
   -- one that was refused
-  refused : (past : Past AllOpened) (frame : ScriptFrame) (answer : Response) (fault : WireFault) (close : Bool) (after : Hosts) (keeper : ℕ) → Reads frame.bytes (Refuses fault close) → StandsFor after past
-      → reply_of answer ≡ record { told = fault_told fault; allow = fault_allow fault; close = close } → Unkept past frame answer after keeper
-  refused past frame answer fault close after keeper reads stands is =
+  refused : (past : Past AllOpened) (frame : ScriptFrame) (answer : Response) (fault : WireFault) (close : Bool) (after : Hosts) → Reads frame.bytes (Refuses fault close) → StandsFor after past
+      → reply_of answer ≡ record { told = fault_told fault; allow = fault_allow fault; close = close } → Unkept past frame answer after
+  refused past frame answer fault close after reads stands is =
       (as_place frame (Refuses fault close) NotLost, record { of_frame = record { at = refl; drawn = refl; reads = reads; losing = tt }; possible = tt; reply = is; stands = stands; counted = omega arith; kept = λ h held. held })
 
   -- one that was not read for want of memory
-  unread : (past : Past AllOpened) (frame : ScriptFrame) (answer : Response) (close : Bool) (after : Hosts) (keeper : ℕ) → Closes frame.bytes close → IsNotHealth frame.bytes → StandsFor after past → reply_of answer ≡ replying no_memory close
-      → Unkept past frame answer after keeper
-  unread past frame answer close after keeper closes other stands is =
+  unread : (past : Past AllOpened) (frame : ScriptFrame) (answer : Response) (close : Bool) (after : Hosts) → Closes frame.bytes close → IsNotHealth frame.bytes → StandsFor after past → reply_of answer ≡ replying no_memory close
+      → Unkept past frame answer after
+  unread past frame answer close after closes other stands is =
       let reading : Reading = reading_of closes.0 closes.1 in
       let place : Place = as_place frame reading (Unread close) in
       let reads : Reads frame.bytes reading = inl (closes.0, closes.1, closes.2, refl) in
@@ -85,14 +85,14 @@ module _ (honest : Type 0) (holds : List Row → Type 0) where
           reply = is ∙ sym (unread_reply past place reading close refl);
           stands = subst (StandsFor after) (sym same) stands;
           counted = omega arith;
-          kept = λ h held. subst (λ q. holds (rows q)) (sym same) held;
+          kept = λ h held. subst (λ q. keeper.holds (rows q)) (sym same) held;
         },
       )
 
   -- a fault, want of memory among them
-  pub unanswered : (past : Past AllOpened) (frame : ScriptFrame) (answer : Response) (fault : WireFault) (close : Bool) (after : Hosts) (keeper : ℕ)
+  pub unanswered : (past : Past AllOpened) (frame : ScriptFrame) (answer : Response) (fault : WireFault) (close : Bool) (after : Hosts)
       → (fault ≢ faults.Memory → Reads frame.bytes (Refuses fault close)) → (fault ≡ faults.Memory → Closes frame.bytes close) → (fault ≡ faults.Memory → IsNotHealth frame.bytes) → StandsFor after past
-      → reply_of answer ≡ record { told = fault_told fault; allow = fault_allow fault; close = close } → Unkept past frame answer after keeper
+      → reply_of answer ≡ record { told = fault_told fault; allow = fault_allow fault; close = close } → Unkept past frame answer after
   unfolding fault_told
-  unanswered past frame answer faults.Memory close after keeper reads closes other stands is = unread past frame answer close after keeper (closes refl) (other refl) stands is
-  unanswered past frame answer _ close after keeper reads closes other stands is = refused past frame answer _ close after keeper (reads (λ e. grind (arith, e))) stands is
+  unanswered past frame answer faults.Memory close after reads closes other stands is = unread past frame answer close after (closes refl) (other refl) stands is
+  unanswered past frame answer _ close after reads closes other stands is = refused past frame answer _ close after (reads (λ e. grind (arith, e))) stands is

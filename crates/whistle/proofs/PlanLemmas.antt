@@ -1,12 +1,12 @@
 -- What two equal plans have in common, and what one that exports comes to.
 use Rattle.std.proofs.Common.{ℕ, ℤ, pos, ◌≡◌, ◌≢◌, List, Option, Bool, ap, subst}
-use Rattle.wb_base.specs.declared.rows.Row.{Row}
 use Rattle.wb_rows.specs.Held.{Held}
 use Rattle.wb_cli.specs.declared.plans.Plan.{Plan}
 use Rattle.wb_cli.specs.declared.plans.Plan.TheVariants.{Register, Forecast}
 use Rattle.wb_cli.specs.declared.status.Status.{Status}
 use Rattle.wb_cli.specs.declared.status.Status.TheVariants.{Usage}
 use Rattle.wb_export.specs.Exports.{Exported}
+use Rattle.wb_base.specs.Ends.{KeeperEnd, SinkEnd}
 
 abbrev tenant_in : Plan → ℕ
 tenant_in (Register t u m s) = t
@@ -32,7 +32,7 @@ pub same_forecast : (t t' : ℕ) (d d' : ℤ) (s s' : Option (List ℕ)) → For
 same_forecast t t' d d' s s' e = (ap tenant_in e, ap day_in e)
 
 -- a call that exports never says that the words are no form
-pub exports_forms : (keeper keeper' : ℕ) (honest : Type 0) (holds : List Row → Type 0) (held held' : Option (List ℕ)) (sink sink' : ℕ) (is_there : Held → Bool) (IsText : Held → List ℕ → Type 0) (status : Status)
-    → Exported keeper keeper' honest holds held held' sink sink' is_there IsText status → status ≢ Usage
-exports_forms keeper keeper' honest holds held held' sink sink' is_there IsText status did is =
-    let said = subst (λ (s : Status). Exported keeper keeper' honest holds held held' sink sink' is_there IsText s) is did in said.0
+pub exports_forms : (keeper keeper' : KeeperEnd) (sink sink' : SinkEnd) (is_there : Held → Bool) (IsText : Held → List ℕ → Type 0) (status : Status)
+    → Exported keeper keeper' sink sink' is_there IsText status → status ≢ Usage
+exports_forms keeper keeper' sink sink' is_there IsText status did is =
+    let said = subst (λ (s : Status). Exported keeper keeper' sink sink' is_there IsText s) is did in said.0

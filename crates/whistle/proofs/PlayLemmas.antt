@@ -29,6 +29,7 @@ use Rattle.whistle.specs.Played.{HasPlayed}
 use Rattle.whistle.specs.Runs.{script_text, PlayedFrames, Wrote, BrokeOff}
 use Rattle.wb_promise.specs.Promises.{AllAsPromised}
 use Rattle.whistle.proofs.TurnLemmas.{IsReadBy, more, output_more, none_played, one_more, stands_more}
+use Rattle.wb_base.specs.Ends.{KeeperEnd, SinkEnd, SourceEnd}
 
 pub texts_more : (fs : List ScriptFrame) (f : ScriptFrame) → texts (more fs f) ≡ texts fs ++ frame_text f
 texts_more [] f = append-nil (frame_text f)
@@ -81,75 +82,74 @@ script_more setup fs f = ap (λ l. setup_text setup ++ l) (texts_more fs f) ∙ 
 -- of loaded rows and a setup, and the past that they open
 module _ (loaded : List Row) (setup : List ℕ) (start : Past AllOpened) where
   -- How it stands between two turns: what was before the run, what is now, and the frames and places so far.
-  module _ (left held : Option (List ℕ)) (keeper : ℕ) (holds : List Row → Type 0) where
-    module _ (left' held' : Option (List ℕ)) (keeper' : ℕ) (honest : Type 0) (holds' : List Row → Type 0) (hosts : Hosts) (reader : Progress) where
+  module _ (source : SourceEnd) (sink : SinkEnd) (keeper : KeeperEnd) where
+    module _ (source' : SourceEnd) (sink' : SinkEnd) (keeper' : KeeperEnd) (hosts : Hosts) (reader : Progress) where
       pub record Standing (frames : List ScriptFrame) (places : List Place) : Type 0 where
         pub good : AllByRecursion IsFrame frames
-        pub taken : Consumes left left' (script_text setup frames)
-        pub told : Appends held held' (output (script_replies start places))
+        pub taken : Consumes source.left source'.left (script_text setup frames)
+        pub told : Appends sink.held sink'.held (output (script_replies start places))
         pub number : reader.given ≡ length frames
         pub size : reader.taken ≡ length (script_text setup frames)
         pub goes_on : reader.stopped ≡ None
-        pub turns : HasPlayed keeper keeper' honest holds holds' loaded setup start frames places
+        pub turns : HasPlayed keeper keeper' loaded setup start frames places
         pub stands : StandsFor hosts (past_after start places)
 
     -- before the first turn
-    pub at_start : AllAsPromised loaded setup start → (left' : Option (List ℕ)) (keeper' : ℕ) (honest : Type 0) (holds' : List Row → Type 0) (hosts : Hosts) (reader : Progress) → Consumes left left' (setup_text setup) → Opens keeper keeper' honest holds holds' loaded setup start hosts
-        → judged (rows start) ≡ Ok (left_of start) → reader ≡ after_setup unread setup → Standing left' held keeper' honest holds' hosts reader [] []
-    at_start promise left' keeper' honest holds' hosts reader taken opens read is = record {
+    pub at_start : AllAsPromised loaded setup start → (source' : SourceEnd) (keeper' : KeeperEnd) (hosts : Hosts) (reader : Progress) → Consumes source.left source'.left (setup_text setup) → Opens keeper keeper' loaded setup start hosts
+        → judged (rows start) ≡ Ok (left_of start) → reader ≡ after_setup unread setup → Standing source' sink keeper' hosts reader [] []
+    at_start promise source' keeper' hosts reader taken opens read is = record {
       good = tt;
-      taken = subst (Consumes left left') (sym (append-nil (setup_text setup))) taken;
-      told = Appends-nil held;
+      taken = subst (Consumes source.left source'.left) (sym (append-nil (setup_text setup))) taken;
+      told = Appends-nil sink.held;
       number = ap (λ (p : Progress). p.given) is;
       size = omega (arith, ap (λ (p : Progress). p.taken) is, ap length (append-nil (setup_text setup)));
       goes_on = ap (λ (p : Progress). p.stopped) is;
-      turns = none_played loaded setup start keeper holds promise keeper' honest holds' opens.later opens.kept read;
+      turns = none_played loaded setup start keeper promise keeper' opens.later opens.kept read;
       stands = opens.stands;
     }
 
     -- a turn whose reply was written
-    pub advance : AllAsPromised loaded setup start → (left' held' : Option (List ℕ)) (keeper' : ℕ) (honest : Type 0) (holds' : List Row → Type 0) (hosts : Hosts) (reader : Progress) (frames : List ScriptFrame) (places : List Place) → Standing left' held' keeper' honest holds' hosts reader frames places
-        → (left'' held'' : Option (List ℕ)) (keeper'' : ℕ) (honest' : Type 0) (holds'' : List Row → Type 0) → (honest' → honest) → (after : Hosts) (frame : ScriptFrame) (answer : Response) (place : Place) → IsFrame frame → Consumes left' left'' (frame_text frame)
-        → IsAnswerTo honest' holds' holds'' (past_after start places) frame answer after keeper' keeper'' place → IsReadBy after → Appends held' held'' (written (reply_of answer))
-        → (reader' : Progress) → reader' ≡ after_next reader (Some frame) → Standing left'' held'' keeper'' honest' holds'' after reader' (more frames frame) (more places place)
-    advance promise left' held' keeper' honest holds' hosts reader frames places so_far left'' held'' keeper'' honest' holds'' back after frame answer place is_frame taken is read told reader' goes =
+    pub advance : AllAsPromised loaded setup start → (source' : SourceEnd) (sink' : SinkEnd) (keeper' : KeeperEnd) (hosts : Hosts) (reader : Progress) (frames : List ScriptFrame) (places : List Place) → Standing source' sink' keeper' hosts reader frames places
+        → (source'' : SourceEnd) (sink'' : SinkEnd) (keeper'' : KeeperEnd) → (keeper''.honest → keeper'.honest) → (after : Hosts) (frame : ScriptFrame) (answer : Response) (place : Place) → IsFrame frame → Consumes source'.left source''.left (frame_text frame)
+        → IsAnswerTo keeper' keeper'' (past_after start places) frame answer after place → IsReadBy after → Appends sink'.held sink''.held (written (reply_of answer))
+        → (reader' : Progress) → reader' ≡ after_next reader (Some frame) → Standing source'' sink'' keeper'' after reader' (more frames frame) (more places place)
+    advance promise source' sink' keeper' hosts reader frames places so_far source'' sink'' keeper'' back after frame answer place is_frame taken is read told reader' goes =
         record {
           good = good_more frames frame so_far.good is_frame;
-          taken = subst (Consumes left left'') (sym (script_more setup frames frame)) (Consumes-trans left left' left'' _ _ so_far.taken taken);
-          told = subst (Appends held held'') (sym (output_more start places place)) (Appends-trans held held' held'' _ _ so_far.told (subst (λ r. Appends held' held'' (written r)) is.reply told));
+          taken = subst (Consumes source.left source''.left) (sym (script_more setup frames frame)) (Consumes-trans source.left source'.left source''.left _ _ so_far.taken taken);
+          told = subst (Appends sink.held sink''.held) (sym (output_more start places place)) (Appends-trans sink.held sink'.held sink''.held _ _ so_far.told (subst (λ r. Appends sink'.held sink''.held (written r)) is.reply told));
           number = omega (arith, so_far.number, length_more frames frame, ap (λ (r : Progress). r.given) goes);
           size = omega (arith, so_far.size, ap length (script_more setup frames frame), length-append (script_text setup frames) (frame_text frame), ap (λ (r : Progress). r.taken) goes);
           goes_on = ap (λ (r : Progress). r.stopped) goes ∙ so_far.goes_on;
-          turns = one_more loaded setup start keeper holds promise keeper' honest holds' frames places so_far.turns keeper'' honest' holds'' back after frame answer place is read;
+          turns = one_more loaded setup start keeper promise keeper' frames places so_far.turns keeper'' back after frame answer place is read;
           stands = stands_more start places place after is.stands;
         }
 
     -- a turn whose reply was not wholly written
-    pub stuck : AllAsPromised loaded setup start → (left' held' : Option (List ℕ)) (keeper' : ℕ) (honest : Type 0) (holds' : List Row → Type 0) (hosts : Hosts) (reader : Progress) (frames : List ScriptFrame) (places : List Place) → Standing left' held' keeper' honest holds' hosts reader frames places
-        → (left'' held'' : Option (List ℕ)) (keeper'' : ℕ) (honest' : Type 0) (holds'' : List Row → Type 0) → (honest' → honest) → (after : Hosts) (frame : ScriptFrame) (answer : Response) (place : Place) → IsFrame frame → Consumes left' left'' (frame_text frame)
-        → IsAnswerTo honest' holds' holds'' (past_after start places) frame answer after keeper' keeper'' place → IsReadBy after → AppendsFront held' held'' (written (reply_of answer)) → (source source' sink sink' : ℕ)
-        → PlayedFrames left left'' held held'' source source' sink sink' keeper keeper'' honest' holds holds'' loaded setup start (more frames frame) (more places place) × Consumes left left'' (script_text setup (more frames frame)) × BrokeOff left left'' held held'' source source' sink sink' keeper keeper'' honest' holds holds'' loaded setup start (more places place)
-    stuck promise left' held' keeper' honest holds' hosts reader frames places so_far left'' held'' keeper'' honest' holds'' back after frame answer place is_frame taken is read told source source' sink sink' =
-        let consumed : Consumes left left'' (script_text setup (more frames frame)) = subst (Consumes left left'') (sym (script_more setup frames frame)) (Consumes-trans left left' left'' _ _ so_far.taken taken) in (
+    pub stuck : AllAsPromised loaded setup start → (source' : SourceEnd) (sink' : SinkEnd) (keeper' : KeeperEnd) (hosts : Hosts) (reader : Progress) (frames : List ScriptFrame) (places : List Place) → Standing source' sink' keeper' hosts reader frames places
+        → (source'' : SourceEnd) (sink'' : SinkEnd) (keeper'' : KeeperEnd) → (keeper''.honest → keeper'.honest) → (after : Hosts) (frame : ScriptFrame) (answer : Response) (place : Place) → IsFrame frame → Consumes source'.left source''.left (frame_text frame)
+        → IsAnswerTo keeper' keeper'' (past_after start places) frame answer after place → IsReadBy after → AppendsFront sink'.held sink''.held (written (reply_of answer)) → PlayedFrames source source'' sink sink'' keeper keeper'' loaded setup start (more frames frame) (more places place) × Consumes source.left source''.left (script_text setup (more frames frame)) × BrokeOff source source'' sink sink'' keeper keeper'' loaded setup start (more places place)
+    stuck promise source' sink' keeper' hosts reader frames places so_far source'' sink'' keeper'' back after frame answer place is_frame taken is read told =
+        let consumed : Consumes source.left source''.left (script_text setup (more frames frame)) = subst (Consumes source.left source''.left) (sym (script_more setup frames frame)) (Consumes-trans source.left source'.left source''.left _ _ so_far.taken taken) in (
           record {
             good = good_more frames frame so_far.good is_frame;
-            begins = begins_with left left'' _ consumed;
-            turns = one_more loaded setup start keeper holds promise keeper' honest holds' frames places so_far.turns keeper'' honest' holds'' back after frame answer place is read;
+            begins = begins_with source.left source''.left _ consumed;
+            turns = one_more loaded setup start keeper promise keeper' frames places so_far.turns keeper'' back after frame answer place is read;
           },
           consumed,
-          record { before = places; last = place; order = refl; front = told.0; rest = told.1; cut = ap written (sym is.reply) ∙ told.2; told = Appends-trans held held' held'' _ _ so_far.told told.3 },
+          record { before = places; last = place; order = refl; front = told.0; rest = told.1; cut = ap written (sym is.reply) ∙ told.2; told = Appends-trans sink.held sink'.held sink''.held _ _ so_far.told told.3 },
         )
 
     -- what is so far was played and written
-    pub wrote : (left' held' : Option (List ℕ)) (keeper' : ℕ) (honest : Type 0) (holds' : List Row → Type 0) (hosts : Hosts) (reader : Progress) (frames : List ScriptFrame) (places : List Place) → Standing left' held' keeper' honest holds' hosts reader frames places
-        → (left'' : Option (List ℕ)) (part : List ℕ) → Consumes left' left'' part → (source source' sink sink' : ℕ) → Wrote left left'' held held' source source' sink sink' keeper keeper' honest holds holds' loaded setup start frames places
-    wrote left' held' keeper' honest holds' hosts reader frames places so_far left'' part taken source source' sink sink' = record {
-      played = record { good = so_far.good; begins = begins_with left left' _ so_far.taken; turns = so_far.turns };
+    pub wrote : (source' : SourceEnd) (sink' : SinkEnd) (keeper' : KeeperEnd) (hosts : Hosts) (reader : Progress) (frames : List ScriptFrame) (places : List Place) → Standing source' sink' keeper' hosts reader frames places
+        → (source'' : SourceEnd) (part : List ℕ) → Consumes source'.left source''.left part → Wrote source source'' sink sink' keeper keeper' loaded setup start frames places
+    wrote source' sink' keeper' hosts reader frames places so_far source'' part taken = record {
+      played = record { good = so_far.good; begins = begins_with source.left source'.left _ so_far.taken; turns = so_far.turns };
       written = so_far.told;
     }
 
 -- how it stands in a run: the rows that were loaded, the setup, the past that they opened, and the frames and places so far
-pub record InRun (left held : Option (List ℕ)) (keeper : ℕ) (holds : List Row → Type 0) (left' held' : Option (List ℕ)) (keeper' : ℕ) (honest : Type 0) (holds' : List Row → Type 0) (hosts : Hosts) (reader : Progress) : Type 0 where
+pub record InRun (source : SourceEnd) (sink : SinkEnd) (keeper : KeeperEnd) (source' : SourceEnd) (sink' : SinkEnd) (keeper' : KeeperEnd) (hosts : Hosts) (reader : Progress) : Type 0 where
   pub loaded : List Row
   pub setup : List ℕ
   pub start : Past AllOpened
@@ -157,4 +157,4 @@ pub record InRun (left held : Option (List ℕ)) (keeper : ℕ) (holds : List Ro
   pub opened : IsOpenedBy loaded setup start
   pub frames : List ScriptFrame
   pub places : List Place
-  pub so_far : Standing loaded setup start left held keeper holds left' held' keeper' honest holds' hosts reader frames places
+  pub so_far : Standing loaded setup start source sink keeper source' sink' keeper' hosts reader frames places

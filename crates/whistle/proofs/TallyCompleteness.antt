@@ -1,5 +1,5 @@
 -- A tally over rows that are read is written where the sink did not fail, or there was no memory, or the keeper failed in opening.
-use Rattle.std.proofs.Common.{◌≡◌, ◌⊎◌, inl, inr, ℕ, List, Option, Ok, Err, refl, arith}
+use Rattle.std.proofs.Common.{◌≡◌, ◌⊎◌, inl, inr, ℕ, List, Ok, Err, refl, arith}
 use Rattle.wb_base.specs.declared.rows.Row.{Row}
 use Rattle.wb_base.specs.Outside.{Rose}
 use Rattle.wb_model.specs.declared.registry.Lists.{Lists}
@@ -13,6 +13,8 @@ use Rattle.wb_cli.specs.declared.status.Status.{Status}
 use Rattle.wb_cli.specs.declared.status.Status.TheVariants.{Done, Usage, ReadFault, WriteFault, NoMemory, BadFrame, Setup, OpenFault, KeptRows, TooLong, ListenFault, OutboxRows, NotThere, OutboxFault}
 use Rattle.wb_server.specs.Opens.{Refuses}
 use Rattle.whistle.specs.Tallies.{StoppedTally, Tallied}
+use Rattle.wb_base.specs.Ends.{KeeperEnd, SinkEnd}
+use Rattle.wb_cli.specs.Loads.{SinkStood}
 
 setup_stands : (text : List ℕ) (lists : Lists) (fault : SetupFault) → lists_in text ≡ Ok lists → lists_in text ≡ Err fault → ⊥
 setup_stands text lists fault reads refused = grind (arith, reads, refused)
@@ -20,11 +22,11 @@ setup_stands text lists fault reads refused = grind (arith, reads, refused)
 rows_stand : (rows loaded : List Row) (h : Held) (fault : RowFault) → rows ≡ loaded → judged rows ≡ Ok h → judged loaded ≡ Err fault → ⊥
 rows_stand rows loaded h fault same reads refused = grind (arith, same, reads, refused)
 
-module _ (keeper keeper' : ℕ) (honest : Type 0) (holds holds' : List Row → Type 0) (lists : Lists) (reads : lists_in HARBOUR.now ≡ Ok lists) (h : honest) (kept : List Row) (holding : holds kept) (held_rows : Held) (reads_rows : judged kept ≡ Ok held_rows) where
+module _ (keeper keeper' : KeeperEnd) (lists : Lists) (reads : lists_in HARBOUR.now ≡ Ok lists) (h : keeper'.honest) (kept : List Row) (holding : keeper.holds kept) (held_rows : Held) (reads_rows : judged kept ≡ Ok held_rows) where
   abbrev Comes : Status → Type 0
-  Comes status = (status ≡ Done) ⊎ ((status ≡ NoMemory) ⊎ ((status ≡ OpenFault) × Rose keeper keeper'))
+  Comes status = (status ≡ Done) ⊎ ((status ≡ NoMemory) ⊎ ((status ≡ OpenFault) × Rose keeper.count keeper'.count))
 
-  not_opened : (status : Status) → Refuses keeper keeper' honest holds holds' HARBOUR.now status → Comes status
+  not_opened : (status : Status) → Refuses keeper keeper' HARBOUR.now status → Comes status
   not_opened Done refuses = absurd refuses
   not_opened Usage refuses = absurd refuses
   not_opened ReadFault refuses = absurd refuses
@@ -40,22 +42,22 @@ module _ (keeper keeper' : ℕ) (honest : Type 0) (holds holds' : List Row → T
   not_opened NotThere refuses = absurd refuses
   not_opened OutboxFault refuses = absurd refuses
 
-  stopped : (turns : ℕ) (status : Status) → StoppedTally keeper keeper' honest holds holds' turns status → Comes status
+  stopped : (turns : ℕ) (status : Status) → StoppedTally keeper keeper' turns status → Comes status
   stopped turns status (inl none) = not_opened status none.cause
   stopped turns status (inr some) = inr (inl some.0)
 
-  pub comes : (held held' : Option (List ℕ)) (sink sink' turns : ℕ) (status : Status) → (Rose sink sink' → ⊥) → Tallied keeper keeper' honest holds holds' held held' sink sink' turns status → Comes status
-  comes held held' sink sink' turns Done wrote told = inl refl
-  comes held held' sink sink' turns WriteFault wrote told = absurd (wrote told.2)
-  comes held held' sink sink' turns Usage wrote told = stopped turns Usage told.0
-  comes held held' sink sink' turns ReadFault wrote told = stopped turns ReadFault told.0
-  comes held held' sink sink' turns NoMemory wrote told = inr (inl refl)
-  comes held held' sink sink' turns (BadFrame n) wrote told = stopped turns (BadFrame n) told.0
-  comes held held' sink sink' turns (Setup fault) wrote told = stopped turns (Setup fault) told.0
-  comes held held' sink sink' turns OpenFault wrote told = stopped turns OpenFault told.0
-  comes held held' sink sink' turns (KeptRows fault) wrote told = stopped turns (KeptRows fault) told.0
-  comes held held' sink sink' turns TooLong wrote told = stopped turns TooLong told.0
-  comes held held' sink sink' turns ListenFault wrote told = stopped turns ListenFault told.0
-  comes held held' sink sink' turns (OutboxRows key) wrote told = stopped turns (OutboxRows key) told.0
-  comes held held' sink sink' turns NotThere wrote told = stopped turns NotThere told.0
-  comes held held' sink sink' turns OutboxFault wrote told = stopped turns OutboxFault told.0
+  pub comes : (sink sink' : SinkEnd) (turns : ℕ) (status : Status) → SinkStood sink sink' → Tallied keeper keeper' sink sink' turns status → Comes status
+  comes sink sink' turns Done wrote told = inl refl
+  comes sink sink' turns WriteFault wrote told = absurd (wrote told.2)
+  comes sink sink' turns Usage wrote told = stopped turns Usage told.0
+  comes sink sink' turns ReadFault wrote told = stopped turns ReadFault told.0
+  comes sink sink' turns NoMemory wrote told = inr (inl refl)
+  comes sink sink' turns (BadFrame n) wrote told = stopped turns (BadFrame n) told.0
+  comes sink sink' turns (Setup fault) wrote told = stopped turns (Setup fault) told.0
+  comes sink sink' turns OpenFault wrote told = stopped turns OpenFault told.0
+  comes sink sink' turns (KeptRows fault) wrote told = stopped turns (KeptRows fault) told.0
+  comes sink sink' turns TooLong wrote told = stopped turns TooLong told.0
+  comes sink sink' turns ListenFault wrote told = stopped turns ListenFault told.0
+  comes sink sink' turns (OutboxRows key) wrote told = stopped turns (OutboxRows key) told.0
+  comes sink sink' turns NotThere wrote told = stopped turns NotThere told.0
+  comes sink sink' turns OutboxFault wrote told = stopped turns OutboxFault told.0

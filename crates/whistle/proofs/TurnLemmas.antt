@@ -16,6 +16,7 @@ use Rattle.wb_promise.specs.Promises.{AllAsPromised}
 use Rattle.wb_rows.specs.Judged.{judged}
 use Rattle.wb_rows.specs.Left.{left}
 use Rattle.std.specs.Prelude.{Ok}
+use Rattle.wb_base.specs.Ends.{KeeperEnd}
 
 -- one more at the end
 abbrev pub more : {X : Type 0} → List X → X → List X
@@ -57,11 +58,11 @@ pub stands_more : (start : Past AllOpened) (places : List Place) (place : Place)
 stands_more start places place after stands = stands ∙ ap standing_hosts (sym (past_more start places place))
 
 -- of loaded rows, a setup and the past that they open, and what the keeper counted and held before
-module _ (loaded : List Row) (setup : List ℕ) (start : Past AllOpened) (keeper : ℕ) (holds : List Row → Type 0) where
+module _ (loaded : List Row) (setup : List ℕ) (start : Past AllOpened) (keeper : KeeperEnd) where
   -- before the first turn
-  pub none_played : AllAsPromised loaded setup start → (keeper' : ℕ) (honest : Type 0) (holds' : List Row → Type 0) → keeper ≤ keeper' → (honest → (before : List Row) → holds before → (before ≡ loaded) × holds' (rows start)) → judged (rows start) ≡ Ok (left start)
-      → HasPlayed keeper keeper' honest holds holds' loaded setup start [] []
-  none_played promise keeper' honest holds' later kept read = record {
+  pub none_played : AllAsPromised loaded setup start → (keeper' : KeeperEnd) → keeper.count ≤ keeper'.count → (keeper'.honest → (before : List Row) → keeper.holds before → (before ≡ loaded) × keeper'.holds (rows start)) → judged (rows start) ≡ Ok (left start)
+      → HasPlayed keeper keeper' loaded setup start [] []
+  none_played promise keeper' later kept read = record {
     placed = tt;
     possible = tt;
     counted = omega (arith, later);
@@ -71,17 +72,17 @@ module _ (loaded : List Row) (setup : List ℕ) (start : Past AllOpened) (keeper
   }
 
   -- one more frame
-  pub one_more : AllAsPromised loaded setup start → (keeper' : ℕ) (honest : Type 0) (holds' : List Row → Type 0) (frames : List ScriptFrame) (places : List Place) → HasPlayed keeper keeper' honest holds holds' loaded setup start frames places
-      → (keeper'' : ℕ) (honest' : Type 0) (holds'' : List Row → Type 0) → (honest' → honest) → (after : Hosts) (frame : ScriptFrame) (answer : Response) (place : Place) → IsAnswerTo honest' holds' holds'' (past_after start places) frame answer after keeper' keeper'' place → IsReadBy after
-      → HasPlayed keeper keeper'' honest' holds holds'' loaded setup start (more frames frame) (more places place)
-  one_more promise keeper' honest holds' frames places so_far keeper'' honest' holds'' back after frame answer place is read =
+  pub one_more : AllAsPromised loaded setup start → (keeper' : KeeperEnd) (frames : List ScriptFrame) (places : List Place) → HasPlayed keeper keeper' loaded setup start frames places
+      → (keeper'' : KeeperEnd) → (keeper''.honest → keeper'.honest) → (after : Hosts) (frame : ScriptFrame) (answer : Response) (place : Place) → IsAnswerTo keeper' keeper'' (past_after start places) frame answer after place → IsReadBy after
+      → HasPlayed keeper keeper'' loaded setup start (more frames frame) (more places place)
+  one_more promise keeper' frames places so_far keeper'' back after frame answer place is read =
       let placed : ArePlacesOf (more frames frame) (more places place) = placed_more frames places frame place so_far.placed is.of_frame in
       let possible : ArePossible start (more places place) = possible_more start places place so_far.possible is.possible in
       record {
         placed = placed;
         possible = possible;
         counted = omega (arith, so_far.counted, losses_more places place, is.counted);
-        kept = λ h before held. let was = so_far.kept (back h) before held in (was.0, subst (λ past. holds'' (rows past)) (sym (past_more start places place)) (is.kept h was.1));
+        kept = λ h before held. let was = so_far.kept (back h) before held in (was.0, subst (λ past. keeper''.holds (rows past)) (sym (past_more start places place)) (is.kept h was.1));
         read_back = read (past_after start (more places place)) (stands_more start places place after is.stands);
         promised = promise (more frames frame) (more places place) placed possible;
       }

@@ -1,46 +1,56 @@
 -- What a run did, by what its words ask.
-use Rattle.std.specs.Prelude.{ℕ, ℤ, ◌≡◌, ◌⊎◌, List, Option}
+use Rattle.std.specs.Prelude.{ℕ, ℤ, ◌≡◌, ◌⊎◌, List, Option, Bool, true}
 use Rattle.std.specs.Io.KnownBytes.{Appends, Keeps}
-use Rattle.wb_base.specs.declared.rows.Row.{Row}
 use Rattle.wb_base.specs.Outside.{AppendsFront, Rose}
 use Rattle.wb_cli.specs.declared.plans.Plan.TheVariants.{Play, Make, Tally, Register, Forecast}
 use Rattle.wb_cli.specs.CommandLine.{Asks, IsRunForm}
 use Rattle.wb_cli.specs.declared.status.Status.{Status}
-use Rattle.wb_cli.specs.declared.status.Status.TheVariants.{Done, Usage, WriteFault, NoMemory}
+use Rattle.wb_cli.specs.declared.status.Status.TheVariants.{Done, Usage, WriteFault, NoMemory, OpenFault}
 use Rattle.wb_rows.specs.Loaded.{KeepsRows}
 use Rattle.wb_export.specs.Exports.{Exported, IsForecastOf, IsRegisterOf, has_recipient, has_tenant}
 use Rattle.whistle.specs.Generated.{generated}
 use Rattle.whistle.specs.Runs.{Ran}
 use Rattle.whistle.specs.Tallies.{Tallied}
+use Rattle.wb_base.specs.Ends.{KeeperEnd, SinkEnd, SourceEnd}
+use Rattle.wb_cli.specs.Loads.{SinkStood, KeeperStood, WhereRead}
+use Rattle.wb_cli.specs.Statuses.{IsDoneOrNoMemory}
+use Rattle.wb_rows.specs.Held.{Held}
 
--- what the sink held before and holds now, with its count before and now
-module _ (held held' : Option (List ℕ)) (sink sink' : ℕ) where
-  -- the script of so many turns was written, or a front of it where the sink failed, or there was no memory
-  abbrev pub Writes : ℕ → Status → Type 0
-  Writes turns Done = Appends held held' (generated turns)
-  Writes turns WriteFault = Rose sink sink' × AppendsFront held held' (generated turns)
-  Writes turns NoMemory = Keeps held held'
-  Writes turns status = ⊥
+-- the script of so many turns was written, or a front of it where the sink failed, or there was no memory
+abbrev pub Writes : SinkEnd → SinkEnd → ℕ → Status → Type 0
+Writes sink sink' turns Done = Appends sink.held sink'.held (generated turns)
+Writes sink sink' turns WriteFault = Rose sink.count sink'.count × AppendsFront sink.held sink'.held (generated turns)
+Writes sink sink' turns NoMemory = Keeps sink.held sink'.held
+Writes sink sink' turns status = ⊥
 
--- nothing was read: what the source had left and has left now, with its count before and now
-pub record ReadsNothing (left left' : Option (List ℕ)) (source source' : ℕ) : Type 0 where
-  pub left_as_it_was : Keeps left left'
-  pub no_read : source' ≡ source
+-- nothing was read
+pub record ReadsNothing (source source' : SourceEnd) : Type 0 where
+  pub left_as_it_was : Keeps source.left source'.left
+  pub no_read : source'.count ≡ source.count
 
--- the keeper was not asked, and what is kept is as it was: its count before and now, and the rows that it holds before and now, where it is honest
-pub record KeepsNothing (keeper keeper' : ℕ) (honest : Type 0) (holds holds' : List Row → Type 0) : Type 0 where
-  pub no_call : keeper' ≡ keeper
-  pub rows_as_they_were : honest → (before : List Row) → holds before → holds' before
+-- the keeper was not asked, and what is kept is as it was
+pub record KeepsNothing (keeper keeper' : KeeperEnd) : Type 0 where
+  pub no_call : keeper'.count ≡ keeper.count
+  pub rows_as_they_were : KeepsRows keeper keeper'
 
--- what the source had left and has left now, what the sink held before and holds now, the counts of both and of the keeper before and now, and
--- the rows that the keeper holds before and now, where it is honest: what a run with these words and this status did
-pub record Did (left left' held held' : Option (List ℕ)) (source source' sink sink' keeper keeper' : ℕ) (honest : Type 0) (holds holds' : List Row → Type 0) (words : List (List ℕ)) (status : Status) : Type 0 where
+-- with the ends of the source, the sink and the keeper before and now: what a run with these words and this status did
+pub record Did (source source' : SourceEnd) (sink sink' : SinkEnd) (keeper keeper' : KeeperEnd) (words : List (List ℕ)) (status : Status) : Type 0 where
   -- words are told to be no form of a run only where they are none
   pub usage : status ≡ Usage → IsRunForm words → ⊥
   -- where they are none, that is told, or there was no memory, and nothing is read, written or kept
-  pub no_form : (IsRunForm words → ⊥) → ((status ≡ Usage) ⊎ (status ≡ NoMemory)) × Keeps held held' × ReadsNothing left left' source source' × KeepsNothing keeper keeper' honest holds holds'
-  pub play : (store : Option (List ℕ)) → Asks words (Play store) → Ran left left' held held' source source' sink sink' keeper keeper' honest holds holds' status
-  pub make : (turns : ℕ) → Asks words (Make turns) → Writes held held' sink sink' turns status × ReadsNothing left left' source source' × KeepsNothing keeper keeper' honest holds holds'
-  pub tally : (turns : ℕ) → Asks words (Tally turns) → Tallied keeper keeper' honest holds holds' held held' sink sink' turns status × ReadsNothing left left' source source'
-  pub register : (t u moment : ℕ) (store : Option (List ℕ)) → Asks words (Register t u moment store) → Exported keeper keeper' honest holds held held' sink sink' (has_recipient t u) (IsRegisterOf t u moment) status × KeepsRows honest holds holds' × ReadsNothing left left' source source'
-  pub forecast : (t : ℕ) (day : ℤ) (store : Option (List ℕ)) → Asks words (Forecast t day store) → Exported keeper keeper' honest holds held held' sink sink' (has_tenant t) (IsForecastOf t day) status × KeepsRows honest holds holds' × ReadsNothing left left' source source'
+  pub no_form : (IsRunForm words → ⊥) → ((status ≡ Usage) ⊎ (status ≡ NoMemory)) × Keeps sink.held sink'.held × ReadsNothing source source' × KeepsNothing keeper keeper'
+  pub play : (store : Option (List ℕ)) → Asks words (Play store) → Ran source source' sink sink' keeper keeper' status
+  pub make : (turns : ℕ) → Asks words (Make turns) → Writes sink sink' turns status × ReadsNothing source source' × KeepsNothing keeper keeper'
+  pub tally : (turns : ℕ) → Asks words (Tally turns) → Tallied keeper keeper' sink sink' turns status × ReadsNothing source source'
+  pub register : (t u moment : ℕ) (store : Option (List ℕ)) → Asks words (Register t u moment store) → Exported keeper keeper' sink sink' (has_recipient t u) (IsRegisterOf t u moment) status × KeepsRows keeper keeper' × ReadsNothing source source'
+  pub forecast : (t : ℕ) (day : ℤ) (store : Option (List ℕ)) → Asks words (Forecast t day store) → Exported keeper keeper' sink sink' (has_tenant t) (IsForecastOf t day) status × KeepsRows keeper keeper' × ReadsNothing source source'
+
+-- ---- when a run does all that its words ask
+
+-- a tally over rows that are read is written, where the sink did not fail, or there was no memory, or the keeper failed when the host was opened
+abbrev pub TalliesWhole : SinkEnd → SinkEnd → KeeperEnd → KeeperEnd → Status → Type 0
+TalliesWhole sink sink' keeper keeper' status = WhereRead keeper keeper' (λ held. SinkStood sink sink' → (status ≡ Done) ⊎ ((status ≡ NoMemory) ⊎ ((status ≡ OpenFault) × Rose keeper.count keeper'.count)))
+
+-- a register and a forecast over rows that are read are written, where who is named is there and no call failed, or there was no memory
+abbrev pub ExportsWhole : SinkEnd → SinkEnd → KeeperEnd → KeeperEnd → (Held → Bool) → Status → Type 0
+ExportsWhole sink sink' keeper keeper' is_there status = WhereRead keeper keeper' (λ held. is_there held ≡ true → SinkStood sink sink' → KeeperStood keeper keeper' → IsDoneOrNoMemory status)

@@ -10,15 +10,16 @@ use Rattle.wb_model.specs.Rows.{rows}
 use Rattle.wb_rows.specs.Judged.{judged}
 use Rattle.wb_rows.specs.Left.{left}
 use Rattle.wb_promise.specs.Promises.{IsAsPromised}
+use Rattle.wb_base.specs.Ends.{KeeperEnd}
 
--- with the keeper's count before and now, and the rows that it holds before and now, where it is honest: a host that was opened over these
+-- with the keeper's end before and now: a host that was opened over these
 -- loaded rows with this setup, and stood for this past before its first turn, played these frames as these places
-pub record HasPlayed (keeper keeper' : ℕ) (honest : Type 0) (holds holds' : List Row → Type 0) (loaded : List Row) (setup : List ℕ) (start : Past AllOpened) (frames : List ScriptFrame) (places : List Place) : Type 0 where
+pub record HasPlayed (keeper keeper' : KeeperEnd) (loaded : List Row) (setup : List ℕ) (start : Past AllOpened) (frames : List ScriptFrame) (places : List Place) : Type 0 where
   pub placed : ArePlacesOf frames places
   pub possible : ArePossible start places
-  pub counted : RoseBy (keeper_losses places) keeper keeper'
+  pub counted : RoseBy (keeper_losses places) keeper.count keeper'.count
   -- the keeper held the rows that were loaded, and holds those of the past after the frames
-  pub kept : honest → (before : List Row) → holds before → (before ≡ loaded) × holds' (rows (past_after start places))
+  pub kept : keeper'.honest → (before : List Row) → keeper.holds before → (before ≡ loaded) × keeper'.holds (rows (past_after start places))
   -- these are refused by no rule, and are read as what the hosts hold
   pub read_back : judged (rows (past_after start places)) ≡ Ok (left (past_after start places))
   -- it answered as is promised

@@ -29,11 +29,11 @@ pub fn answer_frame<K: Keeper>(
     frame: &ScriptFrame,
 ) -> Response
     requires { desk.old.turns < 1_000_000_000_000_000 }
-    ensures answer { (past : Past AllOpened) → StandsFor (hosts_of desk.old) past → (place : Place) × IsAnswerTo (K.honest keeper.new) (K.holds keeper.old) (K.holds keeper.new) past frame.now result (hosts_of desk.new) (K.count keeper.old) (K.count keeper.new) place }
+    ensures answer { (past : Past AllOpened) → StandsFor (hosts_of desk.old) past → (place : Place) × IsAnswerTo (K.end keeper.old) (K.end keeper.new) past frame.now result (hosts_of desk.new) place }
     // The rows of what the host holds then are refused by no rule, and are read as that.
     ensures read_back { (past : Past AllOpened) → StandsFor (hosts_of desk.new) past → judged (rows past) ≡ Ok (left past) }
     ensures turns { desk.new.turns ≤ desk.old.turns + 1 }
-    ensures back { K.honest keeper.new → K.honest keeper.old }
+    ensures back { (K.end keeper.new).honest → (K.end keeper.old).honest }
 {
     a_desk_leaves_rows_that_are_read();
     match read_request(alloc, routes, frame.bytes.as_slice()) {
@@ -55,9 +55,9 @@ pub fn answer_frame<K: Keeper>(
 
 /// Writes what the output has of a response. It takes no memory.
 pub fn write_response<W: Sink>(sink: &mut W, response: &Response) -> Result<(), Failed>
-    ensures ok { OnOk result (Appends (W.held sink.old) (W.held sink.new) (written (reply_of response.now))) }
-    ensures err { OnErr result (AppendsFront (W.held sink.old) (W.held sink.new) (written (reply_of response.now))) }
-    ensures cause { HasCause (W.count sink.old) (W.count sink.new) result }
+    ensures ok { OnOk result (Appends (W.end sink.old).held (W.end sink.new).held (written (reply_of response.now))) }
+    ensures err { OnErr result (AppendsFront (W.end sink.old).held (W.end sink.new).held (written (reply_of response.now))) }
+    ensures cause { HasCause (W.end sink.old).count (W.end sink.new).count result }
 {
     let told = &response.told;
     let body = told.body.as_bytes();

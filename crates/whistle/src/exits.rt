@@ -1,9 +1,8 @@
 //! How the program ends: the words that it was called with, the number of its status, and its line on standard error.
-ghost use Rattle.std.specs.Prelude.{◌≡◌, ◌≢◌, drop, map, string_bytes, IfOk};
+ghost use Rattle.std.specs.Prelude.{◌≡◌, drop, map, string_bytes, IfOk};
 ghost use Rattle.std.specs.Vec.Iter.{into_iter_items};
 ghost use Rattle.wb_cli.specs.declared.status.Status.{Status};
-ghost use Rattle.whistle.specs.Exits.{TellsLine};
-ghost use Rattle.whistle.specs.Asked.{Did};
+ghost use Rattle.whistle.specs.Exits.{TellsLine, EndsAs};
 ghost use Rattle.wb_cli.specs.Statuses.{status_number};
 
 use crate::running::run;
@@ -36,7 +35,7 @@ pub fn words_of(alloc: Global, all: Args) -> Result<Vec<Text>, Memory>
 /// fails, the number is all that is left to tell.
 pub fn end<E: Sink>(status: &Status, errors: &mut E) -> u8
     ensures number { result ≡ status_number status.now }
-    ensures line { TellsLine (E.held errors.old) (E.held errors.new) (E.count errors.old) (E.count errors.new) status.now }
+    ensures line { TellsLine (E.end errors.old) (E.end errors.new) status.now }
 {
     let _line = exit_line(status, errors);
     status.number()
@@ -52,11 +51,7 @@ pub fn run_to_end<S: Source, W: Sink, K: Keeper, E: Sink>(
     keeper: &mut K,
     errors: &mut E,
 ) -> u8
-    ensures { (status : Status) × (result ≡ status_number status)
-        × Did (S.left source.old) (S.left source.new) (W.held sink.old) (W.held sink.new) (S.count source.old) (S.count source.new) (W.count sink.old) (W.count sink.new) (K.count keeper.old) (K.count keeper.new) (K.honest keeper.new) (K.holds keeper.old) (K.holds keeper.new) words.now status
-        × (status ≢ Status.ReadFault → S.count source.new ≡ S.count source.old)
-        × (status ≢ Status.WriteFault → W.count sink.new ≡ W.count sink.old)
-        × TellsLine (E.held errors.old) (E.held errors.new) (E.count errors.old) (E.count errors.new) status }
+    ensures { EndsAs (S.end source.old) (S.end source.new) (W.end sink.old) (W.end sink.new) (K.end keeper.old) (K.end keeper.new) (E.end errors.old) (E.end errors.new) words.now result }
 {
     let status = run(alloc, words, source, sink, keeper);
     end(&status, errors)

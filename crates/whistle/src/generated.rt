@@ -211,9 +211,9 @@ fn setup_head(size: usize) -> Part
 
 // Writes the setup's frame.
 fn write_setup<W: Sink>(sink: &mut W) -> Result<(), Failed>
-    ensures ok { OnOk result (Appends (W.held sink.old) (W.held sink.new) (setup_text HARBOUR.now)) }
-    ensures err { OnErr result (AppendsFront (W.held sink.old) (W.held sink.new) (setup_text HARBOUR.now)) }
-    ensures cause { HasCause (W.count sink.old) (W.count sink.new) result }
+    ensures ok { OnOk result (Appends (W.end sink.old).held (W.end sink.new).held (setup_text HARBOUR.now)) }
+    ensures err { OnErr result (AppendsFront (W.end sink.old).held (W.end sink.new).held (setup_text HARBOUR.now)) }
+    ensures cause { HasCause (W.end sink.old).count (W.end sink.new).count result }
 {
     let line = setup_head(HARBOUR.len());
     match sink.write_all(line.as_bytes()) {
@@ -232,9 +232,9 @@ fn write_setup<W: Sink>(sink: &mut W) -> Result<(), Failed>
 
 /// Writes the script of so many turns, a frame at a time. It takes no memory.
 pub fn make<W: Sink>(turns: u32, sink: &mut W) -> Result<(), Failed>
-    ensures ok { OnOk result (Appends (W.held sink.old) (W.held sink.new) (made.generated turns)) }
-    ensures err { OnErr result (AppendsFront (W.held sink.old) (W.held sink.new) (made.generated turns)) }
-    ensures cause { HasCause (W.count sink.old) (W.count sink.new) result }
+    ensures ok { OnOk result (Appends (W.end sink.old).held (W.end sink.new).held (made.generated turns)) }
+    ensures err { OnErr result (AppendsFront (W.end sink.old).held (W.end sink.new).held (made.generated turns)) }
+    ensures cause { HasCause (W.end sink.old).count (W.end sink.new).count result }
 {
     match write_setup(sink) {
         Ok(()) => {}

@@ -54,8 +54,8 @@ pub fn listen<
     workers: u32,
     keeper: K,
 ) -> u8
-    requires asked { (text : List ℕ) (at : List ℕ) (count : ℕ) (lock : LockOf) (store : Option (List ℕ)) → Asks words.now (Serve text at count lock store) → (text ≡ setup.now) × (at ≡ address.now) × (count ≡ workers) }
-    requires held { K.honest keeper → (rows : List KeptRow) × K.holds keeper rows }
+    requires asked { (text at : List ℕ) (count : ℕ) (lock : LockOf) (store : _) → Asks words.now (Serve text at count lock store) → (text ≡ setup.now) × (at ≡ address.now) × (count ≡ workers) }
+    requires held { (K.end keeper).honest → (rows : List KeptRow) × (K.end keeper).holds rows }
 {
     let mut errors = StdSink::new(rt.stderr());
     let listener = TcpListener::bind(handle, address).ok();

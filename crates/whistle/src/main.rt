@@ -30,10 +30,11 @@ use std::net::{Net, TcpListener, TcpStream};
 use std::process::ExitCode;
 use std::sync::Wait;
 use std::thread::Threads;
-use wb_base::{Keeper, MemKeeper, StdSink, StdSource, Text};
+use wb_base::{Keeper, StdSink, StdSource, Text};
 use wb_cli::{Place, Plan, PlanFault, StoreWord, plan};
 pub use wb_cli::{Status, exit_line};
 use wb_etcd::{EtcdKeeper, Store};
+use wb_memory::RowsInMemory;
 use wb_notice::notify;
 pub use wb_server::serve;
 use wb_sqlite::PathKeeper;
@@ -51,8 +52,8 @@ fn words(rt: &HostRuntime) -> Result<Vec<Text>, Status> {
 }
 
 // A keeper of no rows yet.
-fn rows_in_memory(alloc: Global) -> MemKeeper {
-    MemKeeper::new(Vec::new(alloc), Vec::new(alloc))
+fn rows_in_memory(alloc: Global) -> RowsInMemory {
+    RowsInMemory::new(alloc)
 }
 
 // A keeper of the rows in a store of etcd, which is reached over TCP.
@@ -106,7 +107,7 @@ fn serve_at<'x, R: Threads + Wait + Net<Listener = TcpListener, Stream = TcpStre
     workers: u32,
     store: Option<StoreWord>,
 ) -> u8
-    requires asked { (text : List ℕ) (at : List ℕ) (count : ℕ) (lock : LockOf) (store : Option (List ℕ)) → Asks words.now (Serve text at count lock store) → (text ≡ setup.now) × (at ≡ address.now) × (count ≡ workers) }
+    requires asked { (text at : List ℕ) (count : ℕ) (lock : LockOf) (store : _) → Asks words.now (Serve text at count lock store) → (text ≡ setup.now) × (at ≡ address.now) × (count ≡ workers) }
 {
     match store.map(StoreWord::place) {
         Some(Place::File(path)) => {

@@ -18,13 +18,13 @@ pub fn open<S: Source, K: Keeper>(
     keeper: &mut K,
 ) -> Result<Desk, Status>
     requires { reader.old ≡ unread }
-    ensures ok { IfOk result (λ desk. Begins (K.count keeper.old) (K.count keeper.new) (K.honest keeper.new) (K.holds keeper.old) (K.holds keeper.new) (S.left source.old) (S.left source.new) (S.count source.old) (S.count source.new) reader.new (hosts_of desk)) }
-    ensures err { IfErr result (λ status. OpensNone (K.count keeper.old) (K.count keeper.new) (K.honest keeper.new) (K.holds keeper.old) (K.holds keeper.new) (S.left source.old) (S.left source.new) (S.count source.old) (S.count source.new) status) }
+    ensures ok { IfOk result (λ desk. Begins (K.end keeper.old) (K.end keeper.new) (S.end source.old) (S.end source.new) reader.new (hosts_of desk)) }
+    ensures err { IfErr result (λ status. OpensNone (K.end keeper.old) (K.end keeper.new) (S.end source.old) (S.end source.new) status) }
     ensures usage { IfErr result (λ status. status ≢ Status.Usage) }
     ensures limit { reader.new.taken ≤ 2 ^ 40 }
-    ensures back { K.honest keeper.new → K.honest keeper.old }
-    ensures later { S.count source.old ≤ S.count source.new }
-    ensures stayed { result ≢ Err Status.ReadFault → S.count source.new ≡ S.count source.old }
+    ensures back { (K.end keeper.new).honest → (K.end keeper.old).honest }
+    ensures later { (S.end source.old).count ≤ (S.end source.new).count }
+    ensures stayed { result ≢ Err Status.ReadFault → (S.end source.new).count ≡ (S.end source.old).count }
 {
     let setup = match reader.setup(alloc, source) {
         Ok(setup) => setup,

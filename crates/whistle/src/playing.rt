@@ -1,16 +1,6 @@
 //! Scripts that are played.
-ghost use Rattle.std.specs.Prelude.{ℕ, List, Some, Ok, ◌≡◌, ◌≢◌, ◌⊎◌, ◌<◌, ◌^◌, length};
-ghost use Rattle.std.specs.List.{AllByRecursion};
-ghost use Rattle.wb_base.specs.Outside.{Rose};
-ghost use Rattle.wb_base.specs.declared.rows.Row.{Row as KeptRow};
-ghost use Rattle.wb_model.specs.declared.wire.ScriptFrame.{ScriptFrame};
-ghost use Rattle.wb_model.specs.declared.registry.Lists.{Lists};
-ghost use Rattle.wb_model.specs.FrameTexts.{IsFrame};
-ghost use Rattle.wb_rows.specs.Held.{Held};
-ghost use Rattle.wb_rows.specs.Judged.{judged};
-ghost use Rattle.wb_setup.specs.Setups.{setup as lists_in};
-ghost use Rattle.wb_wire.specs.SetupText.{IsSetup};
-ghost use Rattle.whistle.specs.Runs.{Ran, script_text};
+ghost use Rattle.std.specs.Prelude.{Some, Ok, ◌≡◌, ◌≢◌, ◌<◌};
+ghost use Rattle.whistle.specs.Runs.{Ran, PlaysWhole};
 
 use crate::answering::{answer_frame, write_response};
 use crate::opening::open;
@@ -28,11 +18,11 @@ fn play<S: Source, W: Sink, K: Keeper>(
     sink: &mut W,
     keeper: &mut K,
 ) -> Status
-    ensures ran { Ran (S.left source.old) (S.left source.new) (W.held sink.old) (W.held sink.new) (S.count source.old) (S.count source.new) (W.count sink.old) (W.count sink.new) (K.count keeper.old) (K.count keeper.new) (K.honest keeper.new) (K.holds keeper.old) (K.holds keeper.new) result }
+    ensures ran { Ran (S.end source.old) (S.end source.new) (W.end sink.old) (W.end sink.new) (K.end keeper.old) (K.end keeper.new) result }
     ensures no_usage { result ≢ Status.Usage }
-    ensures back { K.honest keeper.new → K.honest keeper.old }
-    ensures read_on { result ≢ Status.ReadFault → S.count source.new ≡ S.count source.old }
-    ensures written_on { result ≢ Status.WriteFault → W.count sink.new ≡ W.count sink.old }
+    ensures back { (K.end keeper.new).honest → (K.end keeper.old).honest }
+    ensures read_on { result ≢ Status.ReadFault → (S.end source.new).count ≡ (S.end source.old).count }
+    ensures written_on { result ≢ Status.WriteFault → (W.end sink.new).count ≡ (W.end sink.old).count }
 {
     each_script_is_as_promised();
     a_desk_leaves_rows_that_are_read();
@@ -68,12 +58,12 @@ pub fn play_script<S: Source, W: Sink, K: Keeper>(
     sink: &mut W,
     keeper: &mut K,
 ) -> Status
-    ensures ran { Ran (S.left source.old) (S.left source.new) (W.held sink.old) (W.held sink.new) (S.count source.old) (S.count source.new) (W.count sink.old) (W.count sink.new) (K.count keeper.old) (K.count keeper.new) (K.honest keeper.new) (K.holds keeper.old) (K.holds keeper.new) result }
+    ensures ran { Ran (S.end source.old) (S.end source.new) (W.end sink.old) (W.end sink.new) (K.end keeper.old) (K.end keeper.new) result }
     ensures no_usage { result ≢ Status.Usage }
-    ensures back { K.honest keeper.new → K.honest keeper.old }
-    ensures read_on { result ≢ Status.ReadFault → S.count source.new ≡ S.count source.old }
-    ensures written_on { result ≢ Status.WriteFault → W.count sink.new ≡ W.count sink.old }
-    ensures complete { (setup : List ℕ) (lists : Lists) (frames : List ScriptFrame) (kept : List KeptRow) (held : Held) → IsSetup setup → lists_in setup ≡ Ok lists → AllByRecursion IsFrame frames → S.left source.old ≡ Some (script_text setup frames) → length (script_text setup frames) < 2 ^ 40 → K.honest keeper.new → K.holds keeper.old kept → judged kept ≡ Ok held → (Rose (S.count source.old) (S.count source.new) → ⊥) → (Rose (W.count sink.old) (W.count sink.new) → ⊥) → (Rose (K.count keeper.old) (K.count keeper.new) → ⊥) → (result ≡ Status.Done) ⊎ (result ≡ Status.NoMemory) }
+    ensures back { (K.end keeper.new).honest → (K.end keeper.old).honest }
+    ensures read_on { result ≢ Status.ReadFault → (S.end source.new).count ≡ (S.end source.old).count }
+    ensures written_on { result ≢ Status.WriteFault → (W.end sink.new).count ≡ (W.end sink.old).count }
+    ensures complete { PlaysWhole (S.end source.old) (S.end source.new) (W.end sink.old) (W.end sink.new) (K.end keeper.old) (K.end keeper.new) result }
 {
     one_frame();
     one_setup();

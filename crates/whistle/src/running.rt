@@ -1,21 +1,11 @@
 //! The top call.
-ghost use Rattle.std.specs.Prelude.{ℕ, ℤ, true, List, Option, Some, Ok, ◌≡◌, ◌≢◌, ◌⊎◌, ◌<◌, ◌^◌, length};
-ghost use Rattle.std.specs.List.{AllByRecursion};
-ghost use Rattle.wb_base.specs.Outside.{Rose};
-ghost use Rattle.wb_base.specs.declared.rows.Row.{Row as KeptRow};
-ghost use Rattle.wb_model.specs.declared.registry.Lists.{Lists};
-ghost use Rattle.wb_model.specs.declared.wire.ScriptFrame.{ScriptFrame};
-ghost use Rattle.wb_model.specs.FrameTexts.{IsFrame};
-ghost use Rattle.wb_rows.specs.Held.{Held};
-ghost use Rattle.wb_rows.specs.Judged.{judged};
-ghost use Rattle.wb_setup.specs.Setups.{setup as lists_in};
-ghost use Rattle.wb_wire.specs.SetupText.{IsSetup};
+ghost use Rattle.std.specs.Prelude.{ℕ, ℤ, List, Option, Ok, ◌≡◌, ◌≢◌, ◌⊎◌, ◌<◌};
 ghost use Rattle.wb_cli.specs.declared.plans.Plan.{Plan as PlanOf};
 ghost use Rattle.wb_cli.specs.declared.plans.Plan.TheVariants.{Play, Tally, Register, Forecast};
 ghost use Rattle.wb_cli.specs.CommandLine.{Asks};
 ghost use Rattle.wb_export.specs.Exports.{has_recipient, has_tenant};
-ghost use Rattle.whistle.specs.Asked.{Did, Writes};
-ghost use Rattle.whistle.specs.Runs.{script_text};
+ghost use Rattle.whistle.specs.Asked.{Did, Writes, TalliesWhole, ExportsWhole};
+ghost use Rattle.whistle.specs.Runs.{PlaysWhole};
 
 use crate::generated::make;
 use crate::playing::play_script;
@@ -28,8 +18,8 @@ use wb_export::{export_forecast, export_register};
 // Writes the script of so many turns.
 fn make_script<W: Sink>(turns: u32, sink: &mut W) -> Status
     ensures ends { (result ≡ Status.Done) ⊎ (result ≡ Status.WriteFault) }
-    ensures writes { Writes (W.held sink.old) (W.held sink.new) (W.count sink.old) (W.count sink.new) turns result }
-    ensures written_on { result ≢ Status.WriteFault → W.count sink.new ≡ W.count sink.old }
+    ensures writes { Writes (W.end sink.old) (W.end sink.new) turns result }
+    ensures written_on { result ≢ Status.WriteFault → (W.end sink.new).count ≡ (W.end sink.old).count }
 {
     match make(turns, sink) {
         Ok(()) => Status::Done,
@@ -48,14 +38,14 @@ fn run_plan<S: Source, W: Sink, K: Keeper>(
 ) -> Status
     requires ok { Asks words.now plan.now }
     requires only { (other : PlanOf) → Asks words.now other → other ≡ plan.now }
-    ensures did { Did (S.left source.old) (S.left source.new) (W.held sink.old) (W.held sink.new) (S.count source.old) (S.count source.new) (W.count sink.old) (W.count sink.new) (K.count keeper.old) (K.count keeper.new) (K.honest keeper.new) (K.holds keeper.old) (K.holds keeper.new) words.now result }
-    ensures back { K.honest keeper.new → K.honest keeper.old }
-    ensures read_on { result ≢ Status.ReadFault → S.count source.new ≡ S.count source.old }
-    ensures written_on { result ≢ Status.WriteFault → W.count sink.new ≡ W.count sink.old }
-    ensures complete { (store : Option (List ℕ)) (setup : List ℕ) (lists : Lists) (frames : List ScriptFrame) (kept : List KeptRow) (held : Held) → Asks words.now (Play store) → IsSetup setup → lists_in setup ≡ Ok lists → AllByRecursion IsFrame frames → S.left source.old ≡ Some (script_text setup frames) → length (script_text setup frames) < 2 ^ 40 → K.honest keeper.new → K.holds keeper.old kept → judged kept ≡ Ok held → (Rose (S.count source.old) (S.count source.new) → ⊥) → (Rose (W.count sink.old) (W.count sink.new) → ⊥) → (Rose (K.count keeper.old) (K.count keeper.new) → ⊥) → (result ≡ Status.Done) ⊎ (result ≡ Status.NoMemory) }
-    ensures complete_tally { (turns : ℕ) (kept : List KeptRow) (held : Held) → Asks words.now (Tally turns) → K.honest keeper.new → K.holds keeper.old kept → judged kept ≡ Ok held → (Rose (W.count sink.old) (W.count sink.new) → ⊥) → (result ≡ Status.Done) ⊎ ((result ≡ Status.NoMemory) ⊎ ((result ≡ Status.OpenFault) × Rose (K.count keeper.old) (K.count keeper.new))) }
-    ensures complete_register { (t u moment : ℕ) (store : Option (List ℕ)) (kept : List KeptRow) (held : Held) → Asks words.now (Register t u moment store) → K.honest keeper.new → K.holds keeper.old kept → judged kept ≡ Ok held → has_recipient t u held ≡ true → (Rose (W.count sink.old) (W.count sink.new) → ⊥) → (Rose (K.count keeper.old) (K.count keeper.new) → ⊥) → (result ≡ Status.Done) ⊎ (result ≡ Status.NoMemory) }
-    ensures complete_forecast { (t : ℕ) (day : ℤ) (store : Option (List ℕ)) (kept : List KeptRow) (held : Held) → Asks words.now (Forecast t day store) → K.honest keeper.new → K.holds keeper.old kept → judged kept ≡ Ok held → has_tenant t held ≡ true → (Rose (W.count sink.old) (W.count sink.new) → ⊥) → (Rose (K.count keeper.old) (K.count keeper.new) → ⊥) → (result ≡ Status.Done) ⊎ (result ≡ Status.NoMemory) }
+    ensures did { Did (S.end source.old) (S.end source.new) (W.end sink.old) (W.end sink.new) (K.end keeper.old) (K.end keeper.new) words.now result }
+    ensures back { (K.end keeper.new).honest → (K.end keeper.old).honest }
+    ensures read_on { result ≢ Status.ReadFault → (S.end source.new).count ≡ (S.end source.old).count }
+    ensures written_on { result ≢ Status.WriteFault → (W.end sink.new).count ≡ (W.end sink.old).count }
+    ensures complete { (store : Option (List ℕ)) → Asks words.now (Play store) → PlaysWhole (S.end source.old) (S.end source.new) (W.end sink.old) (W.end sink.new) (K.end keeper.old) (K.end keeper.new) result }
+    ensures complete_tally { (turns : ℕ) → Asks words.now (Tally turns) → TalliesWhole (W.end sink.old) (W.end sink.new) (K.end keeper.old) (K.end keeper.new) result }
+    ensures complete_register { (t u moment : ℕ) (s : _) → Asks words.now (Register t u moment s) → ExportsWhole (W.end sink.old) (W.end sink.new) (K.end keeper.old) (K.end keeper.new) (has_recipient t u) result }
+    ensures complete_forecast { (t : ℕ) (day : ℤ) (s : _) → Asks words.now (Forecast t day s) → ExportsWhole (W.end sink.old) (W.end sink.new) (K.end keeper.old) (K.end keeper.new) (has_tenant t) result }
 {
     match plan {
         Plan::Play { .. } => play_script(alloc, source, sink, keeper),
@@ -85,18 +75,18 @@ pub fn run<S: Source, W: Sink, K: Keeper>(
     sink: &mut W,
     keeper: &mut K,
 ) -> Status
-    ensures did { Did (S.left source.old) (S.left source.new) (W.held sink.old) (W.held sink.new) (S.count source.old) (S.count source.new) (W.count sink.old) (W.count sink.new) (K.count keeper.old) (K.count keeper.new) (K.honest keeper.new) (K.holds keeper.old) (K.holds keeper.new) words.now result }
-    ensures back { K.honest keeper.new → K.honest keeper.old }
+    ensures did { Did (S.end source.old) (S.end source.new) (W.end sink.old) (W.end sink.new) (K.end keeper.old) (K.end keeper.new) words.now result }
+    ensures back { (K.end keeper.new).honest → (K.end keeper.old).honest }
     // The source failed at no call of a run that does not say so, nor did the sink.
-    ensures read_on { result ≢ Status.ReadFault → S.count source.new ≡ S.count source.old }
-    ensures written_on { result ≢ Status.WriteFault → W.count sink.new ≡ W.count sink.old }
+    ensures read_on { result ≢ Status.ReadFault → (S.end source.new).count ≡ (S.end source.old).count }
+    ensures written_on { result ≢ Status.WriteFault → (W.end sink.new).count ≡ (W.end sink.old).count }
     // A whole script whose setup is accepted is played to its end over rows that are read, where nothing failed, or there was no memory.
-    ensures complete { (store : Option (List ℕ)) (setup : List ℕ) (lists : Lists) (frames : List ScriptFrame) (kept : List KeptRow) (held : Held) → Asks words.now (Play store) → IsSetup setup → lists_in setup ≡ Ok lists → AllByRecursion IsFrame frames → S.left source.old ≡ Some (script_text setup frames) → length (script_text setup frames) < 2 ^ 40 → K.honest keeper.new → K.holds keeper.old kept → judged kept ≡ Ok held → (Rose (S.count source.old) (S.count source.new) → ⊥) → (Rose (W.count sink.old) (W.count sink.new) → ⊥) → (Rose (K.count keeper.old) (K.count keeper.new) → ⊥) → (result ≡ Status.Done) ⊎ (result ≡ Status.NoMemory) }
+    ensures complete { (store : Option (List ℕ)) → Asks words.now (Play store) → PlaysWhole (S.end source.old) (S.end source.new) (W.end sink.old) (W.end sink.new) (K.end keeper.old) (K.end keeper.new) result }
     // A tally over rows that are read is written, where the sink did not fail, or there was no memory, or the keeper failed when the host was opened.
-    ensures complete_tally { (turns : ℕ) (kept : List KeptRow) (held : Held) → Asks words.now (Tally turns) → K.honest keeper.new → K.holds keeper.old kept → judged kept ≡ Ok held → (Rose (W.count sink.old) (W.count sink.new) → ⊥) → (result ≡ Status.Done) ⊎ ((result ≡ Status.NoMemory) ⊎ ((result ≡ Status.OpenFault) × Rose (K.count keeper.old) (K.count keeper.new))) }
+    ensures complete_tally { (turns : ℕ) → Asks words.now (Tally turns) → TalliesWhole (W.end sink.old) (W.end sink.new) (K.end keeper.old) (K.end keeper.new) result }
     // A register and a forecast over rows that are read are written, where who is named is there and nothing failed, or there was no memory.
-    ensures complete_register { (t u moment : ℕ) (store : Option (List ℕ)) (kept : List KeptRow) (held : Held) → Asks words.now (Register t u moment store) → K.honest keeper.new → K.holds keeper.old kept → judged kept ≡ Ok held → has_recipient t u held ≡ true → (Rose (W.count sink.old) (W.count sink.new) → ⊥) → (Rose (K.count keeper.old) (K.count keeper.new) → ⊥) → (result ≡ Status.Done) ⊎ (result ≡ Status.NoMemory) }
-    ensures complete_forecast { (t : ℕ) (day : ℤ) (store : Option (List ℕ)) (kept : List KeptRow) (held : Held) → Asks words.now (Forecast t day store) → K.honest keeper.new → K.holds keeper.old kept → judged kept ≡ Ok held → has_tenant t held ≡ true → (Rose (W.count sink.old) (W.count sink.new) → ⊥) → (Rose (K.count keeper.old) (K.count keeper.new) → ⊥) → (result ≡ Status.Done) ⊎ (result ≡ Status.NoMemory) }
+    ensures complete_register { (t u moment : ℕ) (s : _) → Asks words.now (Register t u moment s) → ExportsWhole (W.end sink.old) (W.end sink.new) (K.end keeper.old) (K.end keeper.new) (has_recipient t u) result }
+    ensures complete_forecast { (t : ℕ) (day : ℤ) (s : _) → Asks words.now (Forecast t day s) → ExportsWhole (W.end sink.old) (W.end sink.new) (K.end keeper.old) (K.end keeper.new) (has_tenant t) result }
 {
     match plan(alloc, words) {
         Ok(plan) => run_plan(alloc, words, &plan, source, sink, keeper),

@@ -60,9 +60,9 @@ fn held_lines(counts: &Counts) -> Lines
 
 // Writes the lines of all statuses.
 fn write_statuses<W: Sink>(rows: &[StatusCount], sink: &mut W) -> Result<(), Failed>
-    ensures ok { OnOk result (Appends (W.held sink.old) (W.held sink.new) (flat_map lines.status_line rows.now)) }
-    ensures err { OnErr result (AppendsFront (W.held sink.old) (W.held sink.new) (flat_map lines.status_line rows.now)) }
-    ensures cause { HasCause (W.count sink.old) (W.count sink.new) result }
+    ensures ok { OnOk result (Appends (W.end sink.old).held (W.end sink.new).held (flat_map lines.status_line rows.now)) }
+    ensures err { OnErr result (AppendsFront (W.end sink.old).held (W.end sink.new).held (flat_map lines.status_line rows.now)) }
+    ensures cause { HasCause (W.end sink.old).count (W.end sink.new).count result }
 {
     for row in rows {
         match sink.write_all(status_line(row).as_bytes()) {
@@ -80,9 +80,9 @@ pub fn write_tally<W: Sink>(
     counts: &Counts,
     sink: &mut W,
 ) -> Result<(), Failed>
-    ensures ok { OnOk result (Appends (W.held sink.old) (W.held sink.new) (lines.tally_text turns rows.now (lines.counted counts.now))) }
-    ensures err { OnErr result (AppendsFront (W.held sink.old) (W.held sink.new) (lines.tally_text turns rows.now (lines.counted counts.now))) }
-    ensures cause { HasCause (W.count sink.old) (W.count sink.new) result }
+    ensures ok { OnOk result (Appends (W.end sink.old).held (W.end sink.new).held (lines.tally_text turns rows.now (lines.counted counts.now))) }
+    ensures err { OnErr result (AppendsFront (W.end sink.old).held (W.end sink.new).held (lines.tally_text turns rows.now (lines.counted counts.now))) }
+    ensures cause { HasCause (W.end sink.old).count (W.end sink.new).count result }
 {
     match sink.write_all(turns_line(turns).as_bytes()) {
         Ok(()) => {}

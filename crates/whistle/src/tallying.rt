@@ -32,9 +32,9 @@ fn play_turns<K: Keeper>(
     keeper: &mut K,
 ) -> Result<Told, Status>
     requires { turns ≤ 20_000 }
-    ensures ok { IfOk result (λ told. (played : PlayedTurns (K.count keeper.old) (K.count keeper.new) (K.honest keeper.new) (K.holds keeper.old) (K.holds keeper.new) turns) × IsTallyOf (K.count keeper.old) (K.count keeper.new) (K.honest keeper.new) (K.holds keeper.old) (K.holds keeper.new) turns played (tally_text turns told.statuses.items (counted told.held))) }
-    ensures err { IfErr result (λ status. StoppedTally (K.count keeper.old) (K.count keeper.new) (K.honest keeper.new) (K.holds keeper.old) (K.holds keeper.new) turns status) }
-    ensures back { K.honest keeper.new → K.honest keeper.old }
+    ensures ok { IfOk result (λ told. (played : PlayedTurns (K.end keeper.old) (K.end keeper.new) turns) × IsTallyOf (K.end keeper.old) (K.end keeper.new) turns played (tally_text turns told.statuses.items (counted told.held))) }
+    ensures err { IfErr result (λ status. StoppedTally (K.end keeper.old) (K.end keeper.new) turns status) }
+    ensures back { (K.end keeper.new).honest → (K.end keeper.old).honest }
 {
     each_script_is_as_promised();
     a_desk_leaves_rows_that_are_read();
@@ -64,10 +64,10 @@ fn play_turns<K: Keeper>(
 /// the host counts at the end.
 pub fn tally<W: Sink, K: Keeper>(alloc: Global, turns: u32, sink: &mut W, keeper: &mut K) -> Status
     requires { turns ≤ 20_000 }
-    ensures tallied { Tallied (K.count keeper.old) (K.count keeper.new) (K.honest keeper.new) (K.holds keeper.old) (K.holds keeper.new) (W.held sink.old) (W.held sink.new) (W.count sink.old) (W.count sink.new) turns result }
+    ensures tallied { Tallied (K.end keeper.old) (K.end keeper.new) (W.end sink.old) (W.end sink.new) turns result }
     ensures no_usage { result ≢ Status.Usage }
-    ensures back { K.honest keeper.new → K.honest keeper.old }
-    ensures written_on { result ≢ Status.WriteFault → W.count sink.new ≡ W.count sink.old }
+    ensures back { (K.end keeper.new).honest → (K.end keeper.old).honest }
+    ensures written_on { result ≢ Status.WriteFault → (W.end sink.new).count ≡ (W.end sink.old).count }
 {
     let routes = match Routes::new(alloc) {
         Ok(routes) => routes,

@@ -3,7 +3,7 @@ ghost use Rattle.std.specs.Prelude.{◌<◌};
 
 use crate::generated::make;
 use crate::sample_setup::HARBOUR;
-use crate::{Status, exit_line, rows_in_memory, run};
+use crate::{Status, exit_line, run};
 use std::alloc::Global;
 use std::test::Fail;
 use wb_base::{Keeper, Key, MemKeeper, MemSink, MemSource, Text};
@@ -245,7 +245,8 @@ const ENDINGS: &[Ending] = &[
 fn the_replies_before_a_fault_stand(rt: HostRuntime) -> Result<(), Fail> {
     let alloc = rt.alloc();
     for (reads, writes, ended, count) in ENDINGS {
-        let (status, held) = play(alloc, reads, writes, &mut rows_in_memory(alloc))?;
+        let mut keeper = keeper_failing_at(alloc, Vec::new(alloc));
+        let (status, held) = play(alloc, reads, writes, &mut keeper)?;
         let told = &ALL_MADE[..(*count).min(ALL_MADE.len())];
         assert!(rt; status == *ended && held == output(alloc, told)?, "{count}");
     }

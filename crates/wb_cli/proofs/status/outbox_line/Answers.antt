@@ -4,12 +4,12 @@ use Rattle.wb_cli.proofs.SinkLemmas.{front_more, front_if_err, whole_if_ok}
 use Rattle.wb_cli.proofs.status.outbox_line.Goals as goal
 
 pub returns-in-Err-clause-err : goal.returns-in-Err-clause-err
-returns-in-Err-clause-err g c = front_more (g.W.Sink.held c.args.sink.now) (g.W.Sink.held c.write_all.new.self) (codes "outbox rows refused:") (place_text c.args.key) c.in-Err.ensures.err
+returns-in-Err-clause-err g c = front_more (g.W.Sink.end c.args.sink.now).held (g.W.Sink.end c.write_all.new.self).held (codes "outbox rows refused:") (place_text c.args.key) c.in-Err.ensures.err
 
 pub returns-clause-err : goal.returns-clause-err
 returns-clause-err g c =
-    front_if_err c.place_line.result (g.W.Sink.held c.args.sink.now) (g.W.Sink.held c.write_all.new.self) (g.W.Sink.held c.place_line.new.sink) (codes "outbox rows refused:") (place_text c.args.key) c.in-Ok.ensures.ok c.place_line.ensures.err
+    front_if_err c.place_line.result (g.W.Sink.end c.args.sink.now).held (g.W.Sink.end c.write_all.new.self).held (g.W.Sink.end c.place_line.new.sink).held (codes "outbox rows refused:") (place_text c.args.key) c.in-Ok.ensures.ok c.place_line.ensures.err
 
 pub returns-clause-ok : goal.returns-clause-ok
 returns-clause-ok g c =
-    whole_if_ok c.place_line.result (g.W.Sink.held c.args.sink.now) (g.W.Sink.held c.write_all.new.self) (g.W.Sink.held c.place_line.new.sink) (codes "outbox rows refused:") (place_text c.args.key) c.in-Ok.ensures.ok c.place_line.ensures.ok
+    whole_if_ok c.place_line.result (g.W.Sink.end c.args.sink.now).held (g.W.Sink.end c.write_all.new.self).held (g.W.Sink.end c.place_line.new.sink).held (codes "outbox rows refused:") (place_text c.args.key) c.in-Ok.ensures.ok c.place_line.ensures.ok

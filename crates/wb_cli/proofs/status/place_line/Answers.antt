@@ -8,19 +8,19 @@ pub returns-in-Err-clause-err : goal.returns-in-Err-clause-err
 returns-in-Err-clause-err g c =
     let kind : List ℕ = (codes " at " ++ decimal c.args.key.kind) ++ (codes "/" ++ decimal c.args.key.tenant) in
     let report : List ℕ = codes "/" ++ decimal c.args.key.a in
-    front_more (g.W.Sink.held c.args.sink.now) (g.W.Sink.held c.write_two.new.sink) (kind ++ report) (codes "/" ++ decimal c.args.key.b ++ codes "\n")
-    (front_more (g.W.Sink.held c.args.sink.now) (g.W.Sink.held c.write_two.new.sink) kind report c.in-Err.ensures.err)
+    front_more (g.W.Sink.end c.args.sink.now).held (g.W.Sink.end c.write_two.new.sink).held (kind ++ report) (codes "/" ++ decimal c.args.key.b ++ codes "\n")
+    (front_more (g.W.Sink.end c.args.sink.now).held (g.W.Sink.end c.write_two.new.sink).held kind report c.in-Err.ensures.err)
 
 pub returns-in-Err-write_part-clause-err : goal.returns-in-Err-write_part-clause-err
 returns-in-Err-write_part-clause-err g c =
     let kind : List ℕ = (codes " at " ++ decimal c.args.key.kind) ++ (codes "/" ++ decimal c.args.key.tenant) in
     let report : List ℕ = codes "/" ++ decimal c.args.key.a in
-    front_more (g.W.Sink.held c.args.sink.now) (g.W.Sink.held c.write_part.new.sink) (kind ++ report) (codes "/" ++ decimal c.args.key.b ++ codes "\n")
-    (front_after (g.W.Sink.held c.args.sink.now) (g.W.Sink.held c.write_two.new.sink) (g.W.Sink.held c.write_part.new.sink) kind report c.in-Ok.ensures.ok c.in-Err-write_part.ensures.err)
+    front_more (g.W.Sink.end c.args.sink.now).held (g.W.Sink.end c.write_part.new.sink).held (kind ++ report) (codes "/" ++ decimal c.args.key.b ++ codes "\n")
+    (front_after (g.W.Sink.end c.args.sink.now).held (g.W.Sink.end c.write_two.new.sink).held (g.W.Sink.end c.write_part.new.sink).held kind report c.in-Ok.ensures.ok c.in-Err-write_part.ensures.err)
 
 pub returns-clause-err : goal.returns-clause-err
 returns-clause-err g c =
     let kind : List ℕ = (codes " at " ++ decimal c.args.key.kind) ++ (codes "/" ++ decimal c.args.key.tenant) in
     let report : List ℕ = codes "/" ++ decimal c.args.key.a in
-    front_if_err c.write_numbered.result (g.W.Sink.held c.args.sink.now) (g.W.Sink.held c.write_part.new.sink) (g.W.Sink.held c.write_numbered.new.sink) (kind ++ report) (codes "/" ++ decimal c.args.key.b ++ codes "\n")
-    (Appends-trans (g.W.Sink.held c.args.sink.now) (g.W.Sink.held c.write_two.new.sink) (g.W.Sink.held c.write_part.new.sink) kind report c.in-Ok.ensures.ok c.in-Ok-write_part.ensures.ok) c.write_numbered.ensures.err
+    front_if_err c.write_numbered.result (g.W.Sink.end c.args.sink.now).held (g.W.Sink.end c.write_part.new.sink).held (g.W.Sink.end c.write_numbered.new.sink).held (kind ++ report) (codes "/" ++ decimal c.args.key.b ++ codes "\n")
+    (Appends-trans (g.W.Sink.end c.args.sink.now).held (g.W.Sink.end c.write_two.new.sink).held (g.W.Sink.end c.write_part.new.sink).held kind report c.in-Ok.ensures.ok c.in-Ok-write_part.ensures.ok) c.write_numbered.ensures.err

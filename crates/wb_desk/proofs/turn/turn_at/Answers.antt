@@ -54,7 +54,7 @@ pub returns-clause-kept : goal.returns-clause-kept
 returns-clause-kept g c = λ h held.
     let purge : IsPurge c.args.at.now.time (map place_of c.args.tenancies.now) c.args.sealed.now.items (map place_of c.purge_all.new.tenancies) c.purge_all.new.sealed.items = (purge_of c.args.at.now.time (map place_of c.args.tenancies.now) (map place_of c.prepare_at.new.tenancies) (map place_of c.purge_all.new.tenancies) c.args.sealed.now.items c.prepare_at.new.sealed.items c.purge_all.new.sealed.items
     (sym c.prepare_at.ensures.tenants_left) (sym c.prepare_at.ensures.sealed_left) c.purge_all.ensures.places c.purge_all.ensures.hosts) in
-    subst (g.K.Keeper.holds c.keep.new.keeper)
+    subst (g.K.Keeper.end c.keep.new.keeper).holds
     (ap (all_changed (rows_of (map (tenancy_of c.args.sealed.now.items) (map place_of c.args.tenancies.now)))) c.as_slice.ensures.value
     ∙ rows_at c.requires.places.0 c.args.at.now.time c.args.place c.args.sealed.now.items c.purge_all.new.sealed.items c.make_at.new.sealed.items c.args.tenancies.now c.purge_all.new.tenancies c.make_at.new.tenancies c.in-Ok.batched.plan.change c.in-Ok.batched.batch.items c.requires.places.2 c.requires.place.within
     (λ d. batch_same c.args.at.now.time c.args.place c.args.tenancies.now c.prepare_at.new.tenancies d c.in-Ok.batched.plan.change c.in-Ok.batched.batch.items c.prepare_at.ensures.tenants_left (c.in-Ok.ensures.batch d))

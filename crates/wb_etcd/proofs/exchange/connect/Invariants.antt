@@ -6,6 +6,6 @@ use Rattle.wb_etcd.proofs.exchange.connect.Given as goal
 -- the endpoints that are left give what all of them give
 abbrev pub invariant-loop-endpoint : goal.invariant-loop-endpoint
 invariant-loop-endpoint g l = record {
-  told : (x : Dialed) → g.D.Dial.told l.fn.dial ≡ Some x → (y : Dialed) × (g.D.Dial.told l.dial ≡ Some y) × (connection l.endpoints x ≡ connection (drop l.endpoint-index l.endpoints) y);
-  untold : g.D.Dial.told l.fn.dial ≡ None → g.D.Dial.told l.dial ≡ None;
+  told : (x : Dialed) → (g.D.Dial.end l.fn.dial).told ≡ Some x → (y : Dialed) × ((g.D.Dial.end l.dial).told ≡ Some y) × (connection l.endpoints x ≡ connection (drop l.endpoint-index l.endpoints) y);
+  untold : (g.D.Dial.end l.fn.dial).told ≡ None → (g.D.Dial.end l.dial).told ≡ None;
 }

@@ -5,9 +5,9 @@ use Rattle.wb_etcd.proofs.exchange.read_all.Given as goal
 -- what was read, and then what is left, is all that the link had
 abbrev pub invariant-loop-piece : goal.invariant-loop-piece
 invariant-loop-piece g l = record {
-  left : (bytes : List ℕ) → g.L.Link.left l.fn.link ≡ Some bytes → (rest : List ℕ) × (g.L.Link.left l.link ≡ Some rest) × (bytes ≡ l.answer.items ++ rest);
-  got : g.L.Link.got l.link ≡ g.L.Link.got l.fn.link;
-  count : g.L.Link.count l.link ≡ g.L.Link.count l.fn.link;
+  left : (bytes : List ℕ) → (g.L.Link.end l.fn.link).left ≡ Some bytes → (rest : List ℕ) × ((g.L.Link.end l.link).left ≡ Some rest) × (bytes ≡ l.answer.items ++ rest);
+  got : (g.L.Link.end l.link).got ≡ (g.L.Link.end l.fn.link).got;
+  count : (g.L.Link.end l.link).count ≡ (g.L.Link.end l.fn.link).count;
 }
 
 abbrev pub decreases-loop-piece : goal.decreases-loop-piece

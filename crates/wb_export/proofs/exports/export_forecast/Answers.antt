@@ -5,10 +5,10 @@ use Rattle.wb_export.proofs.ExportLemmas.{wrote}
 use Rattle.wb_export.proofs.exports.export_forecast.Goals as goal
 
 pub returns-then-not-has_tenant-clause-did : goal.returns-then-not-has_tenant-clause-did
-returns-then-not-has_tenant-clause-did g c = (record { kept = held_by c.in-Ok.tables; read = c.in-Ok.ensures.ok; there = cc }, Keeps-refl (g.W.Sink.held c.args.sink.now))
+returns-then-not-has_tenant-clause-did g c = (record { kept = held_by c.in-Ok.tables; read = c.in-Ok.ensures.ok; there = cc }, Keeps-refl (g.W.Sink.end c.args.sink.now).held)
 
 pub returns-in-Ok-forecast-clause-did : goal.returns-in-Ok-forecast-clause-did
 returns-in-Ok-forecast-clause-did g c =
-    wrote (g.K.Keeper.count c.args.keeper.now) (g.K.Keeper.count c.load_tables.new.keeper) (g.K.Keeper.honest c.load_tables.new.keeper) (g.K.Keeper.holds c.args.keeper.now) (g.W.Sink.held c.args.sink.now) (g.W.Sink.held c.write_out.new.sink) (g.W.Sink.count c.args.sink.now) (g.W.Sink.count c.write_out.new.sink) (has_tenant c.args.tenant) (IsForecastOf c.args.tenant c.args.day)
+    wrote (g.K.Keeper.end c.args.keeper.now) (g.K.Keeper.end c.load_tables.new.keeper) (g.W.Sink.end c.args.sink.now) (g.W.Sink.end c.write_out.new.sink) (has_tenant c.args.tenant) (IsForecastOf c.args.tenant c.args.day)
     c.write_out.result c.in-Ok-forecast.text.items (record { kept = held_by c.in-Ok.tables; read = c.in-Ok.ensures.ok; there = cc }) c.in-Ok-forecast.ensures c.write_out.ensures.ends
     (λ done. rw c.deref.ensures.value at c.write_out.ensures.done done) (λ fault. rw c.deref.ensures.value at c.write_out.ensures.fault fault)

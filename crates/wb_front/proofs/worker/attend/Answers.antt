@@ -9,10 +9,10 @@ use Rattle.wb_front.proofs.worker.attend.Goals as goal
 
 pub returns-clause-attended : goal.returns-clause-attended
 returns-clause-attended g c = λ x a told line.
-    let before : Sides _ = record { left = g.Li.End.Link.left c.args.link; got = g.Li.End.Link.got c.args.link; moments = g.T.Ticker.left c.args.station.now.ticker; own = c.args.own.now } in
-    let after : Sides _ = record { left = g.Li.End.Link.left c.serve_connection.new.link; got = g.Li.End.Link.got c.serve_connection.new.link; moments = g.T.Ticker.left c.serve_connection.new.ticker; own = c.serve_connection.new.own } in
+    let before : Sides _ = record { left = (g.Li.End.Link.end c.args.link).left; got = (g.Li.End.Link.end c.args.link).got; moments = (g.T.Ticker.end c.args.station.now.ticker).left; own = c.args.own.now } in
+    let after : Sides _ = record { left = (g.Li.End.Link.end c.serve_connection.new.link).left; got = (g.Li.End.Link.end c.serve_connection.new.link).got; moments = (g.T.Ticker.end c.serve_connection.new.ticker).left; own = c.serve_connection.new.own } in
     let still = still_tells (λ own frame told own'. g.G.Gate.ran own frame told own') before after a.left a.got c.serve_connection.result line.has_left line.has_got c.serve_connection.ensures.ended in
-    let b : Line = record { left = still.0; got = still.1; count = g.Li.End.Link.count c.serve_connection.new.link } in (
+    let b : Line = record { left = still.0; got = still.1; count = (g.Li.End.Link.end c.serve_connection.new.link).count } in (
       b,
       record {
         how = c.serve_connection.result;

@@ -7,9 +7,9 @@ use Rattle.wb_notice.specs.Notifies.{count_line, notice_line}
 use Rattle.wb_notice.proofs.lines.write_notices.Goals as goal
 
 pub returns-in-Err-clause-err : goal.returns-in-Err-clause-err
-returns-in-Err-clause-err g c = front_more (g.W.Sink.held c.args.sink.now) (g.W.Sink.held c.write_all.new.sink) (flat_map notice_line c.args.notices.now) (count_line (length c.args.notices.now)) c.in-Err.ensures.err
+returns-in-Err-clause-err g c = front_more (g.W.Sink.end c.args.sink.now).held (g.W.Sink.end c.write_all.new.sink).held (flat_map notice_line c.args.notices.now) (count_line (length c.args.notices.now)) c.in-Err.ensures.err
 
 pub returns-clause-err : goal.returns-clause-err
 returns-clause-err g c =
-    front_if_err c.write_all-2.result (g.W.Sink.held c.args.sink.now) (g.W.Sink.held c.write_all.new.sink) (g.W.Sink.held c.write_all-2.new.self) (flat_map notice_line c.args.notices.now) (count_line (length c.args.notices.now)) c.in-Ok.ensures.ok
-    (subst (λ text. OnErr c.write_all-2.result (AppendsFront (g.W.Sink.held c.write_all.new.sink) (g.W.Sink.held c.write_all-2.new.self) text)) (c.as_bytes.ensures ∙ c.count_line.ensures) c.write_all-2.ensures.err)
+    front_if_err c.write_all-2.result (g.W.Sink.end c.args.sink.now).held (g.W.Sink.end c.write_all.new.sink).held (g.W.Sink.end c.write_all-2.new.self).held (flat_map notice_line c.args.notices.now) (count_line (length c.args.notices.now)) c.in-Ok.ensures.ok
+    (subst (λ text. OnErr c.write_all-2.result (AppendsFront (g.W.Sink.end c.write_all.new.sink).held (g.W.Sink.end c.write_all-2.new.self).held text)) (c.as_bytes.ensures ∙ c.count_line.ensures) c.write_all-2.ensures.err)

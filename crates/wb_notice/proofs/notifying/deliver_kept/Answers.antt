@@ -18,7 +18,7 @@ returns-in-Ok-send-clause-ok g c =
       loaded = sent.loaded;
       all = sent.notices;
       added = subst (λ time. c.in-Ok-send.news.notices.items ≡ new_notices (unsealed kept) time sent.rows) now sent.news.notices;
-      left = subst (λ time. g.B.Keeper.honest c.send.new.outbox → (before : List Row) → g.B.Keeper.holds c.args.outbox.now before → g.B.Keeper.holds c.send.new.outbox (box (unsealed kept) time before)) now c.in-Ok-send.ensures.delivered;
+      left = subst (λ time. (g.B.Keeper.end c.send.new.outbox).honest → (before : List Row) → (g.B.Keeper.end c.args.outbox.now).holds before → (g.B.Keeper.end c.send.new.outbox).holds (box (unsealed kept) time before)) now c.in-Ok-send.ensures.delivered;
     }
 
 pub returns-in-Err-Keeper-clause-err : goal.returns-in-Err-Keeper-clause-err

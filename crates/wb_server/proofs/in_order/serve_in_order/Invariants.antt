@@ -7,4 +7,4 @@ abbrev pub ghosts-serve_on-B-Ledger : goal.ghosts-serve_on-B-Ledger
 ghosts-serve_on-B-Ledger g a = record { name = a.numbers.name; parts = a.numbers.parts }
 
 abbrev pub ghosts-serve_on-A-Origin : goal.ghosts-serve_on-A-Origin
-ghosts-serve_on-A-Origin g a = record { desk = a.desk; honest = g.K.Keeper.honest a.keeper }
+ghosts-serve_on-A-Origin g a = record { desk = a.desk; honest = (g.K.Keeper.end a.keeper).honest }

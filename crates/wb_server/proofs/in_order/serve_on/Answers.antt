@@ -23,7 +23,7 @@ attend_all-requires-clause-of g c κs within =
 
 pub unplace-all-requires-clause-ended : goal.unplace-all-requires-clause-ended
 unplace-all-requires-clause-ended g c =
-    All-same (λ w. HasEnded (g.Li.Listener.told w.station.listener) w.worked) _ _ (take_written _ c.attend_all.new.workers _ (c.attend_all.ensures.len ∙ c.as_mut_slice.ensures.len)) c.attend_all.ensures.ended
+    All-same (λ w. HasEnded (g.Li.Listener.end w.station.listener) w.worked) _ _ (take_written _ c.attend_all.new.workers _ (c.attend_all.ensures.len ∙ c.as_mut_slice.ensures.len)) c.attend_all.ensures.ended
 
 pub close_tickets-requires-clause-here : goal.close_tickets-requires-clause-here
 close_tickets-requires-clause-here g c =
@@ -42,23 +42,25 @@ returns-clause-served g c =
     let closed = c.in-Ok-close_tickets.closed in
     let first = c.in-Ok.ensures.gate.1 ∙ c.new-kept.ensures.host in (
       lists,
-      length-map c.unplace-all.new.owns.items (λ (s : Owned). s.mine) ∙ (sym c.unplace-all.new.owns.ok.0 ∙ (c.unplace-all.ensures.owns ∙ full)),
-      subst (λ x. IsLastOf x lists closed.desk closed.turns closed.numbers (g.K.Keeper.count closed.keeper)) first c.in-Ok-close_tickets.ensures.history,
-      λ i d e inside.
-          let within : i < n = omega (arith, inside, c.args.stations.now.ok.0) in
-          let seat : Owned = record { gate = t.gate.id; hand = fresh; mine = [] } in
-          let written = take_written _ c.attend_all.new.workers _ (c.attend_all.ensures.len ∙ c.as_mut_slice.ensures.len) in
-          let places = in_place (λ w. w.station) n _ i d e (record { own = seat; station = d; worked = End }) c.args.stations.now.items c.unplace-all.new.stations.items c.place.new.workers.items _ c.attend_all.new.workers full within c.place.ensures.order c.unplace-all.ensures.order written in
-          let seats = in_place (λ w. w.own) n _ i seat seat (record { own = seat; station = d; worked = End }) t.seats.items c.unplace-all.new.owns.items c.place.new.workers.items _ c.attend_all.new.workers full within c.place.ensures.given c.unplace-all.ensures.given written in
-          let begun = All-get_or (λ (s : Owned). s ≡ seat) t.seats.items i seat (omega (arith, within, c.in-Ok.ensures.seats.0)) c.in-Ok.ensures.seats.1 in
-          let served = rw c.as_mut_slice.ensures.value at (c.attend_all.ensures.served (n - 1 - i) (record { own = seat; station = d; worked = End }) (omega (arith, within, c.as_mut_slice.ensures.len, full))) in
-          record {
-            seat = slice_index_or t.seats.items i seat;
-            seat' = slice_index_or c.unplace-all.new.owns.items i seat;
-            begins = ap (λ (s : Owned). s.mine) begun;
-            ends = sym (get_or-map (λ (s : Owned). s.mine) c.unplace-all.new.owns.items i seat);
-            served = rw seats.0 at (rw (sym seats.1) at (rw places.0 at (rw (sym places.1) at served)));
-          },
+      subst (λ x. IsLastOf x lists closed.desk closed.turns closed.numbers (g.K.Keeper.end closed.keeper).count) first c.in-Ok-close_tickets.ensures.history,
+      (
+        length-map c.unplace-all.new.owns.items (λ (s : Owned). s.mine) ∙ (sym c.unplace-all.new.owns.ok.0 ∙ (c.unplace-all.ensures.owns ∙ (full ∙ c.args.stations.now.ok.0))),
+        λ i d e inside.
+            let within : i < n = omega (arith, inside, c.args.stations.now.ok.0) in
+            let seat : Owned = record { gate = t.gate.id; hand = fresh; mine = [] } in
+            let written = take_written _ c.attend_all.new.workers _ (c.attend_all.ensures.len ∙ c.as_mut_slice.ensures.len) in
+            let places = in_place (λ w. w.station) n _ i d e (record { own = seat; station = d; worked = End }) c.args.stations.now.items c.unplace-all.new.stations.items c.place.new.workers.items _ c.attend_all.new.workers full within c.place.ensures.order c.unplace-all.ensures.order written in
+            let seats = in_place (λ w. w.own) n _ i seat seat (record { own = seat; station = d; worked = End }) t.seats.items c.unplace-all.new.owns.items c.place.new.workers.items _ c.attend_all.new.workers full within c.place.ensures.given c.unplace-all.ensures.given written in
+            let begun = All-get_or (λ (s : Owned). s ≡ seat) t.seats.items i seat (omega (arith, within, c.in-Ok.ensures.seats.0)) c.in-Ok.ensures.seats.1 in
+            let served = rw c.as_mut_slice.ensures.value at (c.attend_all.ensures.served (n - 1 - i) (record { own = seat; station = d; worked = End }) (omega (arith, within, c.as_mut_slice.ensures.len, full))) in
+            record {
+              seat = slice_index_or t.seats.items i seat;
+              seat' = slice_index_or c.unplace-all.new.owns.items i seat;
+              begins = ap (λ (s : Owned). s.mine) begun;
+              ends = sym (get_or-map (λ (s : Owned). s.mine) c.unplace-all.new.owns.items i seat);
+              served = rw seats.0 at (rw (sym seats.1) at (rw places.0 at (rw (sym places.1) at served)));
+            },
+      ),
     )
 
 pub returns-clause-failed : goal.returns-clause-failed
@@ -70,7 +72,7 @@ returns-clause-failed g c ended =
     let k = n - 1 - fault.0 in
     let within : k < n = omega (arith, full, fault.1) in (
       k,
-      within,
+      omega (arith, within, c.args.stations.now.ok.0),
       λ d e.
           let seat : Owned = record { gate = c.in-Ok.tickets.gate.id; hand = fresh; mine = [] } in
           let places = in_place (λ w. w.station) n _ k d e (record { own = seat; station = d; worked = End }) c.args.stations.now.items c.unplace-all.new.stations.items c.place.new.workers.items _ c.attend_all.new.workers full within c.place.ensures.order c.unplace-all.ensures.order written in

@@ -15,7 +15,7 @@ returns-in-Ok-open-clause-ok g c =
       record {
         opened = record { lists = c.in-Ok.setup.lists; reads = c.in-Ok.ensures.ok; held = over.held; kept = over.read; opening = over.opening; over = over.over; opens = refl };
         stands = over.stands;
-        kept = λ h before held. (past.1 h before held, subst (λ (k : Hosts). g.K.Keeper.holds c.open.new.keeper (rows_of k.list)) over.stands (c.in-Ok-open.ensures.kept h before held));
+        kept = λ h before held. (past.1 h before held, subst (λ (k : Hosts). (g.K.Keeper.end c.open.new.keeper).holds (rows_of k.list)) over.stands (c.in-Ok-open.ensures.kept h before held));
         later = c.open.ensures.later;
       },
     )

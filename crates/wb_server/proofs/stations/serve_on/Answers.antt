@@ -12,24 +12,26 @@ attend_all-requires-clause-of g c κs within = all_of (λ w. Unit {0}) c.as_mut_
 
 pub unplace-all-requires-clause-ended : goal.unplace-all-requires-clause-ended
 unplace-all-requires-clause-ended g c =
-    All-same (λ w. HasEnded (g.Li.Listener.told w.station.listener) w.worked) _ _ (take_written _ c.attend_all.new.workers _ (c.attend_all.ensures.len ∙ c.as_mut_slice.ensures.len)) c.attend_all.ensures.ended
+    All-same (λ w. HasEnded (g.Li.Listener.end w.station.listener) w.worked) _ _ (take_written _ c.attend_all.new.workers _ (c.attend_all.ensures.len ∙ c.as_mut_slice.ensures.len)) c.attend_all.ensures.ended
 
 pub returns-clause-served : goal.returns-clause-served
 returns-clause-served g c = (
   c.unplace-all.new.owns.items,
-  sym c.unplace-all.new.owns.ok.0 ∙ (c.unplace-all.ensures.owns ∙ c.place.ensures.workers),
   sym c.in-Ok.ensures.ok.0,
   sym c.in-Ok.ensures.ok.1,
-  λ i d e inside.
-      let n = vec_len c.args.stations.now in
-      let within : i < n = omega (arith, inside, c.args.stations.now.ok.0) in
-      let full = c.place.ensures.workers in
-      let written = take_written _ c.attend_all.new.workers _ (c.attend_all.ensures.len ∙ c.as_mut_slice.ensures.len) in
-      let places = in_place (λ w. w.station) n _ i d e (record { own = fresh; station = d; worked = End }) c.args.stations.now.items c.unplace-all.new.stations.items c.place.new.workers.items _ c.attend_all.new.workers full within c.place.ensures.order c.unplace-all.ensures.order written in
-      let passes = in_place (λ w. w.own) n _ i fresh fresh (record { own = fresh; station = d; worked = End }) c.split.new.passes.items c.unplace-all.new.owns.items c.place.new.workers.items _ c.attend_all.new.workers full within c.place.ensures.given c.unplace-all.ensures.given written in
-      let begun = All-get_or (λ p. p ≡ fresh) c.split.new.passes.items i fresh (omega (arith, within, c.split.new.passes.ok.0, c.split.ensures.many, ap (λ (p : Hand). p.parts) c.new-kept.ensures.pass, c.len-count.ensures)) c.split.ensures.each in
-      let served = rw c.as_mut_slice.ensures.value at (c.attend_all.ensures.served (n - 1 - i) (record { own = fresh; station = d; worked = End }) (omega (arith, within, c.as_mut_slice.ensures.len, full))) in
-      rw c.requires.opened at (rw (passes.0 ∙ begun) at (rw (sym passes.1) at (rw places.0 at (rw (sym places.1) at served)))),
+  (
+    sym c.unplace-all.new.owns.ok.0 ∙ (c.unplace-all.ensures.owns ∙ (c.place.ensures.workers ∙ c.args.stations.now.ok.0)),
+    λ i d e inside.
+        let n = vec_len c.args.stations.now in
+        let within : i < n = omega (arith, inside, c.args.stations.now.ok.0) in
+        let full = c.place.ensures.workers in
+        let written = take_written _ c.attend_all.new.workers _ (c.attend_all.ensures.len ∙ c.as_mut_slice.ensures.len) in
+        let places = in_place (λ w. w.station) n _ i d e (record { own = fresh; station = d; worked = End }) c.args.stations.now.items c.unplace-all.new.stations.items c.place.new.workers.items _ c.attend_all.new.workers full within c.place.ensures.order c.unplace-all.ensures.order written in
+        let passes = in_place (λ w. w.own) n _ i fresh fresh (record { own = fresh; station = d; worked = End }) c.split.new.passes.items c.unplace-all.new.owns.items c.place.new.workers.items _ c.attend_all.new.workers full within c.place.ensures.given c.unplace-all.ensures.given written in
+        let begun = All-get_or (λ p. p ≡ fresh) c.split.new.passes.items i fresh (omega (arith, within, c.split.new.passes.ok.0, c.split.ensures.many, ap (λ (p : Hand). p.parts) c.new-kept.ensures.pass, c.len-count.ensures)) c.split.ensures.each in
+        let served = rw c.as_mut_slice.ensures.value at (c.attend_all.ensures.served (n - 1 - i) (record { own = fresh; station = d; worked = End }) (omega (arith, within, c.as_mut_slice.ensures.len, full))) in
+        rw c.requires.opened at (rw (passes.0 ∙ begun) at (rw (sym passes.1) at (rw places.0 at (rw (sym places.1) at served)))),
+  ),
 )
 
 pub returns-clause-failed : goal.returns-clause-failed
@@ -41,7 +43,7 @@ returns-clause-failed g c ended =
     let k = n - 1 - fault.0 in
     let within : k < n = omega (arith, full, fault.1) in (
       k,
-      within,
+      omega (arith, within, c.args.stations.now.ok.0),
       λ d e.
           let places = in_place (λ w. w.station) n _ k d e (record { own = fresh; station = d; worked = End }) c.args.stations.now.items c.unplace-all.new.stations.items c.place.new.workers.items _ c.attend_all.new.workers full within c.place.ensures.order c.unplace-all.ensures.order written in
           let there : n - 1 - k ≡ fault.0 = omega (arith, full, fault.1) in

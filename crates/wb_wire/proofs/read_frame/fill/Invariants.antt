@@ -6,8 +6,8 @@ abbrev pub invariant-loop-at : goal.invariant-loop-at
 invariant-loop-at g l = record {
   fits : l.at ≤ length l.room;
   most : l.at ≤ l.most;
-  taken : Consumes (g.S.Source.left l.initial.source) (g.S.Source.left l.source) (take l.at l.room);
-  stayed : g.S.Source.count l.source ≡ g.S.Source.count l.initial.source;
+  taken : Consumes (g.S.Source.end l.initial.source).left (g.S.Source.end l.source).left (take l.at l.room);
+  stayed : (g.S.Source.end l.source).count ≡ (g.S.Source.end l.initial.source).count;
 }
 
 abbrev pub decreases-loop-at : goal.decreases-loop-at

@@ -8,9 +8,9 @@ invariant-loop-used g l = record {
   long : length l.room ≡ 96;
   fits : l.used ≤ 96;
   most : l.used ≤ l.most;
-  taken : Consumes (g.S.Source.left l.initial.source) (g.S.Source.left l.source) (take l.used l.room);
+  taken : Consumes (g.S.Source.end l.initial.source).left (g.S.Source.end l.source).left (take l.used l.room);
   line : Lacks 10 (take l.used l.room);
-  stayed : g.S.Source.count l.source ≡ g.S.Source.count l.initial.source;
+  stayed : (g.S.Source.end l.source).count ≡ (g.S.Source.end l.initial.source).count;
 }
 
 abbrev pub decreases-loop-used : goal.decreases-loop-used

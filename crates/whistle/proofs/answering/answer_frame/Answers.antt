@@ -6,12 +6,12 @@ use Rattle.whistle.proofs.answering.answer_frame.Goals as goal
 
 pub returns-in-Ok-clause-answer : goal.returns-in-Ok-clause-answer
 returns-in-Ok-clause-answer g c = λ past stands.
-    asked (g.K.Keeper.honest c.step-told.new.keeper) (g.K.Keeper.holds c.args.keeper.now) (g.K.Keeper.holds c.step-told.new.keeper) past c.args.frame.now c.step-told.result c.in-Ok.asked (hosts_of c.step-told.new.self) (g.K.Keeper.count c.args.keeper.now) (g.K.Keeper.count c.step-told.new.keeper)
+    asked (g.K.Keeper.end c.args.keeper.now) (g.K.Keeper.end c.step-told.new.keeper) past c.args.frame.now c.step-told.result c.in-Ok.asked (hosts_of c.step-told.new.self)
     (subst (λ (bytes : List ℕ). Reads bytes (Asks c.in-Ok.asked)) c.as_slice.ensures c.in-Ok.ensures.ok) (c.step-told.ensures.turn c.requires past stands)
 
 pub returns-in-Err-clause-answer : goal.returns-in-Err-clause-answer
 returns-in-Err-clause-answer g c = λ past stands.
-    unanswered (g.K.Keeper.honest c.args.keeper.now) (g.K.Keeper.holds c.args.keeper.now) past c.args.frame.now c.refusal.result c.in-Err.no.fault c.in-Err.no.close (hosts_of c.args.desk.now) (g.K.Keeper.count c.args.keeper.now)
+    unanswered (g.K.Keeper.end c.args.keeper.now) past c.args.frame.now c.refusal.result c.in-Err.no.fault c.in-Err.no.close (hosts_of c.args.desk.now)
     (λ ne. subst (λ (bytes : List ℕ). Reads bytes (Refuses c.in-Err.no.fault c.in-Err.no.close)) c.as_slice.ensures (c.in-Err.ensures.refused ne))
     (λ e. subst (λ (bytes : List ℕ). Closes bytes c.in-Err.no.close) c.as_slice.ensures (c.in-Err.ensures.memory e))
     (λ e a reads. c.in-Err.ensures.health e a (subst (λ (bytes : List ℕ). Reads bytes (Asks a)) (sym c.as_slice.ensures) reads)) stands c.refusal.ensures

@@ -5,13 +5,12 @@ use Rattle.whistle.proofs.playing.play.Given as goal
 
 abbrev pub invariant-loop-frame : goal.invariant-loop-frame
 invariant-loop-frame g l = record {
-  in_run : InRun (g.S.Source.left l.fn.source) (g.W.Sink.held l.fn.sink) (g.K.Keeper.count l.fn.keeper) (g.K.Keeper.holds l.fn.keeper)
-      (g.S.Source.left l.source) (g.W.Sink.held l.sink) (g.K.Keeper.count l.keeper) (g.K.Keeper.honest l.keeper) (g.K.Keeper.holds l.keeper) (hosts_of l.desk) l.reader;
+  in_run : InRun (g.S.Source.end l.fn.source) (g.W.Sink.end l.fn.sink) (g.K.Keeper.end l.fn.keeper) (g.S.Source.end l.source) (g.W.Sink.end l.sink) (g.K.Keeper.end l.keeper) (hosts_of l.desk) l.reader;
   few : l.desk.turns ≤ l.reader.taken;
   limit : l.reader.taken ≤ 2 ^ 40;
-  back : g.K.Keeper.honest l.keeper → g.K.Keeper.honest l.fn.keeper;
-  read_on : g.S.Source.count l.source ≡ g.S.Source.count l.fn.source;
-  written_on : g.W.Sink.count l.sink ≡ g.W.Sink.count l.fn.sink;
+  back : (g.K.Keeper.end l.keeper).honest → (g.K.Keeper.end l.fn.keeper).honest;
+  read_on : (g.S.Source.end l.source).count ≡ (g.S.Source.end l.fn.source).count;
+  written_on : (g.W.Sink.end l.sink).count ≡ (g.W.Sink.end l.fn.sink).count;
 }
 
 abbrev pub decreases-loop-frame : goal.decreases-loop-frame

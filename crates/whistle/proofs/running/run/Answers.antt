@@ -8,33 +8,33 @@ returns-in-Err-Memory-clause-did g c = record {
   usage = λ is form. absurd (cc (is));
   no_form = λ none. (
     inr refl,
-    Keeps-refl (g.W.Sink.held c.args.sink.now),
-    record { left_as_it_was = Keeps-refl (g.S.Source.left c.args.source.now); no_read = refl },
+    Keeps-refl (g.W.Sink.end c.args.sink.now).held,
+    record { left_as_it_was = Keeps-refl (g.S.Source.end c.args.source.now).left; no_read = refl },
     record { no_call = refl; rows_as_they_were = λ h before held. held },
   );
   play = λ store asks.
       inl (record {
-        none = record { cause = inl (([], Consumes-nil (g.S.Source.left c.args.source.now), nothing_begins, omega arith), refl); rows_as_they_were = λ h before held. held };
-        held_as_it_was = Keeps-refl (g.W.Sink.held c.args.sink.now);
+        none = record { cause = inl (([], Consumes-nil (g.S.Source.end c.args.source.now).left, nothing_begins, omega arith), refl); rows_as_they_were = λ h before held. held };
+        held_as_it_was = Keeps-refl (g.W.Sink.end c.args.sink.now).held;
       });
   make = λ turns asks. (
-    Keeps-refl (g.W.Sink.held c.args.sink.now),
-    record { left_as_it_was = Keeps-refl (g.S.Source.left c.args.source.now); no_read = refl },
+    Keeps-refl (g.W.Sink.end c.args.sink.now).held,
+    record { left_as_it_was = Keeps-refl (g.S.Source.end c.args.source.now).left; no_read = refl },
     record { no_call = refl; rows_as_they_were = λ h before held. held },
   );
   tally = λ turns asks. (
-    (inl (record { cause = omega arith; rows_as_they_were = λ h before held. held }), Keeps-refl (g.W.Sink.held c.args.sink.now)),
-    record { left_as_it_was = Keeps-refl (g.S.Source.left c.args.source.now); no_read = refl },
+    (inl (record { cause = omega arith; rows_as_they_were = λ h before held. held }), Keeps-refl (g.W.Sink.end c.args.sink.now).held),
+    record { left_as_it_was = Keeps-refl (g.S.Source.end c.args.source.now).left; no_read = refl },
   );
   register = λ t u moment store asks. (
-    (refl, Keeps-refl (g.W.Sink.held c.args.sink.now)),
+    (refl, Keeps-refl (g.W.Sink.end c.args.sink.now).held),
     (λ h before held. held),
-    record { left_as_it_was = Keeps-refl (g.S.Source.left c.args.source.now); no_read = refl },
+    record { left_as_it_was = Keeps-refl (g.S.Source.end c.args.source.now).left; no_read = refl },
   );
   forecast = λ t day store asks. (
-    (refl, Keeps-refl (g.W.Sink.held c.args.sink.now)),
+    (refl, Keeps-refl (g.W.Sink.end c.args.sink.now).held),
     (λ h before held. held),
-    record { left_as_it_was = Keeps-refl (g.S.Source.left c.args.source.now); no_read = refl },
+    record { left_as_it_was = Keeps-refl (g.S.Source.end c.args.source.now).left; no_read = refl },
   );
 }
 

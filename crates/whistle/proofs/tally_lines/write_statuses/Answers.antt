@@ -6,19 +6,19 @@ use Rattle.whistle.proofs.TallyLemmas.{no_rows, row_at, parted, in_row, after_ro
 use Rattle.whistle.proofs.tally_lines.write_statuses.Goals as goal
 
 pub loop-row-init : goal.loop-row-init
-loop-row-init g c = record { so_far = no_rows (g.W.Sink.held c.args.sink.now) c.args.rows.now; stayed = refl }
+loop-row-init g c = record { so_far = no_rows (g.W.Sink.end c.args.sink.now).held c.args.rows.now; stayed = refl }
 
 pub returns-in-Err-clause-err : goal.returns-in-Err-clause-err
 returns-in-Err-clause-err g c =
-    in_row (g.W.Sink.held c.args.sink.now) (g.W.Sink.held c.loop-row.sink) (g.W.Sink.held c.write_all.new.self) c.args.rows.now c.loop-row.row-index (row_at c.args.rows.now c.loop-row.row-index) (parted c.args.rows.now c.loop-row.row-index (omega (arith, c.loop-row-test.true))) c.loop-row.invariant.so_far
-    (subst (AppendsFront (g.W.Sink.held c.loop-row.sink) (g.W.Sink.held c.write_all.new.self)) (c.as_bytes.ensures ∙ c.status_line.ensures) c.in-Err.ensures.err)
+    in_row (g.W.Sink.end c.args.sink.now).held (g.W.Sink.end c.loop-row.sink).held (g.W.Sink.end c.write_all.new.self).held c.args.rows.now c.loop-row.row-index (row_at c.args.rows.now c.loop-row.row-index) (parted c.args.rows.now c.loop-row.row-index (omega (arith, c.loop-row-test.true))) c.loop-row.invariant.so_far
+    (subst (AppendsFront (g.W.Sink.end c.loop-row.sink).held (g.W.Sink.end c.write_all.new.self).held) (c.as_bytes.ensures ∙ c.status_line.ensures) c.in-Err.ensures.err)
 
 pub loop-row-preserved : goal.loop-row-preserved
 loop-row-preserved g c = record {
-  so_far = after_row (g.W.Sink.held c.args.sink.now) (g.W.Sink.held c.loop-row.sink) (g.W.Sink.held c.write_all.new.self) c.args.rows.now c.loop-row.row-index (row_at c.args.rows.now c.loop-row.row-index) (parted c.args.rows.now c.loop-row.row-index (omega (arith, c.loop-row-test.true))) c.loop-row.invariant.so_far
-      (subst (Appends (g.W.Sink.held c.loop-row.sink) (g.W.Sink.held c.write_all.new.self)) (c.as_bytes.ensures ∙ c.status_line.ensures) c.in-Ok.ensures.ok);
+  so_far = after_row (g.W.Sink.end c.args.sink.now).held (g.W.Sink.end c.loop-row.sink).held (g.W.Sink.end c.write_all.new.self).held c.args.rows.now c.loop-row.row-index (row_at c.args.rows.now c.loop-row.row-index) (parted c.args.rows.now c.loop-row.row-index (omega (arith, c.loop-row-test.true))) c.loop-row.invariant.so_far
+      (subst (Appends (g.W.Sink.end c.loop-row.sink).held (g.W.Sink.end c.write_all.new.self).held) (c.as_bytes.ensures ∙ c.status_line.ensures) c.in-Ok.ensures.ok);
   stayed = c.in-Ok.ensures.cause.stayed ∙ c.loop-row.invariant.stayed;
 }
 
 pub returns-clause-ok : goal.returns-clause-ok
-returns-clause-ok g c = all_rows (g.W.Sink.held c.args.sink.now) (g.W.Sink.held c.loop-row.sink) c.args.rows.now c.loop-row.row-index (drop_all c.loop-row.row-index c.args.rows.now (omega arith)) c.loop-row.invariant.so_far
+returns-clause-ok g c = all_rows (g.W.Sink.end c.args.sink.now).held (g.W.Sink.end c.loop-row.sink).held c.args.rows.now c.loop-row.row-index (drop_all c.loop-row.row-index c.args.rows.now (omega arith)) c.loop-row.invariant.so_far

@@ -4,6 +4,6 @@ use Rattle.whistle.proofs.tally_lines.write_statuses.Given as goal
 
 abbrev pub invariant-loop-row : goal.invariant-loop-row
 invariant-loop-row g l = record {
-  so_far : WroteRows (g.W.Sink.held l.fn.sink) (g.W.Sink.held l.sink) l.fn.rows l.row-index;
-  stayed : g.W.Sink.count l.sink ≡ g.W.Sink.count l.fn.sink;
+  so_far : WroteRows (g.W.Sink.end l.fn.sink).held (g.W.Sink.end l.sink).held l.fn.rows l.row-index;
+  stayed : (g.W.Sink.end l.sink).count ≡ (g.W.Sink.end l.fn.sink).count;
 }

@@ -14,7 +14,7 @@ returns-in-Ok-write_tally-clause-tallied g c =
       (
         tally_text c.args.turns told.statuses.items (counted told.held),
         ok.1,
-        subst (λ (rows : List StatusCount). Appends (g.W.Sink.held c.args.sink.now) (g.W.Sink.held c.write_tally.new.sink) (tally_text c.args.turns rows (counted told.held))) c.as_slice.ensures.value c.in-Ok-write_tally.ensures.ok,
+        subst (λ (rows : List StatusCount). Appends (g.W.Sink.end c.args.sink.now).held (g.W.Sink.end c.write_tally.new.sink).held (tally_text c.args.turns rows (counted told.held))) c.as_slice.ensures.value c.in-Ok-write_tally.ensures.ok,
       ),
     )
 
@@ -26,11 +26,11 @@ returns-clause-tallied g c =
       (
         tally_text c.args.turns told.statuses.items (counted told.held),
         ok.1,
-        subst (λ (rows : List StatusCount). AppendsFront (g.W.Sink.held c.args.sink.now) (g.W.Sink.held c.write_tally.new.sink) (tally_text c.args.turns rows (counted told.held))) c.as_slice.ensures.value c.in-Err-write_tally.ensures.err,
+        subst (λ (rows : List StatusCount). AppendsFront (g.W.Sink.end c.args.sink.now).held (g.W.Sink.end c.write_tally.new.sink).held (tally_text c.args.turns rows (counted told.held))) c.as_slice.ensures.value c.in-Err-write_tally.ensures.err,
       ),
       c.in-Err-write_tally.ensures.cause.failed,
     )
 
 pub returns-in-Err-play_turns-clause-no_usage : goal.returns-in-Err-play_turns-clause-no_usage
 returns-in-Err-play_turns-clause-no_usage g c =
-    not_usage (g.K.Keeper.count c.args.keeper.now) (g.K.Keeper.count c.play_turns.new.keeper) (g.K.Keeper.honest c.play_turns.new.keeper) (g.K.Keeper.holds c.args.keeper.now) (g.K.Keeper.holds c.play_turns.new.keeper) c.args.turns c.in-Err-play_turns.status c.in-Err-play_turns.ensures.err
+    not_usage (g.K.Keeper.end c.args.keeper.now) (g.K.Keeper.end c.play_turns.new.keeper) c.args.turns c.in-Err-play_turns.status c.in-Err-play_turns.ensures.err

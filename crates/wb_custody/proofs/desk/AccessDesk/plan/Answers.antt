@@ -9,8 +9,8 @@ use Rattle.wb_custody.proofs.Refusals.{gives_refusal}
 use Rattle.wb_custody.proofs.desk.AccessDesk.plan.Goals as goal
 
 pub returns-in-Ok-reserve-clause-legal : goal.returns-in-Ok-reserve-clause-legal
-returns-in-Ok-reserve-clause-legal c = λ days before same count mark asks late.
-    let free : option_map custody_told (custody_fault (length before) (has_identity before) (requests before) (user_by c.args.by) c.args.move_) ≡ None = rw (same, count, mark) (ap (option_map custody_told) c.in-Ok.ensures.0) in
+returns-in-Ok-reserve-clause-legal c = λ days before is asks late.
+    let free : option_map custody_told (custody_fault (length before) (has_identity before) (requests before) (user_by c.args.by) c.args.move_) ≡ None = rw (is.0, is.1, is.2) (ap (option_map custody_told) c.in-Ok.ensures.0) in
     subst (λ e. is_next days (last_at 0 before) before e ≡ true) (sym c.in-Ok.ensures.1)
     (c.what_is_not_refused_is_legal.ensures.doing days (last_at 0 before) c.args.at before c.args.by (Moves c.args.move_) late asks free)
 

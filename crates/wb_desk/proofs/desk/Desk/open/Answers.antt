@@ -71,4 +71,4 @@ returns-clause-kept g c = λ honest rows held_before.
     let up = subst (λ (xs : List KeptRow). IsStrictlySortedBy key_cmp (map key_of xs)) loaded c.in_ok-rows.ensures.ascending in
     let puts = made.rows told.others rows up whole in
     let list = (λ i. map (tenancy_of (made.sealed i).items) (made.places i)) ∙ same_tenancies setup h read stays set_up law.setups law.kept_rows c.in_ok-kept.kept.sealed.items refl in
-    subst (g.K.Keeper.holds c.keep.new.keeper) (ap (all_changed rows) c.as_slice-2.ensures.value ∙ (puts ∙ sym (ap rows_of list))) after
+    subst (g.K.Keeper.end c.keep.new.keeper).holds (ap (all_changed rows) c.as_slice-2.ensures.value ∙ (puts ∙ sym (ap rows_of list))) after

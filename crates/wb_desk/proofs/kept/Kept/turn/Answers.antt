@@ -10,9 +10,9 @@ use Rattle.wb_desk.proofs.kept.Kept.turn.Goals as goal
 pub invariant_of-self : goal.invariant_of-self
 invariant_of-self g c =
     let f : Frame = record { moment = c.args.moment; words = c.args.words.now; asked = c.args.asked.now } in
-    let step : Ensured (g.K.Keeper.honest c.self.inside.keeper) (g.K.Keeper.honest c.step-told.new.keeper) (g.K.Keeper.holds c.self.inside.keeper) (g.K.Keeper.holds c.step-told.new.keeper) (g.K.Keeper.count c.self.inside.keeper) (g.K.Keeper.count c.step-told.new.keeper) c.self.inside.desk c.step-told.new.self f c.step-told.result =
+    let step : Ensured (g.K.Keeper.end c.self.inside.keeper) (g.K.Keeper.end c.step-told.new.keeper) c.self.inside.desk c.step-told.new.self f c.step-told.result =
     record {
-      spent = λ full. let left = c.step-told.ensures.spent full in (left.0, left.1, ap g.K.Keeper.count left.2, λ is holds. subst (λ k. g.K.Keeper.holds k (rows_of (hosts_of c.self.inside.desk).list)) (sym left.2) holds);
+      spent = λ full. let left = c.step-told.ensures.spent full in (left.0, left.1, ap (λ x. (g.K.Keeper.end x).count) left.2, λ is holds. subst (λ k. (g.K.Keeper.end k).holds (rows_of (hosts_of c.self.inside.desk).list)) (sym left.2) holds);
       turn = c.step-told.ensures.turn;
       back = c.step-told.ensures.back;
       later = c.step-told.ensures.later;
@@ -25,7 +25,7 @@ invariant_of-self g c =
       c.self.invariant.4,
       c.self.invariant.5,
       booked_after c.an_accepted_submission_draws_a_number.ensures c.a_turn_is_not_answered_as_spent.ensures.others c.a_turn_is_not_answered_as_spent.ensures.told
-          (g.K.Keeper.honest c.self.inside.keeper) (g.K.Keeper.honest c.step-told.new.keeper) (g.K.Keeper.holds c.self.inside.keeper) (g.K.Keeper.holds c.step-told.new.keeper) (g.K.Keeper.count c.self.inside.keeper) (g.K.Keeper.count c.step-told.new.keeper)
+          (g.K.Keeper.end c.self.inside.keeper) (g.K.Keeper.end c.step-told.new.keeper)
           c.self.inside.desk c.step-told.new.self f c.step-told.result fit c.stands.ensures step g.A.Origin.desk c.self.inside.turns c.self.inside.numbers c.one_if-made.result c.one_if-drawn.result c.self.invariant.6
           (c.one_if-made.ensures ∙ ap (λ n. cond (nat_lt (n + c.self.inside.turns) 1_000_000_000_000_000) 1 0) c.self.invariant.7) (c.one_if-drawn.ensures ∙ ap (λ b. cond b 1 0) c.is_accepted.ensures),
       c.self.invariant.7,
@@ -35,9 +35,9 @@ invariant_of-self g c =
 pub returns : goal.returns
 returns g c =
     let f : Frame = record { moment = c.args.moment; words = c.args.words.now; asked = c.args.asked.now } in
-    let step : Ensured (g.K.Keeper.honest c.self.inside.keeper) (g.K.Keeper.honest c.step-told.new.keeper) (g.K.Keeper.holds c.self.inside.keeper) (g.K.Keeper.holds c.step-told.new.keeper) (g.K.Keeper.count c.self.inside.keeper) (g.K.Keeper.count c.step-told.new.keeper) c.self.inside.desk c.step-told.new.self f c.step-told.result =
+    let step : Ensured (g.K.Keeper.end c.self.inside.keeper) (g.K.Keeper.end c.step-told.new.keeper) c.self.inside.desk c.step-told.new.self f c.step-told.result =
     record {
-      spent = λ full. let left = c.step-told.ensures.spent full in (left.0, left.1, ap g.K.Keeper.count left.2, λ is holds. subst (λ k. g.K.Keeper.holds k (rows_of (hosts_of c.self.inside.desk).list)) (sym left.2) holds);
+      spent = λ full. let left = c.step-told.ensures.spent full in (left.0, left.1, ap (λ x. (g.K.Keeper.end x).count) left.2, λ is holds. subst (λ k. (g.K.Keeper.end k).holds (rows_of (hosts_of c.self.inside.desk).list)) (sym left.2) holds);
       turn = c.step-told.ensures.turn;
       back = c.step-told.ensures.back;
       later = c.step-told.ensures.later;
@@ -57,7 +57,7 @@ returns g c =
     let fit : fits_command c.args.asked.now.command ≡ true = grind (arith, c.requires.fits) in record {
       turned =
           turned_by c.an_accepted_submission_draws_a_number.ensures c.a_turn_is_not_answered_as_spent.ensures.others c.a_turn_is_not_answered_as_spent.ensures.told
-          (g.K.Keeper.honest c.self.inside.keeper) (g.K.Keeper.honest c.step-told.new.keeper) (g.K.Keeper.holds c.self.inside.keeper) (g.K.Keeper.holds c.step-told.new.keeper) (g.K.Keeper.count c.self.inside.keeper) (g.K.Keeper.count c.step-told.new.keeper)
+          (g.K.Keeper.end c.self.inside.keeper) (g.K.Keeper.end c.step-told.new.keeper)
           c.self.inside.desk c.step-told.new.self f c.step-told.result fit c.stands.ensures step withheld c.args.self.now c.args.pass.now g.A.Origin.desk c.self.inside.turns c.self.inside.numbers c.one_if-made.result c.one_if-drawn.result c.pass.inside.parts c.pass.inside.turns c.pass.inside.numbers
           c.self.view_is c.pass.view_is c.self.invariant.6.turns_add_up c.self.invariant.6.later (c.one_if-made.ensures ∙ ap (λ n. cond (nat_lt (n + c.self.inside.turns) 1_000_000_000_000_000) 1 0) c.self.invariant.7) (c.one_if-drawn.ensures ∙ ap (λ b. cond b 1 0) c.is_accepted.ensures) (omega (arith, c.audit.ensures.bound, c.self.invariant.0, c.pass.invariant.3)) (omega (arith, c.audit-2.ensures.bound, c.self.invariant.1, c.pass.invariant.4));
     }

@@ -14,6 +14,9 @@ returns-in-Ok-clause-ok g c honest rows =
     λ holds. commits_hold g.S.Store changes old new rows (each_good changes c.requires) holds (c.in-Ok.ensures.made honest.0) in
     rw (← c.self.view_is) done
 
+pub returns-in-Ok-clause-made : goal.returns-in-Ok-clause-made
+returns-in-Ok-clause-made g c clean = rw (← c.self.view_is) (c.in-Ok.ensures.made clean)
+
 pub returns-in-Ok-clause-crash : goal.returns-in-Ok-clause-crash
 returns-in-Ok-clause-crash g c clean rows = rw (← c.self.view_is) (c.in-Ok.ensures.crash clean c.requires rows)
 
