@@ -1,3 +1,5 @@
 mod OneOfKey
 mod ReceiptTables
 mod Logins
+mod CountTables
+mod CountedSessions

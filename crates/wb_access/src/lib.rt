@@ -5,6 +5,7 @@ mod digests;
 mod faults;
 mod receipts;
 mod secrets;
+mod session_counts;
 mod sessions;
 
 pub use digests::{check_secret, digest};

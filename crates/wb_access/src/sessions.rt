@@ -3,8 +3,10 @@ ghost use Rattle.std.specs.Prelude.{◌≡◌, ◌+◌, ◌<◌, ◌≤◌, [], 
 ghost use Rattle.std.specs.Option.{ok_or, option_copied};
 ghost use Rattle.std.specs.Ordering.{nat_cmp};
 ghost use Rattle.wb_list.specs.Keyed.{IsAscending, without_first};
+ghost use Rattle.wb_access.specs.SessionCounts.{AreCounted};
 ghost use Rattle.wb_access.specs.Sessions.{same_principal, is_of, is_shown, is_standing, lasts as lasts_at, session_shown, opened};
 
+use crate::session_counts::SessionCounts;
 use crate::{AccessFault, digest};
 use std::alloc::Global;
 use std::cmp::Ordering;
@@ -96,19 +98,38 @@ impl ItemTest<Session> for EndedBy {
     }
 }
 
-/// The standing sessions by ascending turn, each turn once, seen as their list and its spare room.
+/// The standing sessions by ascending turn, each turn once, seen as their list and its spare room. How many each principal has is
+/// counted beside them.
 #[derive(Drop)]
 pub struct SessionTable {
     sessions: Sorted<Session>,
+    counts: SessionCounts,
 }
 
 impl Model for SessionTable {
+    ghost use Rattle.std.specs.Prelude.{min};
     ghost use Rattle.wb_list.specs.Room.{Room};
+    ghost use Rattle.wb_access.specs.SessionCounts.{AreCounted};
     ghost use Rattle.wb_access.specs.declared.sessions.Session.{Session as Item};
 
     ghost Value = { Room Item };
 
-    ghost view = { λ table. table.sessions };
+    ghost view = { λ table. record { items = table.sessions.items; spare = min table.sessions.spare table.counts.spare } };
+
+    ghost invariant = { λ table. AreCounted table.sessions.items table.counts.items };
+}
+
+// Counts the sessions that pass a test no more.
+fn uncount_passing<X: ItemTest<Session>>(counts: &mut SessionCounts, sessions: &[Session], test: &X)
+    requires counted { AreCounted sessions.now counts.old.items }
+    ensures counted { AreCounted (filter (λ session. not (X.passes test.now session)) sessions.now) counts.new.items }
+    ensures kept { counts.old.spare ≤ counts.new.spare }
+{
+    for session in sessions {
+        if test.passes(session) {
+            counts.take(&session.principal);
+        }
+    }
 }
 
 impl SessionTable {
@@ -118,6 +139,7 @@ impl SessionTable {
     {
         SessionTable {
             sessions: Sorted::new(alloc),
+            counts: SessionCounts::new(alloc),
         }
     }
 
@@ -138,40 +160,35 @@ impl SessionTable {
         ensures memory { IfErr result (λ fault. fault ≡ AccessFault.Memory) }
     {
         self.sessions.reserve(1)?;
-        Ok(())
-    }
-
-    // How many sessions of a principal stand.
-    fn count_of(&self, theirs: &OfPrincipal) -> usize
-        ensures { result ≡ count_by (is_of theirs.now.0) self.now.items }
-    {
-        self.as_slice()
-            .iter()
-            .filter(|session| theirs.passes(session))
-            .count()
+        self.counts.reserve()
     }
 
     // Where eight of a principal's sessions stand, drops the oldest.
-    fn make_way(&mut self, theirs: &OfPrincipal)
-        ensures items { self.new.items ≡ (if nat_lt (count_by (is_of theirs.now.0) self.old.items) 8 then self.old.items else without_first (is_of theirs.now.0) self.old.items) }
+    fn make_way(&mut self, principal: &Principal)
+        ensures items { self.new.items ≡ (if nat_lt (count_by (is_of principal.now) self.old.items) 8 then self.old.items else without_first (is_of principal.now) self.old.items) }
         ensures kept { self.old.spare ≤ self.new.spare }
     {
-        if self.count_of(theirs) >= limits::SESSIONS {
-            self.sessions.take_first(theirs);
+        if self.counts.of(principal) < limits::SESSIONS {
+            return;
+        }
+        match self.sessions.take_first(&OfPrincipal(*principal)) {
+            Some(oldest) => self.counts.take(&oldest.principal),
+            None => {}
         }
     }
 
     /// Adds the session of a login, into room that was made. Of eight sessions of its principal the oldest goes
-    /// first. It takes no memory, and looks at all sessions.
+    /// first. It takes no memory, and looks at other principals' sessions only to find that oldest.
     pub fn open(&mut self, session: Session)
         requires room { 0 < self.old.spare }
         requires later { All (λ other. other.turn < session.turn) self.old.items }
         ensures items { self.new.items ≡ opened self.old.items session }
         ensures room { self.old.spare ≤ self.new.spare + 1 }
     {
-        let theirs = OfPrincipal(session.principal);
-        self.make_way(&theirs);
+        self.make_way(&session.principal);
         self.sessions.push(session);
+        let _count = self.sessions.as_slice().len();
+        self.counts.add(&session.principal);
     }
 
     // The session of a turn, if it is the tenant's, has the digest, and has not ended.
@@ -217,7 +234,10 @@ impl SessionTable {
         ensures items { self.new.items ≡ filter (λ session. not (session.turn == turn)) self.old.items }
         ensures kept { self.old.spare ≤ self.new.spare }
     {
-        self.sessions.take(&turn);
+        match self.sessions.take(&turn) {
+            Some(closed) => self.counts.take(&closed.principal),
+            None => {}
+        }
     }
 
     /// Drops the sessions of a principal: of a user who is disabled or given a password, or of the reporter of a
@@ -226,7 +246,7 @@ impl SessionTable {
         ensures items { self.new.items ≡ filter (λ session. not (is_of principal session)) self.old.items }
         ensures kept { self.old.spare ≤ self.new.spare }
     {
-        self.sessions.drop_passing(&OfPrincipal(principal));
+        self.drop_passing(&OfPrincipal(principal));
     }
 
     /// Drops the sessions that pass a test. It looks at all of them once.
@@ -234,6 +254,7 @@ impl SessionTable {
         ensures items { self.new.items ≡ filter (λ session. not (X.passes test.now session)) self.old.items }
         ensures kept { self.old.spare ≤ self.new.spare }
     {
+        uncount_passing(&mut self.counts, self.sessions.as_slice(), test);
         self.sessions.drop_passing(test);
     }
 
@@ -243,6 +264,6 @@ impl SessionTable {
         ensures items { self.new.items ≡ filter (lasts_at now) self.old.items }
         ensures kept { self.old.spare ≤ self.new.spare }
     {
-        self.sessions.drop_passing(&EndedBy(now));
+        self.drop_passing(&EndedBy(now));
     }
 }
