@@ -1,6 +1,8 @@
--- What lies above the last of an ascending list lies above all of it.
-use Rattle.std.proofs.Common.{◌≡◌, ℕ, ◌-◌, ◌<◌, List, length, get_or, map, slice_get, All, Some, inl, inr, sym, subst, arith}
+-- What lies above the last of an ascending list lies above all of it, and a front of it ascends.
+use Rattle.std.proofs.Common.{◌≡◌, ℕ, ◌-◌, ◌<◌, List, [], ◌∷◌, ◌++◌, length, get_or, map, slice_get, All, Some, inl, inr, sym, subst, arith}
 use Rattle.std.specs.Cmp.{IsTotalOrder, nat_cmp_total, then_total, on_total}
+use Rattle.std.specs.List.{AllByRecursion}
+use Rattle.std.specs.List.Sorted.{IsStrictlySortedBy}
 use Rattle.std.specs.declared.cmp.Ordering.TheVariants.{Less}
 use Rattle.std.proofs.lemmas.Bool.{cases_lt}
 use Rattle.std.proofs.lemmas.List.{get_or-map, length-map}
@@ -35,3 +37,12 @@ pub all_at_last : (xs : List Row) (last x : Row) → slice_get xs (length xs - 1
 all_at_last xs last x is all =
     let low = slice_get_within xs (length xs - 1) last is in
     subst (λ (y : Row). key_cmp y.key x.key ≡ Less) (get_or_from_slice_get xs (length xs - 1) last last is) (all (length xs - 1) last low)
+
+all_front : (P : Key → Type 0) (xs ys : List Row) → AllByRecursion P (map key_of (xs ++ ys)) → AllByRecursion P (map key_of xs)
+all_front P [] ys all = tt
+all_front P (x ∷ xs) ys all = (all.0, all_front P xs ys all.1)
+
+pub ascending_front : (xs ys : List Row) → IsAscending key_cmp key_of (xs ++ ys) → IsAscending key_cmp key_of xs
+unfolding IsStrictlySortedBy
+ascending_front [] ys sorted = tt
+ascending_front (x ∷ xs) ys sorted = (all_front (λ k. key_cmp x.key k ≡ Less) xs ys sorted.0, ascending_front xs ys sorted.1)

@@ -1,5 +1,5 @@
 -- What a batch of changes does to the told rows.
-use Rattle.std.proofs.Common.{◌≡◌, ◌⊎◌, ◌≤◌, ◌==◌, if◌then◌else◌, Some, List, [], ◌∷◌, ◌++◌, All, true, inl, inr, refl, sym, subst, ◌∙◌, arith}
+use Rattle.std.proofs.Common.{◌≡◌, ◌≢◌, ◌⊎◌, ◌==◌, if◌then◌else◌, Some, List, [], ◌∷◌, ◌++◌, All, true, inl, inr, refl, sym, subst, ◌∙◌, arith}
 use Rattle.std.specs.List.{AllByRecursion}
 use Rattle.std.proofs.lemmas.Bool.{cases_Bool}
 use Rattle.std.proofs.lemmas.List.Elements.{All-head, All-tail}
@@ -54,8 +54,8 @@ module _ {S : Type 0} (g : Ghosts S) where
         let it : Makes g (put_sealed row ∷ []) a b = rw e at made in
         subst (λ (h : Held S). TellsBoth (state g h).now (changed rows (Put row))) (sym it.2) (sealed_told row a it.0 rows (is, good.1 is) told it.1)
     | inr e ↦
-        let low : row.key.kind ≤ 6 = let top = good.0 in grind (arith, nat_tests) in
-        low_told row a b rows low told (rw e at made)
+        let other : row.key.kind ≢ 7 = grind (arith, nat_tests) in
+        low_told row a b rows other told (rw e at made)
   ]
 
   change_told : (change : Change) (a b : Held S) (rows : List Row) → IsGoodChange change → TellsBoth (state g a).now rows → Makes g (statements_of change) a b → TellsBoth (state g b).now (changed rows change)

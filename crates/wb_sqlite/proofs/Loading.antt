@@ -10,6 +10,7 @@ use Rattle.sqlite.specs.State.{State, Shown, ShowsRows}
 use Rattle.wb_list.specs.Keyed.{IsAscending}
 use Rattle.wb_base.specs.declared.rows.Row.{Row}
 use Rattle.wb_base.specs.KeptRows.{key_cmp, key_of}
+use Rattle.wb_stored.specs.StoredRows.{IsRecordRow, IsSealedRow, AreInTurn}
 use Rattle.wb_stored.specs.Texts.{read_record, read_sealed}
 use Rattle.wb_stored.specs.Told.{HoldsRows}
 use Rattle.wb_stored.proofs.Stands.{TellsBoth, both_plain_record, both_plain_sealed}
@@ -56,5 +57,6 @@ module _ {S : Type 0} (g : Ghosts S) where
       let tells : TellsBoth (state g one.from).now rows = subst (λ (d : Database). TellsBoth d rows) (sym one.over) (commits_both g [] old l.made rows tt holds l.tables) in
       let plain = both_plain_record (state g one.from).now rows tells in
       let same : (state g two.from).now ≡ (state g one.from).now = two.over ∙ one.left ∙ shown_same read_record [] (state g one.from) (state g one.to) one.shown plain one.answer in
-      let is : loaded ≡ one.added ++ two.added = two.behind ∙ ap (λ (xs : List Row). xs ++ two.added) one.behind in
-      is ∙ read_both (state g one.from) (state g one.to) (state g two.from) (state g two.to) one.shown two.shown rows one.added two.added tells one.answer one.each same two.answer two.each (subst (IsAscending key_cmp key_of) is up)
+      let records : AreInTurn IsRecordRow one.shown (l.low ++ l.high) = subst (AreInTurn IsRecordRow one.shown) (sym one.behind) one.each in
+      let sealed : AreInTurn IsSealedRow two.shown l.sealed = subst (AreInTurn IsSealedRow two.shown) (sym two.behind) two.each in
+      l.whole ∙ read_both (state g one.from) (state g one.to) (state g two.from) (state g two.to) one.shown two.shown rows l.low l.high l.sealed tells one.answer records same two.answer sealed (subst (IsAscending key_cmp key_of) l.whole up)

@@ -91,3 +91,17 @@ module _ {S : Type 0} (g : Ghosts S) (IsOf : SqlRow → Row → Type 0) (text : 
       behind = so.behind;
     }
   ]
+
+  -- the rows of a query, whatever was read before
+  pub reads_alone : (old new : Held S) (before after : List Row) (r : Reads g IsOf text old new before after) → Reads g IsOf text old new [] r.added
+  reads_alone old new before after r = record {
+    shown = r.shown;
+    added = r.added;
+    from = r.from;
+    to = r.to;
+    answer = r.answer;
+    over = r.over;
+    left = r.left;
+    each = r.each;
+    behind = refl;
+  }

@@ -7,7 +7,18 @@ use Rattle.sqlite.specs.State.{HasCleanDisk, Shown}
 use Rattle.wb_base.specs.declared.rows.Row.{Row}
 use Rattle.wb_sqlite.specs.Statements.{CommitsAll}
 use Rattle.wb_stored.specs.StoredRows.{IsRecordRow, IsSealedRow, AreInTurn}
-pub use Rattle.wb_stored.specs.Texts.{read_record, read_sealed}
+use Rattle.wb_stored.specs.Texts.{read_record, read_sealed}
+use Rattle.wb_sqlite.specs.declared.table.Table.{Table}
+use Rattle.wb_sqlite.specs.declared.table.Table.TheVariants.{Record, Sealed}
+
+-- the selection of a table's rows, and the kept row of one that it shows
+abbrev pub selection_of : Table → List ℕ
+selection_of Record = read_record
+selection_of Sealed = read_sealed
+
+abbrev pub IsRowOf : Table → SqlRow → Row → Type 0
+IsRowOf Record = IsRecordRow
+IsRowOf Sealed = IsSealedRow
 
 -- all rows that a query shows, each as the kept row that it is, stand behind those that were read before
 pub record Reads {S : Type 0} (g : Ghosts S) (IsOf : SqlRow → Row → Type 0) (text : List ℕ) (old new : Held S) (before after : List Row) : Type 0 where
@@ -21,14 +32,18 @@ pub record Reads {S : Type 0} (g : Ghosts S) (IsOf : SqlRow → Row → Type 0) 
   pub each : AreInTurn IsOf shown added
   pub behind : after ≡ before ++ added
 
--- the tables were made where they were not there, and committed; then the rows are all of `record` and after them all of `sealed`
+-- the tables were made where they were not there, and committed; then each was read whole. The rows are all of `record`, and all of `sealed` at
+-- one place between them
 pub record LoadsAll {S : Type 0} (g : Ghosts S) (old new : Held S) (rows : List Row) : Type 0 where
   pub made : Held S
   pub tables : CommitsAll g [] old made
-  pub records : List Row
+  pub low : List Row
+  pub sealed : List Row
+  pub high : List Row
   pub mid : Held S
-  pub first : Reads g IsRecordRow read_record made mid [] records
-  pub then : Reads g IsSealedRow read_sealed mid new records rows
+  pub first : Reads g (IsRowOf Record) (selection_of Record) made mid [] (low ++ high)
+  pub then : Reads g (IsRowOf Sealed) (selection_of Sealed) mid new [] sealed
+  pub whole : rows ≡ low ++ sealed ++ high
 
 -- the same of a file that is open since: it held what was read, while the disk is clean
 abbrev pub LoadsOpen : {S : Type 0} → Ghosts S → Option (Held S) → List Row → Type 0

@@ -7,15 +7,15 @@ ghost use Rattle.sqlite.specs.Listing.{understood};
 ghost use Rattle.wb_list.specs.Keyed.{IsAscending};
 ghost use Rattle.wb_base.specs.declared.rows.Row.{Row as KeptRow};
 ghost use Rattle.wb_base.specs.KeptRows.{key_cmp, key_of, IsGoodChange};
-ghost use Rattle.wb_sqlite.specs.Readings.{LoadsAll, Reads, read_record, read_sealed};
+ghost use Rattle.wb_sqlite.specs.Readings.{LoadsAll, Reads, IsRowOf, selection_of};
 ghost use Rattle.wb_sqlite.specs.Statements.{CommitsAll, IsAsCommitted, LeavesChanged};
 ghost use Rattle.wb_sqlite.specs.Staying.{StaysAs};
-ghost use Rattle.wb_stored.specs.StoredRows.{IsRecordRow, IsSealedRow};
 ghost use Rattle.wb_stored.specs.Told.{HoldsRows};
 
 use crate::refusal::Refusal;
-use crate::statements::{READ_RECORD, READ_SEALED, expect_all, make, make_all};
-use crate::stored::{add, record_row, sealed_row};
+use crate::statements::{expect_all, make, make_all};
+use crate::stored::{add, add_all, parted};
+use crate::table::Table;
 use sqlite::{Alter, Connection};
 use std::alloc::Global;
 use wb_base::{Change, Row};
@@ -57,48 +57,25 @@ fn make_tables<S: Alter>(conn: &mut Connection<S>) -> Result<(), Refusal>
     Ok(())
 }
 
-// Adds the rows of `record`, one at a time.
-fn read_record<S: Alter>(
+// Adds the rows of a table, one at a time.
+fn read<S: Alter>(
     alloc: Global,
     conn: &mut Connection<S>,
+    table: Table,
     rows: &mut Sorted<Row>,
 ) -> Result<(), Refusal>
     requires { conn.old.in_transaction ≡ false }
     ensures idle { conn.new.in_transaction ≡ false }
     ensures clean { HasCleanDisk (state S.Store conn.new) → HasCleanDisk (state S.Store conn.old) }
     ensures back { HasCleanDisk (state S.Store conn.new) → IsTrue (state S.Store conn.new).is_open → IsTrue (state S.Store conn.old).is_open }
-    ensures stays { HasCleanDisk (state S.Store conn.new) → IsPlain (understood (state S.Store conn.old).now.schema read_record) → StaysAs (state S.Store conn.old) (state S.Store conn.new) }
-    ensures read { HasCleanDisk (state S.Store conn.new) → OnOk result (Reads S.Store IsRecordRow read_record conn.old conn.new rows.old.items rows.new.items) }
+    ensures stays { HasCleanDisk (state S.Store conn.new) → IsPlain (understood (state S.Store conn.old).now.schema (selection_of table)) → StaysAs (state S.Store conn.old) (state S.Store conn.new) }
+    ensures read { HasCleanDisk (state S.Store conn.new) → OnOk result (Reads S.Store (IsRowOf table) (selection_of table) conn.old conn.new rows.old.items rows.new.items) }
 {
-    let mut given = conn.query(READ_RECORD, &[])?;
+    let mut given = conn.query(table.selection(), &[])?;
     for _ in 0..u64::MAX {
         given.advance()?;
         match given.get() {
-            Some(row) => add(rows, record_row(alloc, row)?)?,
-            None => return Ok(()),
-        }
-    }
-    Err(Refusal::FAULT)
-}
-
-// Adds the rows of `sealed`, one at a time.
-fn read_sealed<S: Alter>(
-    alloc: Global,
-    conn: &mut Connection<S>,
-    rows: &mut Sorted<Row>,
-) -> Result<(), Refusal>
-    requires { conn.old.in_transaction ≡ false }
-    ensures idle { conn.new.in_transaction ≡ false }
-    ensures clean { HasCleanDisk (state S.Store conn.new) → HasCleanDisk (state S.Store conn.old) }
-    ensures back { HasCleanDisk (state S.Store conn.new) → IsTrue (state S.Store conn.new).is_open → IsTrue (state S.Store conn.old).is_open }
-    ensures stays { HasCleanDisk (state S.Store conn.new) → IsPlain (understood (state S.Store conn.old).now.schema read_sealed) → StaysAs (state S.Store conn.old) (state S.Store conn.new) }
-    ensures read { HasCleanDisk (state S.Store conn.new) → OnOk result (Reads S.Store IsSealedRow read_sealed conn.old conn.new rows.old.items rows.new.items) }
-{
-    let mut given = conn.query(READ_SEALED, &[])?;
-    for _ in 0..u64::MAX {
-        given.advance()?;
-        match given.get() {
-            Some(row) => add(rows, sealed_row(alloc, row)?)?,
+            Some(row) => add(rows, table.kept_row(alloc, row)?)?,
             None => return Ok(()),
         }
     }
@@ -120,8 +97,10 @@ pub(crate) fn load_all<S: Alter>(
     ensures all { HasCleanDisk (state S.Store conn.new) → IsTrue (state S.Store conn.new).is_open → (rows : List KeptRow) → HoldsRows (state S.Store conn.old) rows → IfOk result (λ loaded. loaded.items ≡ rows) }
 {
     make_tables(conn)?;
-    let mut rows = Sorted::new(alloc);
-    read_record(alloc, conn, &mut rows)?;
-    read_sealed(alloc, conn, &mut rows)?;
+    let mut records = Sorted::new(alloc);
+    read(alloc, conn, Table::Record, &mut records)?;
+    let (mut rows, high) = parted(records)?;
+    read(alloc, conn, Table::Sealed, &mut rows)?;
+    add_all(&mut rows, high)?;
     Ok(rows.into_vec())
 }

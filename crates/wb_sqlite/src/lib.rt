@@ -10,6 +10,7 @@ mod refusal;
 mod sql_keeper;
 mod statements;
 mod stored;
+mod table;
 
 pub use path_keeper::PathKeeper;
 pub use sql_keeper::SqlKeeper;

@@ -1,5 +1,5 @@
 //! Stored rows as rows of a keeper.
-ghost use Rattle.std.specs.Prelude.{◌≡◌, ◌≤◌, ◌++◌, ◌∷◌, ◌↔◌, [], true, All, IfOk, OnOk};
+ghost use Rattle.std.specs.Prelude.{◌≡◌, ◌++◌, ◌∷◌, ◌↔◌, [], true, All, IfOk, OnOk};
 ghost use Rattle.std.specs.declared.cmp.Ordering.TheVariants.{Less};
 ghost use Rattle.sqlite_value.specs.declared.value.Value.TheVariants.{Int, Text as Words};
 ghost use Rattle.sqlite_value.specs.Order.{column};
@@ -14,6 +14,7 @@ use std::alloc::Global;
 use std::cmp::Ordering;
 use wb_base::{Key, Row, Text, TextFault};
 use wb_list::{Keyed, Sorted};
+use wb_stored::is_sealed;
 
 // The number in a column, where it fits.
 fn number_at(row: &Stored, at: usize) -> Result<u32, Refusal>
@@ -36,16 +37,18 @@ fn text_at(alloc: Global, row: &Stored, at: usize) -> Result<Text, Refusal>
     }
 }
 
-/// The row of a stored row of `record`, which holds the kinds up to 6.
+/// The row of a stored row of `record`, which holds all kinds but 7.
 pub(crate) fn record_row(alloc: Global, row: &Stored) -> Result<Row, Refusal>
     ensures { IfOk result (λ kept. IsRecordRow row.now kept) }
 {
-    let kind = number_at(row, 0)?;
-    if 6 < kind {
+    let Ok(kind) = u8::try_from(number_at(row, 0)?) else {
+        return Err(Refusal::FAULT);
+    };
+    if is_sealed(kind) {
         return Err(Refusal::FAULT);
     }
     let key = Key {
-        kind: kind as u8,
+        kind,
         tenant: number_at(row, 1)?,
         a: number_at(row, 2)?,
         b: number_at(row, 3)?,
@@ -92,4 +95,26 @@ pub(crate) fn add(rows: &mut Sorted<Row>, row: Row) -> Result<(), Refusal>
     rows.reserve(1)?;
     rows.push(row);
     Ok(())
+}
+
+/// Puts rows behind all others in turn, where the key of each is above theirs.
+pub(crate) fn add_all(rows: &mut Sorted<Row>, behind: Vec<Row>) -> Result<(), Refusal>
+    ensures { OnOk result (rows.new.items ≡ rows.old.items ++ behind.items) }
+{
+    for row in behind {
+        add(rows, row)?;
+    }
+    Ok(())
+}
+
+/// The rows of kinds below that of sealed answers, and those behind them.
+pub(crate) fn parted(rows: Sorted<Row>) -> Result<(Sorted<Row>, Vec<Row>), Refusal>
+    ensures { IfOk result (λ parts. rows.items ≡ parts.0.items ++ parts.1.items) }
+{
+    let mut rows = rows.into_vec();
+    let at = rows.partition_point(|row| row.key.kind < Key::SEALED);
+    let Ok(high) = rows.split_off(at) else {
+        return Err(Refusal::MEMORY);
+    };
+    Ok((Sorted::of(rows), high))
 }

@@ -1,5 +1,5 @@
 -- What is read of both tables are the told rows.
-use Rattle.std.proofs.Common.{◌≡◌, ◌↔◌, inl, inr, pos, ℤ, List, [], ◌∷◌, ◌++◌, map, refl, sym, ap, subst, ◌∙◌}
+use Rattle.std.proofs.Common.{◌≡◌, ◌⊎◌, ◌↔◌, inl, inr, pos, ℤ, List, [], ◌∷◌, ◌++◌, map, refl, sym, ap, subst, ◌∙◌}
 use Rattle.std.specs.List.{AllByRecursion}
 use Rattle.std.specs.List.Sorted.{IsPermutation}
 use Rattle.std.proofs.lemmas.List.Sorted.{IsPermutation-sym}
@@ -87,7 +87,7 @@ abbrev sealed_cells : Row → SqlRow
 sealed_cells row = Int (pos row.key.tenant) ∷ Int (pos row.key.a) ∷ Words row.text ∷ []
 
 is_record : (x r : Row) → IsOfRecord x → IsRecordRow (record_cells x) r → r ≡ x
-is_record x r of is = sym (record_back (pos 0) (pos 0) x r (same is) of is.to)
+is_record x r of is = sym (record_back (pos 0) (pos 0) x r (same is) of is.unsealed)
   where
     same : IsRecordRow (record_cells x) r → stored_record (pos 0) x ≡ stored_record (pos 0) r
     same is = rw (is.kind, is.tenant, is.a, is.b, is.text) refl
@@ -95,10 +95,23 @@ is_record x r of is = sym (record_back (pos 0) (pos 0) x r (same is) of is.to)
 is_sealed : (x r : Row) → IsOfSealed x → IsSealedRow (sealed_cells x) r → r ≡ x
 is_sealed x r of is = sym (sealed_back (pos 0) (pos 0) x r (rw (is.tenant, is.a, is.text) refl) of (is.kind, is.b))
 
+-- a list with another one put into it
+has_part : (low more high : List Row) (r : Row) → Has (low ++ more ++ high) r → Has (low ++ high) r ⊎ Has more r
+has_part low more high r h = elim (has_either (low ++ more) high r h) [
+  | inl front ↦ elim (has_either low more r front) [ inl k ↦ inl (has_left low high r k) | inr k ↦ inr k ]
+  | inr k ↦ inl (has_right low high r k)
+]
+
+has_outer : (low more high : List Row) (r : Row) → Has (low ++ high) r → Has (low ++ more ++ high) r
+has_outer low more high r h = elim (has_either low high r h) [
+  | inl k ↦ has_left (low ++ more) high r (has_left low more r k)
+  | inr k ↦ has_right (low ++ more) high r k
+]
+
 module _ (l : Layout) where
-  read_here : (s t u v : State) (first second : List SqlRow) (rows added more : List Row) → TellsHere l s.now rows → Shown text.read_record [] s t first → AreInTurn IsRecordRow first added
-      → u.now ≡ s.now → Shown text.read_sealed [] u v second → AreInTurn IsSealedRow second more → IsAscending key_cmp key_of (added ++ more) → added ++ more ≡ rows
-  read_here s t u v first second rows added more here one each_one same two each_two up =
+  read_here : (s t u v : State) (first second : List SqlRow) (rows low high more : List Row) → TellsHere l s.now rows → Shown text.read_record [] s t first → AreInTurn IsRecordRow first (low ++ high)
+      → u.now ≡ s.now → Shown text.read_sealed [] u v second → AreInTurn IsSealedRow second more → IsAscending key_cmp key_of (low ++ more ++ high) → low ++ more ++ high ≡ rows
+  read_here s t u v first second rows low high more here one each_one same two each_two up =
       let records = s.now.trees l.record_tree in
       let sealed = s.now.trees l.sealed_tree in
       let told : AreTold records sealed rows = subst (λ c. AreTold records c rows) here.lays.2 (subst (λ c. AreTold c here.sealed rows) here.lays.1 here.told) in
@@ -106,14 +119,14 @@ module _ (l : Layout) where
       let there : u.now.schema ≡ l.schema = ap (λ (d : Database). d.schema) same ∙ here.lays.0 in
       let moved_u = selects l.schema l.sealed_tree sealed_shown _ _ text.read_sealed u v second there l.select_sealed l.select_sealed_plain l.select_sealed_unlisted two in
       let moved_two : IsPermutation (map (shows sealed_shown []) sealed) second = subst (λ (d : Database). IsPermutation (map (shows sealed_shown []) (d.trees l.sealed_tree)) second) same moved_u in
-      let read_one = read_stores stored_record IsOfRecord IsRecordRow record_shown record_cells (λ id x. refl) is_record records first added told.record_kept moved_one each_one in
+      let read_one = read_stores stored_record IsOfRecord IsRecordRow record_shown record_cells (λ id x. refl) is_record records first (low ++ high) told.record_kept moved_one each_one in
       let read_two = read_stores stored_sealed IsOfSealed IsSealedRow sealed_shown sealed_cells (λ id x. refl) is_sealed sealed second more told.sealed_kept moved_two each_two in
-      same_list (added ++ more) rows up told.ascending
-      (λ r h. elim (has_either added more r h) [ inl k ↦ (told.each r).1 (inl ((read_one r).0 k)) | inr k ↦ (told.each r).1 (inr ((read_two r).0 k)) ])
-      (λ r h. elim ((told.each r).0 h) [ inl k ↦ has_left added more r ((read_one r).1 k) | inr k ↦ has_right added more r ((read_two r).1 k) ])
+      same_list (low ++ more ++ high) rows up told.ascending
+      (λ r h. elim (has_part low more high r h) [ inl k ↦ (told.each r).1 (inl ((read_one r).0 k)) | inr k ↦ (told.each r).1 (inr ((read_two r).0 k)) ])
+      (λ r h. elim ((told.each r).0 h) [ inl k ↦ has_outer low more high r ((read_one r).1 k) | inr k ↦ has_left (low ++ more) high r (has_right low more r ((read_two r).1 k)) ])
 
--- both tables, read one after the other, give the told rows
-pub read_both : (s t u v : State) (first second : List SqlRow) (rows added more : List Row) → TellsBoth s.now rows → Shown text.read_record [] s t first → AreInTurn IsRecordRow first added
-    → u.now ≡ s.now → Shown text.read_sealed [] u v second → AreInTurn IsSealedRow second more → IsAscending key_cmp key_of (added ++ more) → added ++ more ≡ rows
-read_both s t u v first second rows added more (inl here) one each_one same two each_two up = read_here both s t u v first second rows added more here one each_one same two each_two up
-read_both s t u v first second rows added more (inr here) one each_one same two each_two up = read_here turned s t u v first second rows added more here one each_one same two each_two up
+-- both tables, read one after the other, give the told rows, where those of `sealed` are put between two parts of those of `record`
+pub read_both : (s t u v : State) (first second : List SqlRow) (rows low high more : List Row) → TellsBoth s.now rows → Shown text.read_record [] s t first → AreInTurn IsRecordRow first (low ++ high)
+    → u.now ≡ s.now → Shown text.read_sealed [] u v second → AreInTurn IsSealedRow second more → IsAscending key_cmp key_of (low ++ more ++ high) → low ++ more ++ high ≡ rows
+read_both s t u v first second rows low high more (inl here) one each_one same two each_two up = read_here both s t u v first second rows low high more here one each_one same two each_two up
+read_both s t u v first second rows low high more (inr here) one each_one same two each_two up = read_here turned s t u v first second rows low high more here one each_one same two each_two up

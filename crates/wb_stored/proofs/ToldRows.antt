@@ -112,7 +112,7 @@ inserted_has (z ∷ zs) x y up h = elim (key_cmp z.key x.key) as (λ o. key_cmp 
 -- ---- what the tables tell after a change
 
 kinds_apart : (x y : Row) → IsOfRecord x → IsOfSealed y → x.key ≢ y.key
-kinds_apart x y p q same = absurd (omega (arith, p, q.0, ap (λ (k : Key). k.kind) same))
+kinds_apart x y p q same = p (ap (λ (k : Key). k.kind) same ∙ q.0)
 
 abbrev pub PutsRecord : List SqlRow → List SqlRow → Row → Type 0
 PutsRecord = IsPut stored_record IsOfRecord (λ id x. refl) record_back

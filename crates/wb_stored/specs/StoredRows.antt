@@ -1,13 +1,13 @@
 -- How the two tables hold a kept row.
-use Rattle.std.specs.Prelude.{◌≡◌, ◌≤◌, pos, List, [], ◌∷◌}
+use Rattle.std.specs.Prelude.{◌≡◌, ◌≢◌, pos, List, [], ◌∷◌}
 use Rattle.sqlite_value.specs.declared.value.Value.TheVariants.{Int, Text}
 use Rattle.sqlite_value.specs.Order.{Row as SqlRow, column}
 use Rattle.wb_base.specs.declared.rows.Row.{Row}
 
--- the columns of a row of `record`: its key and its text, for the kinds up to 6
+-- the columns of a row of `record`: its key and its text, for all kinds but 7
 pub record IsRecordRow (columns : SqlRow) (row : Row) : Type 0 where
   pub kind : column columns 0 ≡ Int (pos row.key.kind)
-  pub to : row.key.kind ≤ 6
+  pub unsealed : row.key.kind ≢ 7
   pub tenant : column columns 1 ≡ Int (pos row.key.tenant)
   pub a : column columns 2 ≡ Int (pos row.key.a)
   pub b : column columns 3 ≡ Int (pos row.key.b)

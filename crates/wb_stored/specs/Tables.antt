@@ -30,7 +30,7 @@ kept_table name columns places tree = record {
   is_counted = false;
 }
 
--- the table of the kinds up to 6
+-- the table of all kinds but 7
 abbrev pub record_columns : List Column
 record_columns = column_of (codes "kind") Integer ∷ column_of (codes "tenant") Integer ∷ column_of (codes "a") Integer ∷ column_of (codes "b") Integer ∷ column_of (codes "body") Text ∷ []
 

@@ -1,5 +1,5 @@
 -- Which rows a database tells: those that its two tables store.
-use Rattle.std.specs.Prelude.{◌≡◌, ◌⊎◌, ◌↔◌, ℤ, pos, ◌≤◌, List, [], ◌∷◌, IsTrue}
+use Rattle.std.specs.Prelude.{◌≡◌, ◌≢◌, ◌⊎◌, ◌↔◌, ℤ, pos, List, [], ◌∷◌, IsTrue}
 use Rattle.sqlite_value.specs.declared.value.Value.TheVariants.{Int, Text}
 use Rattle.sqlite_value.specs.Order.{Row as SqlRow}
 use Rattle.sqlite_trees.specs.Tree.{Trees, IsTable}
@@ -19,9 +19,9 @@ stored_record id row = Int id ∷ Int (pos row.key.kind) ∷ Int (pos row.key.te
 abbrev pub stored_sealed : ℤ → Row → SqlRow
 stored_sealed id row = Int id ∷ Int (pos row.key.tenant) ∷ Int (pos row.key.a) ∷ Text row.text ∷ []
 
--- `record` has the kinds up to 6, and `sealed` has kind 7
+-- `record` has all kinds but 7, and `sealed` has kind 7
 abbrev pub IsOfRecord : Row → Type 0
-IsOfRecord row = row.key.kind ≤ 6
+IsOfRecord row = row.key.kind ≢ 7
 
 abbrev pub IsOfSealed : Row → Type 0
 IsOfSealed row = (row.key.kind ≡ 7) × (row.key.b ≡ 0)
