@@ -1,4 +1,4 @@
-use Rattle.std.proofs.Common.{◌≡◌, [], ◌++◌, List, subst, sym, ap, ◌∙◌}
+use Rattle.std.proofs.Common.{[], ◌++◌, List, subst, sym, ap, ◌∙◌}
 use Rattle.sqlite.specs.Held.{state}
 use Rattle.sqlite.specs.State.{HasCleanDisk}
 use Rattle.wb_list.specs.Keyed.{IsAscending}

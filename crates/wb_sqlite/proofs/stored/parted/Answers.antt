@@ -1,4 +1,4 @@
-use Rattle.std.proofs.Common.{◌≡◌, take, drop, ◌++◌, sym, subst, ◌∙◌}
+use Rattle.std.proofs.Common.{take, drop, sym, subst}
 use Rattle.std.proofs.lemmas.List.{take-append-drop}
 use Rattle.wb_list.specs.Keyed.{IsAscending}
 use Rattle.wb_base.specs.KeptRows.{key_cmp, key_of}
