@@ -15,6 +15,6 @@ mod transfer;
 pub use calls::{CALL_SECONDS, TcpCall};
 pub use clock::RealTicker;
 pub use dialing::{CONNECT_SECONDS, TcpDial};
-pub use link::TcpLink;
+pub use link::{StreamLink, TcpLink};
 pub use listening::TcpLinks;
 pub use stages::{IDLE_SECONDS, REPLY_SECONDS, REQUEST_SECONDS};

@@ -1,6 +1,6 @@
 use Rattle.std.proofs.Common.{refl}
 use Rattle.wb_system.proofs.Untold.{front_untold, on_err_too, on_ok_too, read_untold}
-use Rattle.wb_system.proofs.link.TcpLinkLink.TheImpl.Goals as goal
+use Rattle.wb_system.proofs.link.StreamLinkLink.TheImpl.Goals as goal
 
 pub read-tells : goal.read-tells
 read-tells g x c = record {
