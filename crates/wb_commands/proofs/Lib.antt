@@ -1,8 +1,7 @@
-pub mod Families
-pub mod Requests
+pub mod Made
+pub mod Plans
+pub mod Proposed
 pub mod Results
 pub mod SecretTexts
 pub mod SetUps
-pub mod Steps
 pub mod Submissions
-pub mod Suits

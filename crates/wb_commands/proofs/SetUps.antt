@@ -1,12 +1,17 @@
 -- What is known of a context and of a form that a sound registry has.
-use Rattle.std.proofs.Common.{◌≡◌, ℕ, ◌≤◌, Bool, true, false, cond, eqb, List, [], ◌∷◌, length, Option, Some, None, refl, subst, arith}
+use Rattle.std.proofs.Common.{◌≡◌, ℕ, ◌≤◌, Bool, true, false, cond, eqb, find, List, [], ◌∷◌, length, Option, Some, None, refl, subst, arith}
 use Rattle.std.specs.Prelude.{fold, if◌then◌else◌, nat_le, ◌&&◌, ◌==◌}
 use Rattle.std.proofs.lemmas.Bool.Decides.{nat_tests}
+use Rattle.wb_base.specs.FormFaults.{is_good}
+use Rattle.wb_model.specs.declared.entry.Entry.{Entry}
 use Rattle.wb_model.specs.declared.registry.ContextItem.{ContextItem}
 use Rattle.wb_model.specs.declared.registry.FormItem.{FormItem}
 use Rattle.wb_model.specs.Legal.{AreSound, are_readers, ascends}
 use Rattle.wb_model.specs.Opened.{AreVersions}
+use Rattle.wb_model.specs.AskingForms.{form_of_trail}
 use Rattle.wb_model.specs.Tables.{context, newest_form}
+use Rattle.wb_model.specs.Trails as trails
+use Rattle.wb_tables.specs.Places.{AreGoodForms}
 
 some_same : {X : Type 0} (a b : X) → Some a ≡ Some b → a ≡ b
 some_same a b e = cc e
@@ -43,3 +48,15 @@ later_version f item before (x ∷ xs) here all e = later_version f item (if x.i
 
 pub newest_version : (f : ℕ) (item : FormItem) (forms : List FormItem) → newest_form f forms ≡ Some item → AreVersions forms → item.version ≤ 99
 newest_version f item forms e all = later_version f item None forms (λ k. absurd cc) all e
+
+-- the form of a report is good where all are
+found_good : (p : FormItem → Bool) (forms : List FormItem) (item : FormItem) → AreGoodForms forms → find p forms ≡ Some item → is_good item.form ≡ true
+found_good p [] item all e = absurd cc
+found_good p (x ∷ xs) item all e = by (λ f. found_good p xs item all.1 f) (p x) e
+  where
+    by : (find p xs ≡ Some item → is_good item.form ≡ true) → (b : Bool) → cond b (Some x) (find p xs) ≡ Some item → is_good item.form ≡ true
+    by later true f = (let same : x ≡ item = cc in subst (λ (y : FormItem). is_good y.form ≡ true) same all.0)
+    by later false f = later f
+
+pub trail_form_good : (trail : List Entry) (forms : List FormItem) (item : FormItem) → AreGoodForms forms → form_of_trail trail forms ≡ Some item → is_good item.form ≡ true
+trail_form_good trail forms item all e = found_good (λ x. (x.id == trails.form trail) && (x.version == trails.version trail)) forms item all e

@@ -18,18 +18,18 @@ use Rattle.wb_model.specs.Json.{told}
 use Rattle.wb_model.specs.Legal.{AreSound}
 use Rattle.wb_model.specs.Refusals.{not_found, numbers_spent, quota_spent, receipt_taken, faulty}
 use Rattle.wb_model.specs.Refusing.{refuses_where}
-use Rattle.wb_model.specs.Requests.{Outcome, Checked, asking_form, open_form, submission_outcome, submission_secret, submission_fault, public, secret, mark}
+use Rattle.wb_model.specs.Requests.{Outcome, Checked, submission_outcome, submission_secret, submission_fault, public, secret, mark}
+use Rattle.wb_model.specs.AskingForms.{asking_form, open_form}
 use Rattle.wb_model.specs.ShortViews.{submission_view}
 use Rattle.wb_model.specs.Submissions.{Drawing, drawing, submission_entry}
 use Rattle.wb_model.specs.Tables.{Registry, Plain, Who, context, newest_form}
 use Rattle.wb_tables.specs.Places.{AreGoodForms}
 use Rattle.wb_tables.specs.Receipted.{is_submitted}
-use Rattle.wb_commands.specs.Plans.{submission_verdict, drawing_refusal, PlansSubmission, IsPlan, IsBegun, IsFitAtOnce, GivesSecret, begins, change_of, IsAsking}
-use Rattle.wb_commands.specs.declared.plan.Mutation.{Mutation}
+use Rattle.wb_commands.specs.Plans.{submission_verdict, drawing_refusal, PlansSubmission, IsPlan, IsBegun, GivesSecret, begins, change_of, IsAsking}
+use Rattle.wb_commands.specs.declared.mutation.Mutation.{Mutation}
 use Rattle.wb_model.specs.declared.entry.Entry.{Entry}
-use Rattle.wb_tables.specs.declared.tenancy.Tenancy.{Tenancy as KeptTenancy}
 use Rattle.wb_commands.specs.declared.plan.TurnPlan.{TurnPlan}
-use Rattle.wb_commands.specs.declared.plan.Mutation.TheVariants as planned
+use Rattle.wb_commands.specs.declared.mutation.Mutation.TheVariants as planned
 
 -- ---- plans of verdicts
 
@@ -102,11 +102,6 @@ begins_it id g _ e given is = absurd is
 gives_it : (c : Mutation) (e : Entry) (given secret : Option Answered) → IsBegun c e given → given ≡ secret → GivesSecret c secret
 gives_it (planned.Begins o) e given secret is same = is.1 ∙ same
 gives_it _ e given secret is same = absurd is
-
--- a report has a number where nothing stands in the way of a draw
-pub fit_begun : (x : KeptTenancy) (c : Mutation) (e : Entry) (given : Option Answered) → x.numbering.last < 4_294_967_295 → requests (e ∷ []) ≡ [] → is_submitted (e ∷ []) ≡ true → IsBegun c e given → IsFitAtOnce x c
-fit_begun x (planned.Begins o) e given lt none first is = (lt, (e, is.0), ap requests is.0 ∙ none, ap is_submitted is.0 ∙ first)
-fit_begun x _ e given lt none first is = absurd is
 
 pub asks_none : (at : TurnContext) (g : Registry) (o : Outcome) (c : ContextItem) (item : FormItem) → requests (submission_entry at g o c item ∷ []) ≡ []
 unfolding submission_entry

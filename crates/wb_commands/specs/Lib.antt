@@ -1,2 +1,4 @@
+pub mod Made
 pub mod Plans
+pub mod Puts
 pub mod Steps

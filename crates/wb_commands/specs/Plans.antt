@@ -1,5 +1,5 @@
 -- What the code plans stands for.
-use Rattle.std.specs.Prelude.{◌≡◌, ℕ, ◌<◌, nat_le, true, List, [], ◌∷◌, Option, Some, None, map, if◌then◌else◌}
+use Rattle.std.specs.Prelude.{◌≡◌, ℕ, ◌<◌, ◌+◌, nat_le, true, List, [], ◌∷◌, Option, Some, None, map, if◌then◌else◌}
 use Rattle.std.specs.Option.{option_or}
 use Rattle.wb_base.specs.AnswerList.{Answered}
 use Rattle.wb_base.specs.AnswerFaults.{answers_fault, public_of, sealed_of, is_marked}
@@ -13,10 +13,11 @@ use Rattle.wb_model.specs.declared.registry.FormItem.{FormItem}
 use Rattle.wb_model.specs.Access.{requests}
 use Rattle.wb_model.specs.Changes.{TurnContext, Change, Nothing, Begins, Notes, Deletes, LogsIn, LogsOut, Configures, Verdict, judged}
 use Rattle.wb_model.specs.Effects.{Submits, in_open}
-use Rattle.wb_model.specs.Host.{Sealed, Tables, ruling, reply_by, change_of as verdict_change}
+use Rattle.wb_model.specs.Host.{Sealed, Tables, drawn, ruling, reply_by, change_of as verdict_change}
 use Rattle.wb_model.specs.Refusals.{numbers_spent, quota_spent, receipt_taken}
 use Rattle.wb_model.specs.Refusing.{refuses_where}
-use Rattle.wb_model.specs.Requests.{Outcome, asking_form, submission_outcome, submission_secret, request, sealed_part, Checked}
+use Rattle.wb_model.specs.Requests.{Outcome, submission_outcome, submission_secret, request, sealed_part, Checked}
+use Rattle.wb_model.specs.AskingForms.{asking_form}
 use Rattle.wb_model.specs.Rules.{refusal_alone, change_alone, answer_alone, verdict_on}
 use Rattle.wb_model.specs.Submissions.{Drawing, drawing, submission_entry}
 use Rattle.wb_model.specs.Tables.{Registry, Plain, Session, Who, context as context_by, newest_form, is_there}
@@ -27,11 +28,12 @@ use Rattle.wb_tables.specs.Kept.{plain_of, live_plain}
 use Rattle.wb_tables.specs.Logins.{AreEarlier, login_of, session_of, who_seen}
 use Rattle.wb_tables.specs.Noted.{IsReadyNote}
 use Rattle.wb_tables.specs.Receipted.{is_submitted}
-use Rattle.wb_queries.specs.declared.turn.TurnContext.{TurnContext as KeptAt}
+use Rattle.wb_tables.specs.declared.turn_context.TurnContext.{TurnContext as KeptAt}
+use Rattle.wb_commands.specs.declared.opening.Opening.{Opening}
 use Rattle.wb_commands.specs.declared.plan.TurnPlan.{TurnPlan}
-use Rattle.wb_commands.specs.declared.plan.Mutation.{Mutation}
-use Rattle.wb_commands.specs.declared.plan.Mutation.TheVariants as planned
-use Rattle.wb_queries.specs.Looks.{at_of}
+use Rattle.wb_commands.specs.declared.mutation.Mutation.{Mutation}
+use Rattle.wb_commands.specs.declared.mutation.Mutation.TheVariants as planned
+use Rattle.wb_tables.specs.TurnContexts.{at_of}
 
 -- a report begins with an entry
 abbrev pub begins : List Entry → Change
@@ -72,20 +74,30 @@ IsLogin _ session = ⊥
 
 -- ---- room
 
--- what a change that is planned at once asks of a tenant's tables but for room: a report that begins has a number and one entry, a
+-- a report that begins has the next number of these tables, and the numbering after it is drawn at a time
+abbrev pub IsDraw : ℕ → Plain → Opening → Type 0
+IsDraw time p o = (o.number ≡ p.numbering.last + 1) × (o.numbering ≡ drawn time p.registry.settings p.numbering)
+
+-- what a change that is planned at once asks of a tenant's tables but for room: a report that begins has its draw and one entry, a
 -- submission, which asks for no identity; and a login is made at a later turn than all others
-abbrev pub IsFitAtOnce : KeptTenancy → Mutation → Type 0
-IsFitAtOnce x (planned.Begins o) = (x.numbering.last < 4_294_967_295) × ((e : Entry) × (o.case.items ≡ e ∷ [])) × (requests o.case.items ≡ []) × (is_submitted o.case.items ≡ true)
-IsFitAtOnce x (planned.LogsIn login) = AreEarlier login.turn (map session_of x.sessions.items)
-IsFitAtOnce x (planned.Notes n) = ⊥
-IsFitAtOnce x (planned.Configures c) = ⊥
-IsFitAtOnce x _ = Unit {0}
+abbrev pub IsFitAtOnce : ℕ → KeptTenancy → Mutation → Type 0
+IsFitAtOnce time x (planned.Begins o) = IsDraw time (plain_of x) o × ((e : Entry) × (o.case.items ≡ e ∷ [])) × (requests o.case.items ≡ []) × (is_submitted o.case.items ≡ true)
+IsFitAtOnce time x (planned.LogsIn login) = AreEarlier login.turn (map session_of x.sessions.items)
+IsFitAtOnce time x (planned.Notes n) = ⊥
+IsFitAtOnce time x (planned.Configures c) = ⊥
+IsFitAtOnce time x _ = Unit {0}
 
 -- and so of each: an entry comes to a live report, and a setting comes with its row
 abbrev pub IsFit : ℕ → KeptTenancy → Mutation → Type 0
 IsFit time x (planned.Notes n) = is_there n.number (live_plain time (plain_of x)).cases ≡ true
 IsFit time x (planned.Configures c) = c.row ≡ row_of x.configuration.tenant x.configuration.registry c.proposal
-IsFit time x change = IsFitAtOnce x change
+IsFit time x change = IsFitAtOnce time x change
+
+-- what is made ready before there is room: the report that an entry comes to, and what a tenant is set up with for a setting
+abbrev pub IsReady : KeptTenancy → Mutation → Type 0
+IsReady x (planned.Notes n) = IsReadyNote n.number n.entry x.cases.items
+IsReady x (planned.Configures c) = IsReadyToSet x.configuration c.proposal
+IsReady x _ = Unit {0}
 
 -- so much room for identity answers, and what there is in a tenant's tables, is enough for a change; what only goes needs none
 abbrev pub HasRoomFor : KeptTenancy → ℕ → Mutation → Type 0

@@ -1,5 +1,5 @@
 -- What is left to do for a plan, and what it stands for.
-use Rattle.std.specs.Prelude.{◌≡◌, ◌⊎◌, ℕ, true, false, List, [], Option, Some, None, option_map, map}
+use Rattle.std.specs.Prelude.{◌≡◌, ◌⊎◌, ℕ, Bool, true, false, List, [], Option, Some, None, option_map, map}
 use Rattle.wb_base.specs.AnswerFaults.{identity_fault}
 use Rattle.wb_base.specs.AnswerList.{Answered}
 use Rattle.wb_base.specs.Calendars.{Calendar}
@@ -14,6 +14,7 @@ use Rattle.wb_model.specs.declared.registry.UserItem.{UserItem}
 use Rattle.wb_model.specs.declared.act.CaseFault.{CaseFault}
 use Rattle.wb_model.specs.declared.command.Asked.{Asked}
 use Rattle.wb_model.specs.declared.command.Command.{Command}
+use Rattle.wb_model.specs.declared.command.Command.TheVariants as commands
 use Rattle.wb_model.specs.declared.entry.Actor.{Actor}
 use Rattle.wb_model.specs.declared.entry.Entry.{Entry}
 use Rattle.wb_model.specs.declared.body.Told.{Told}
@@ -29,11 +30,13 @@ use Rattle.wb_model.specs.ShortViews.{done_view}
 use Rattle.wb_model.specs.Trails as trails
 use Rattle.wb_model.specs.Access.{user_by}
 use Rattle.wb_model.specs.Effects as effects
-use Rattle.wb_model.specs.Effects.{Effect, effect_of}
+use Rattle.wb_model.specs.Effects.{Effect}
+use Rattle.wb_model.specs.Commands.{effect_of}
 use Rattle.wb_model.specs.Host.{Sealed, Tables, purged}
 use Rattle.wb_model.specs.Legal.{is_reporter, right_actor}
 use Rattle.wb_model.specs.Refusals.{not_found, faulty}
-use Rattle.wb_model.specs.Requests.{outline, outcome, sealed_part, form_of_trail}
+use Rattle.wb_model.specs.Requests.{outline, outcome, sealed_part}
+use Rattle.wb_model.specs.AskingForms.{form_of_trail}
 use Rattle.wb_model.specs.Settings.{Proposal, proposal_told, proposal_refusal}
 use Rattle.wb_model.specs.Submissions.{outcome_refusal}
 use Rattle.wb_model.specs.Tables.{Registry, Plain, Case, Who, TheUser, report}
@@ -48,10 +51,10 @@ use Rattle.wb_tables.specs.Configured.{IsSoundProposal, fault_of, proposal_of, r
 use Rattle.wb_tables.specs.Lives.{HasEarlyDays}
 use Rattle.wb_tables.specs.Logins.{who_seen}
 use Rattle.wb_tables.specs.Noted.{IsReadyNote}
-use Rattle.wb_queries.specs.declared.turn.TurnContext.{TurnContext as KeptAt}
+use Rattle.wb_tables.specs.declared.turn_context.TurnContext.{TurnContext as KeptAt}
 use Rattle.wb_commands.specs.declared.plan.TurnPlan.{TurnPlan}
-use Rattle.wb_commands.specs.declared.plan.Mutation.{Mutation}
-use Rattle.wb_commands.specs.declared.plan.Mutation.TheVariants as planned
+use Rattle.wb_commands.specs.declared.mutation.Mutation.{Mutation}
+use Rattle.wb_commands.specs.declared.mutation.Mutation.TheVariants as planned
 use Rattle.wb_commands.specs.declared.draft.Asks.{Asks}
 use Rattle.wb_commands.specs.declared.draft.Asks.TheVariants as asks
 use Rattle.wb_commands.specs.declared.draft.Doing.{Doing}
@@ -62,9 +65,9 @@ use Rattle.wb_commands.specs.declared.draft.Setting.{Setting}
 use Rattle.wb_commands.specs.declared.draft.Draft.{Draft}
 use Rattle.wb_commands.specs.declared.draft.Draft.TheVariants as steps
 use Rattle.wb_commands.specs.declared.draft.Writing.{Writing}
-use Rattle.wb_queries.specs.Looks.{at_of}
+use Rattle.wb_tables.specs.TurnContexts.{at_of}
 use Rattle.wb_commands.specs.Plans.{PlansOn, IsFitAtOnce, IsLogin, tables_at}
-use Rattle.wb_queries.specs.Targeted.{told_of}
+use Rattle.wb_views.specs.Refused.{told_of}
 use Rattle.wb_custody.specs.declared.sealed.SealedItem.{SealedItem}
 use Rattle.wb_tables.specs.Kept.{tables_of, place_of, live_plain, plain_of, case_of}
 
@@ -148,10 +151,10 @@ abbrev pub StepsTo : KeptTenancy → KeptAt → Asked → Target → Draft → T
 StepsTo x at a to step = (sealed : Sealed) → IsDraftOf x.configuration.tenant (tables_at at.time x sealed) (at_of at) a to step
 
 -- a plan that is done is fit
-abbrev pub IsFitStep : KeptTenancy → Draft → Type 0
-IsFitStep x (steps.Done plan) = IsFitAtOnce x plan.change
-IsFitStep x (steps.Writes w) = Unit {0}
-IsFitStep x (steps.Sets s) = Unit {0}
+abbrev pub IsFitStep : ℕ → KeptTenancy → Draft → Type 0
+IsFitStep time x (steps.Done plan) = IsFitAtOnce time x plan.change
+IsFitStep time x (steps.Writes w) = Unit {0}
+IsFitStep time x (steps.Sets s) = Unit {0}
 
 -- it is done, and changes nothing
 abbrev pub IsTold : Told → Draft → Type 0
@@ -160,6 +163,20 @@ IsTold told (steps.Writes w) = ⊥
 IsTold told (steps.Sets s) = ⊥
 
 -- ---- steps by what was asked
+
+-- an act of a reader
+abbrev pub is_act : Command → Bool
+is_act (commands.Comment t n text internal) = true
+is_act (commands.Label t n label) = true
+is_act (commands.SetStatus t n status) = true
+is_act (commands.Acknowledge t n) = true
+is_act (commands.Feedback t n text) = true
+is_act (commands.Share t n user) = true
+is_act (commands.Unshare t n u) = true
+is_act (commands.Transfer t n context) = true
+is_act (commands.Postpone t n) = true
+is_act (commands.Extend t n reason) = true
+is_act _ = false
 
 -- the report goes
 abbrev pub IsErased : Report → Draft → Type 0

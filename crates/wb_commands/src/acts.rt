@@ -10,9 +10,9 @@ ghost use Rattle.wb_model.specs.Trails as trails;
 ghost use Rattle.wb_model.specs.declared.entry.Actor.TheVariants as actors;
 ghost use Rattle.wb_model.specs.declared.entry.Entry.{Entry};
 ghost use Rattle.wb_model.specs.declared.command.Command.TheVariants as commands;
-ghost use Rattle.wb_queries.specs.Looks.{at_of};
+ghost use Rattle.wb_tables.specs.TurnContexts.{at_of};
 ghost use Rattle.wb_commands.specs.Steps.{IsAskedOnReport, IsSoundAsk, IsRetention};
-ghost use Rattle.wb_queries.specs.Suited.{is_act};
+ghost use Rattle.wb_commands.specs.Steps.{is_act};
 ghost use Rattle.wb_tables.specs.Kept.{case_of, plain_of, lives_on};
 ghost use Rattle.wb_tables.specs.Places.{IsLookedUp};
 
@@ -20,8 +20,7 @@ use crate::draft::{Asks, Doing};
 use wb_base::{Day, Memory, Role, Text, UserId};
 use wb_list::TryClone;
 use wb_model::{Act, CaseFault, Command};
-use wb_queries::TurnContext;
-use wb_tables::{Report, Tenancy};
+use wb_tables::{Report, Tenancy, TurnContext};
 use wb_terms::day_of;
 
 // An act.

@@ -8,14 +8,14 @@ ghost use Rattle.wb_model.specs.ShortViews.{request_view as request_data};
 ghost use Rattle.wb_commands.specs.Steps.{Answers, IsErased, WritesDown, doing_of};
 
 use crate::draft::{Asks, Doing, Draft, Writing, refusing};
-use crate::plan::{Mutation, TurnPlan};
+use crate::mutation::Mutation;
+use crate::plan::TurnPlan;
 use crate::sessions::done;
 use std::alloc::Global;
 use wb_base::Memory;
 use wb_model::{Act, Body, Move, Told};
-use wb_queries::Refusal;
 use wb_tables::{Report, Who};
-use wb_views::request_view;
+use wb_views::{Refusal, request_view};
 
 // The status of the reply to an act: 201 where it makes something new, and else 200.
 fn act_status(act: &Act) -> u16
@@ -75,7 +75,7 @@ fn write(alloc: Global, who: Who, report: &Report, doing: Doing) -> Result<Draft
 }
 
 /// The step of what is asked to be done on a report, without identity answers.
-pub fn writing(alloc: Global, who: Who, report: &Report, asks: Asks) -> Result<Draft, Memory>
+pub fn write_down(alloc: Global, who: Who, report: &Report, asks: Asks) -> Result<Draft, Memory>
     requires custodied { report.now.desk.items ≡ requests report.now.case.items }
     requires few { length report.now.desk.items ≤ 100 }
     ensures { IfOk result (Answers who report.now asks) }

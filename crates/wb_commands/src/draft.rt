@@ -1,14 +1,14 @@
 //! What is left to do for a plan.
 ghost use Rattle.std.specs.Prelude.{◌≡◌, IfOk};
 ghost use Rattle.wb_commands.specs.Steps.{IsTold};
-ghost use Rattle.wb_queries.specs.Targeted.{told_of};
+ghost use Rattle.wb_views.specs.Refused.{told_of};
 
 use crate::plan::{TurnPlan, answering};
 use std::alloc::Global;
 use wb_base::{Answers, Memory, Number};
 use wb_model::{Act, CaseFault, Entry, Move, Told};
-use wb_queries::{Refusal, refuse};
 use wb_tables::{Proposal, Who};
+use wb_views::{Refusal, refuse};
 
 /// What is done on a report: an act, or a move with the requests for its identity.
 #[derive(Drop)]

@@ -2,7 +2,7 @@
 ghost use Rattle.std.specs.Prelude.{◌≡◌, ◌≢◌, [], Some, true, IfOk, OnOk};
 ghost use Rattle.std.specs.Option.{option_copied};
 ghost use Rattle.wb_model.specs.Refusals.{faulty as faulty_told};
-ghost use Rattle.wb_model.specs.Requests.{form_of_trail};
+ghost use Rattle.wb_model.specs.AskingForms.{form_of_trail};
 ghost use Rattle.wb_model.specs.Trails as trails;
 ghost use Rattle.wb_base.specs.FormFaults.{is_good};
 ghost use Rattle.wb_model.specs.Json.{told};
@@ -17,10 +17,9 @@ use std::alloc::Global;
 use wb_base::{AnswerFault, Answers, Form, Memory};
 use wb_list::TryClone;
 use wb_model::{Act, Deed, Entry, FormItem, Told};
-use wb_queries::{Refusal, refuse_answers};
 use wb_tables::{Report, Tenancy, Who};
 use wb_trigger::check_identity;
-use wb_views::{form, version};
+use wb_views::{Refusal, form, refuse_answers, version};
 
 // The public answers of a trail's submission, or these where it has none.
 fn public_answers<'a>(trail: &'a [Entry], none: &'a Answers) -> &'a Answers

@@ -3,17 +3,17 @@ ghost use Rattle.std.specs.Prelude.{◌≡◌, IfOk};
 ghost use Rattle.wb_model.specs.Json.{told};
 ghost use Rattle.wb_model.specs.Logins.{new_session, welcome as welcome_told};
 ghost use Rattle.wb_model.specs.ShortViews.{done_view as done_data};
-ghost use Rattle.wb_queries.specs.Looks.{at_of};
+ghost use Rattle.wb_tables.specs.TurnContexts.{at_of};
 ghost use Rattle.wb_commands.specs.Plans.{IsLogin};
 ghost use Rattle.wb_tables.specs.Logins.{login_of, who_seen};
 
-use crate::plan::{Mutation, TurnPlan};
+use crate::mutation::Mutation;
+use crate::plan::TurnPlan;
 use std::alloc::Global;
 use wb_access::{digest, secret};
 use wb_base::{Memory, Role};
 use wb_model::{Body, Told};
-use wb_queries::TurnContext;
-use wb_tables::{Login, Tenancy, Who};
+use wb_tables::{Login, Tenancy, TurnContext, Who};
 use wb_views::{done_view, session_view};
 
 /// The reply that tells that something was done. It takes no memory.

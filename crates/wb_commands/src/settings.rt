@@ -17,10 +17,9 @@ use crate::sessions::done;
 use std::alloc::Global;
 use wb_base::{Form, FormFault, Memory, UserId};
 use wb_model::{Body, ContextSet, SettingsSet, Told, UserSet};
-use wb_queries::{Refusal, refuse_form};
 use wb_tables::{Proposal, Tenancy};
 use wb_tenants::{copy_context, copy_form, copy_settings, copy_user};
-use wb_views::version_view;
+use wb_views::{Refusal, refuse_form, version_view};
 
 // The step of what is asked to be set, with a reply that it was done.
 fn setting(proposal: Proposal) -> Draft

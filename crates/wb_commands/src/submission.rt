@@ -4,30 +4,33 @@ ghost use Rattle.std.specs.Prelude.{◌≡◌, ◌≤◌, ◌<◌, ◌+◌, ◌�
 ghost use Rattle.wb_base.specs.Days.{IsOffset, day_of as day_at};
 ghost use Rattle.wb_base.specs.AnswerList.{Answered};
 ghost use Rattle.wb_base.specs.Secrets.{digest as digest_of, receipt_text};
+ghost use Rattle.wb_model.specs.Host.{drawn as drawn_at};
 ghost use Rattle.wb_model.specs.Json.{told};
-ghost use Rattle.wb_model.specs.Requests.{Checked, open_form};
+ghost use Rattle.wb_model.specs.Requests.{Checked};
+ghost use Rattle.wb_model.specs.AskingForms.{open_form};
 ghost use Rattle.wb_model.specs.ShortViews.{submission_view as submission_data};
 ghost use Rattle.wb_model.specs.Submissions.{drawing, submission_entry};
 ghost use Rattle.wb_model.specs.Tables.{context as context_by, drawn_on};
-ghost use Rattle.wb_queries.specs.Looks.{at_of};
+ghost use Rattle.wb_tables.specs.TurnContexts.{at_of};
 ghost use Rattle.wb_commands.specs.Plans.{drawing_refusal, IsFitAtOnce, IsSplit, PlansSubmission, BeginsWith, PlansDraw, IsAskingIn};
-ghost use Rattle.wb_queries.specs.Targeted.{told_of};
+ghost use Rattle.wb_views.specs.Refused.{told_of};
 ghost use Rattle.wb_tables.specs.Kept.{plain_of, live_plain};
 ghost use Rattle.wb_tables.specs.Places.{IsLookedUp};
 
 use crate::identity::faulty;
-use crate::plan::{Mutation, Opening, TurnPlan, answering, refused};
+use crate::mutation::Mutation;
+use crate::opening::Opening;
+use crate::plan::{TurnPlan, answering, refused};
 use std::alloc::Global;
 use wb_access::{digest, draw};
-use wb_base::{Answers, Digest, Memory, Moment, Words};
+use wb_base::{Answers, Digest, Memory, Moment, Number, Words};
 use wb_case::Case;
 use wb_list::TryClone;
 use wb_model::{Actor, Body, ContextItem, Deed, Entry, FormItem, Numbering, TenantItem, Told};
-use wb_queries::{Refusal, TurnContext};
-use wb_tables::{Tenancy, UnnumberedReport, report_of_receipt};
+use wb_tables::{Tenancy, TurnContext, UnnumberedReport, report_of_receipt};
 use wb_terms::{ack_due, day_of, expiry, feedback_due};
 use wb_trigger::{Split, check};
-use wb_views::submission_view;
+use wb_views::{Refusal, submission_view};
 
 /// An open context, and the form in which it asks.
 #[derive(Drop)]
@@ -95,7 +98,8 @@ fn is_taken(tenancy: &Tenancy, at: &TurnContext, digest: &Digest) -> bool
 fn hindrance(tenancy: &Tenancy, at: &TurnContext, digest: &Digest) -> Option<Refusal>
     requires place { IsLookedUp (plain_of tenancy.now) }
     requires drawn { digest.now ≡ digest_of tenancy.now.configuration.registry.settings.salt (receipt_text at.now.words) }
-    ensures { option_map told_of result ≡ drawing_refusal tenancy.now.configuration.registry.settings.quota (drawing (at_of at.now) (live_plain at.now.time (plain_of tenancy.now))) }
+    ensures refusal { option_map told_of result ≡ drawing_refusal tenancy.now.configuration.registry.settings.quota (drawing (at_of at.now) (live_plain at.now.time (plain_of tenancy.now))) }
+    ensures left { result ≡ None → (drawing (at_of at.now) (live_plain at.now.time (plain_of tenancy.now))).today < 4_294_967_295 }
 {
     let settings = tenancy.configuration.settings();
     let quota = settings.quota;
@@ -176,6 +180,22 @@ fn started(alloc: Global, entry: Entry) -> Result<UnnumberedReport, Memory>
     }
 }
 
+// The numbering after a draw.
+fn next_numbering(settings: &TenantItem, numbering: Numbering, time: Moment) -> Numbering
+    requires offset { IsOffset settings.now.offset }
+    requires last { numbering.last < 4_294_967_295 }
+    requires today { drawn_on (day_at time settings.now.offset) settings.now numbering < 4_294_967_295 }
+    ensures { result ≡ drawn_at time settings.now numbering }
+{
+    let last = numbering.last + 1;
+    let today = drawn_today(settings, numbering, time);
+    Numbering {
+        at: time,
+        drawn: today + 1,
+        last,
+    }
+}
+
 // The plan of a report that begins.
 fn begin(
     alloc: Global,
@@ -189,12 +209,18 @@ fn begin(
     requires receipt { drawn.now.receipt ≡ receipt_text at.now.words }
     requires digest { drawn.now.digest ≡ digest_of tenancy.now.configuration.registry.settings.salt (receipt_text at.now.words) }
     requires number { tenancy.now.numbering.last < 4_294_967_295 }
+    requires today { (drawing (at_of at.now) (live_plain at.now.time (plain_of tenancy.now))).today < 4_294_967_295 }
     requires low { 1 ≤ asking.now.context.now.retention }
     requires high { asking.now.context.now.retention ≤ 3_650 }
     ensures told { IfOk result (λ plan. plan.told ≡ told 201 (submission_data (tenancy.now.numbering.last + 1) (receipt_text at.now.words))) }
     ensures change { IfOk result (λ plan. BeginsWith tenancy.now.configuration.registry at.now asking.now.context.now asking.now.item.now split plan.change) }
+    ensures fit { IfOk result (λ plan. IsFitAtOnce at.now.time tenancy.now plan.change) }
 {
-    let told = submitted(alloc, tenancy.numbering.last + 1, &drawn.receipt)?;
+    let numbering = next_numbering(tenancy.configuration.settings(), tenancy.numbering, at.time);
+    let Some(number) = Number::try_new(numbering.last) else {
+        unreachable!();
+    };
+    let told = submitted(alloc, numbering.last, &drawn.receipt)?;
     let Split {
         public,
         sealed,
@@ -213,6 +239,8 @@ fn begin(
     Ok(TurnPlan {
         told,
         change: Mutation::Begins(Opening {
+            number,
+            numbering,
             case,
             secret: secret_in(mark, sealed),
         }),
@@ -230,7 +258,7 @@ fn plan_draw(
     requires place { IsLookedUp (plain_of tenancy.now) }
     requires asking { (id : ℕ) × IsAskingIn tenancy.now id asking.now.context.now asking.now.item.now }
     ensures plan { IfOk result (λ plan. (id : ℕ) (answers : Answered) → IsAskingIn tenancy.now id asking.now.context.now asking.now.item.now → IsSplit asking.now.item.now.form answers split → PlansDraw tenancy.now at.now id answers plan) }
-    ensures fit { IfOk result (λ plan. IsFitAtOnce tenancy.now plan.change) }
+    ensures fit { IfOk result (λ plan. IsFitAtOnce at.now.time tenancy.now plan.change) }
 {
     let drawn = draw_receipt(tenancy, &at.words);
     match hindrance(tenancy, at, &drawn.digest) {
@@ -249,7 +277,7 @@ pub fn submit(
 ) -> Result<TurnPlan, Memory>
     requires place { IsLookedUp (plain_of tenancy.now) }
     ensures plan { IfOk result (PlansSubmission tenancy.now.configuration.tenant (live_plain at.now.time (plain_of tenancy.now)) (at_of at.now) id answers.now) }
-    ensures fit { IfOk result (λ plan. IsFitAtOnce tenancy.now plan.change) }
+    ensures fit { IfOk result (λ plan. IsFitAtOnce at.now.time tenancy.now plan.change) }
 {
     let Some(asking) = find_asking(tenancy, id) else {
         return refused(alloc, Refusal::NotFound);

@@ -24,9 +24,10 @@ use Rattle.wb_model.proofs.Found.{Held}
 use Rattle.wb_model.proofs.KindRows.{texts, opened_puts}
 use Rattle.wb_model.proofs.PastLaw.{there_before}
 use Rattle.wb_model.proofs.TurnRows.{opened_rows}
-use Rattle.wb_commands.specs.declared.plan.Mutation.{Mutation}
-use Rattle.wb_commands.specs.declared.plan.Mutation.TheVariants as planned
-use Rattle.wb_commands.specs.Plans.{IsFit, IsRoomyFor, begins, change_of, given_of}
+use Rattle.wb_commands.specs.declared.mutation.Mutation.{Mutation}
+use Rattle.wb_commands.specs.declared.opening.Opening.{Opening}
+use Rattle.wb_commands.specs.declared.mutation.Mutation.TheVariants as planned
+use Rattle.wb_commands.specs.Plans.{IsDraw, IsFit, IsRoomyFor, begins, change_of, given_of}
 use Rattle.wb_rows.specs.Puts.{sealed_put, setting_row, IsVersion}
 use Rattle.wb_rows.proofs.ConfiguredRows.{configured_rows}
 use Rattle.wb_rows.proofs.NotedRows.{noted_rows}
@@ -38,16 +39,17 @@ use Rattle.wb_tables.specs.declared.proposal.Proposal.{Proposal}
 use Rattle.wb_tables.specs.declared.proposal.Proposal.TheVariants as proposals
 use Rattle.wb_tables.specs.declared.tenancy.Tenancy.{Tenancy as KeptTenancy}
 use Rattle.wb_tables.proofs.Lookups.{there-found}
-use Rattle.wb_desk.specs.Puts.{first_puts, noted_puts, puts_of}
+use Rattle.wb_commands.specs.Puts.{first_puts, noted_puts, puts_of}
 use Rattle.wb_desk.proofs.Rooms.{live_report}
 
 -- ---- what is asked of a change
 
--- an entry comes to a report that is there, and a setting has its row and a version that may be
-abbrev pub IsPuttable : PlainTenancy → Mutation → Type 0
-IsPuttable x (planned.Notes n) = is_there n.number x.plain.cases ≡ true
-IsPuttable x (planned.Configures c) = (c.row ≡ setting_row x.id x.plain.registry (setting_of x.id x.plain.registry c.proposal)) × IsVersion (setting_of x.id x.plain.registry c.proposal)
-IsPuttable x _ = Unit {0}
+-- a report begins with its draw, an entry comes to a report that is there, and a setting has its row and a version that may be
+abbrev pub IsPuttable : ℕ → PlainTenancy → Mutation → Type 0
+IsPuttable time x (planned.Begins o) = IsDraw time x.plain o
+IsPuttable time x (planned.Notes n) = is_there n.number x.plain.cases ≡ true
+IsPuttable time x (planned.Configures c) = (c.row ≡ setting_row x.id x.plain.registry (setting_of x.id x.plain.registry c.proposal)) × IsVersion (setting_of x.id x.plain.registry c.proposal)
+IsPuttable time x _ = Unit {0}
 
 setting_is : (t : ℕ) (g : Registry) (p : Proposal) → row_of t g p ≡ setting_row t g (setting_of t g p)
 setting_is t g (proposals.ToTenant next) = refl
@@ -69,7 +71,8 @@ version_is t g (proposals.ToUser u next) e = tt
 version_is t g (proposals.ToContext c next) e = tt
 version_is t g (proposals.ToForm f form) e = few_versions _ (next_version f g.forms) e
 
-pub puttable : (time spare : ℕ) (x : KeptTenancy) (c : Mutation) → IsRoomyFor time x spare c → IsPuttable (place_of x) c
+pub puttable : (time spare : ℕ) (x : KeptTenancy) (c : Mutation) → IsRoomyFor time x spare c → IsPuttable time (place_of x) c
+puttable time spare x (planned.Begins o) h = h.fit.0
 puttable time spare x (planned.Notes n) h = there_before (is_live x.configuration.registry.settings time) n.number (place_of x).plain.cases h.fit
 puttable time spare x (planned.Configures c) h = (
   h.fit ∙ setting_is x.configuration.tenant x.configuration.registry c.proposal,
@@ -79,20 +82,18 @@ puttable time spare x _ h = tt
 
 -- ---- the rows over the tables before and after a purge
 
-pub live_puts : (now time : ℕ) (x : PlainTenancy) (c : Mutation) → Apart has_number x.plain.cases → IsPuttable (live_place time x) c → puts_of now (live_place time x) c ≡ puts_of now x c
-live_puts now time x (planned.Begins o) apart h = by o.case.items
-  where
-    by : (trail : List Entry) → first_puts now (live_place time x) trail o.secret ≡ first_puts now x trail o.secret
-    by [] = refl
-    by (e ∷ es) = refl
+pub live_puts : (now time : ℕ) (x : PlainTenancy) (c : Mutation) → Apart has_number x.plain.cases → IsPuttable now (live_place time x) c → puts_of (live_place time x) c ≡ puts_of x c
 live_puts now time x (planned.Notes n) apart h = ap (noted_puts x.id n.number n.entry n.secret) (live_report n.number (is_live x.plain.registry.settings time) x.plain.cases apart h)
 live_puts now time x _ apart h = refl
 
 -- ---- the rows after it
 
-puts_same : (now : ℕ) (x : PlainTenancy) (entry : Entry) (es : List Entry) (secret : Option Answered) → first_puts now x (entry ∷ es) secret ≡ opened_puts texts x.id now entry secret x.plain
-puts_same now x entry es None = refl
-puts_same now x entry es (Some a) = refl
+drawn_puts : (now : ℕ) (x : PlainTenancy) (entry : Entry) (es : List Entry) (secret : Option Answered) → first_puts x.id (x.plain.numbering.last + 1) (drawn now x.plain.registry.settings x.plain.numbering) (entry ∷ es) secret ≡ opened_puts texts x.id now entry secret x.plain
+drawn_puts now x entry es None = refl
+drawn_puts now x entry es (Some a) = refl
+
+puts_same : (now : ℕ) (x : PlainTenancy) (o : Opening) (entry : Entry) (es : List Entry) → IsDraw now x.plain o → first_puts x.id o.number o.numbering (entry ∷ es) o.secret ≡ opened_puts texts x.id now entry o.secret x.plain
+puts_same now x o entry es draw = (λ i. first_puts x.id (draw.0 i) (draw.1 i) (entry ∷ es) o.secret) ∙ drawn_puts now x entry es o.secret
 
 -- no row tells of a session
 of_same : (f : Tenancy → List Row) (before after : List Tenancy) (y z : Tenancy) → f y ≡ f z → of_tenants f (before ++ (y ∷ after)) ≡ of_tenants f (before ++ (z ∷ after))
@@ -117,13 +118,13 @@ pub record IsRowed (y : Tenancy) : Type 0 where
   pub ascend : Ascend 0 y.tables.plain.cases
   pub versions : AreVersions y.tables.plain.registry.forms
 
-pub change_rows : (before after : List Tenancy) (y : Tenancy) → ((x : Tenancy) → Held x before → x.id < y.id) → ((x : Tenancy) → Held x after → y.id < x.id) → IsRowed y → (now : ℕ) (c : Mutation) → IsPuttable (as_place y) c
-    → all_changed (rows_of (before ++ (y ∷ after))) (puts_of now (as_place y) c) ≡ rows_of (before ++ (made_one now c y ∷ after))
+pub change_rows : (before after : List Tenancy) (y : Tenancy) → ((x : Tenancy) → Held x before → x.id < y.id) → ((x : Tenancy) → Held x after → y.id < x.id) → IsRowed y → (now : ℕ) (c : Mutation) → IsPuttable now (as_place y) c
+    → all_changed (rows_of (before ++ (y ∷ after))) (puts_of (as_place y) c) ≡ rows_of (before ++ (made_one now c y ∷ after))
 change_rows before after y below above is now (planned.Begins o) h = by o.case.items
   where
-    by : (trail : List Entry) → all_changed (rows_of (before ++ (y ∷ after))) (first_puts now (as_place y) trail o.secret) ≡ rows_of (before ++ (record { id = y.id; tables = changed now (begins trail) o.secret y.tables } ∷ after))
+    by : (trail : List Entry) → all_changed (rows_of (before ++ (y ∷ after))) (first_puts y.id o.number o.numbering trail o.secret) ≡ rows_of (before ++ (record { id = y.id; tables = changed now (begins trail) o.secret y.tables } ∷ after))
     by [] = refl
-    by (e ∷ es) = ap (all_changed (rows_of (before ++ (y ∷ after)))) (puts_same now (as_place y) e es o.secret) ∙ opened_rows before after y below above is.most is.unsealed now e o.secret
+    by (e ∷ es) = ap (all_changed (rows_of (before ++ (y ∷ after)))) (puts_same now (as_place y) o e es h) ∙ opened_rows before after y below above is.most is.unsealed now e o.secret
 change_rows before after y below above is now (planned.Notes n) h = by (report n.number y.tables.plain.cases) refl
   where
     by : (o : Option Case) → report n.number y.tables.plain.cases ≡ o → all_changed (rows_of (before ++ (y ∷ after))) (noted_puts y.id n.number n.entry n.secret o) ≡ rows_of (before ++ (made_one now (planned.Notes n) y ∷ after))
@@ -151,17 +152,14 @@ good_row t g (proposals.ToUser u next) = (omega arith, λ e. absurd (omega (arit
 good_row t g (proposals.ToContext c next) = (omega arith, λ e. absurd (omega (arith, e)))
 good_row t g (proposals.ToForm f form) = (omega arith, λ e. absurd (omega (arith, e)))
 
-pub good_puts : (now : ℕ) (x : KeptTenancy) (c : Mutation) → IsFit now x c → All IsGoodChange (puts_of now (place_of x) c)
+pub good_puts : (now : ℕ) (x : KeptTenancy) (c : Mutation) → IsFit now x c → All IsGoodChange (puts_of (place_of x) c)
 good_puts now x (planned.Begins o) fit = by o.case.items
   where
-    next : ℕ
-    next = x.numbering.last + 1
-
-    by : (trail : List Entry) → All IsGoodChange (first_puts now (place_of x) trail o.secret)
+    by : (trail : List Entry) → All IsGoodChange (first_puts x.configuration.tenant o.number o.numbering trail o.secret)
     by [] = All-nil IsGoodChange
     by (e ∷ es) =
-        All-cons IsGoodChange (Put (row 2 x.configuration.tenant 0 0 (numbering_data (drawn now x.configuration.registry.settings x.numbering)))) (Put (row 6 x.configuration.tenant next 1 (entry_data e)) ∷ sealed_put x.configuration.tenant next o.secret) (omega arith, λ e. absurd (omega (arith, e)))
-        (All-cons IsGoodChange (Put (row 6 x.configuration.tenant next 1 (entry_data e))) (sealed_put x.configuration.tenant next o.secret) (omega arith, λ e. absurd (omega (arith, e))) (good_sealed x.configuration.tenant next o.secret))
+        All-cons IsGoodChange (Put (row 2 x.configuration.tenant 0 0 (numbering_data o.numbering))) (Put (row 6 x.configuration.tenant o.number 1 (entry_data e)) ∷ sealed_put x.configuration.tenant o.number o.secret) (omega arith, λ e. absurd (omega (arith, e)))
+        (All-cons IsGoodChange (Put (row 6 x.configuration.tenant o.number 1 (entry_data e))) (sealed_put x.configuration.tenant o.number o.secret) (omega arith, λ e. absurd (omega (arith, e))) (good_sealed x.configuration.tenant o.number o.secret))
 good_puts now x (planned.Notes n) fit = by (report n.number (place_of x).plain.cases)
   where
     by : (o : Option Case) → All IsGoodChange (noted_puts x.configuration.tenant n.number n.entry n.secret o)

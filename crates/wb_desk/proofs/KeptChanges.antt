@@ -5,9 +5,8 @@ use Rattle.wb_model.specs.declared.body.Told.{Told}
 use Rattle.wb_model.specs.declared.command.Command.{Command}
 use Rattle.wb_model.specs.declared.command.Command.TheVariants as commands
 use Rattle.wb_model.specs.declared.entry.Entry.{Entry}
-use Rattle.wb_model.specs.Commands.{is_of_sessions}
+use Rattle.wb_model.specs.Commands.{is_of_sessions, effect_of}
 use Rattle.wb_model.specs.Changes.{TurnContext, Change, Begins, Notes, Deletes, Configures, Answer, judged}
-use Rattle.wb_model.specs.Effects.{effect_of}
 use Rattle.wb_model.specs.Host.{change_of}
 use Rattle.wb_model.specs.OnReports.{change_on}
 use Rattle.wb_model.specs.Requests.{Outcome, Request}

@@ -20,18 +20,19 @@ use Rattle.wb_model.specs.Targets.{target}
 use Rattle.wb_model.specs.declared.body.Told.{Told}
 use Rattle.wb_model.specs.Tenants.{Tenancy, Hosts, tenant_at, one, hosts_after}
 use Rattle.wb_model.proofs.Keeping.{keeps_in}
-use Rattle.wb_queries.specs.declared.turn.TurnContext.{TurnContext as KeptAt}
+use Rattle.wb_tables.specs.declared.turn_context.TurnContext.{TurnContext as KeptAt}
 use Rattle.wb_commands.specs.declared.plan.TurnPlan.{TurnPlan}
-use Rattle.wb_commands.specs.declared.plan.Mutation.{Mutation}
-use Rattle.wb_commands.specs.declared.plan.Mutation.TheVariants as planned
-use Rattle.wb_queries.specs.Looks.{at_of}
+use Rattle.wb_commands.specs.declared.mutation.Mutation.{Mutation}
+use Rattle.wb_commands.specs.declared.mutation.Mutation.TheVariants as planned
+use Rattle.wb_tables.specs.TurnContexts.{at_of}
 use Rattle.wb_commands.specs.Plans.{PlansTurn, begins, change_of}
 use Rattle.wb_tables.specs.Dead.{any_dead}
 use Rattle.wb_tables.specs.Kept.{PlainTenancy, place_of, tables_of, tenancy_of, sessions_at}
 use Rattle.wb_tables.specs.Places.{ArePlaces, IsAt}
 use Rattle.wb_tables.specs.Standing.{hosts_of}
 use Rattle.wb_tables.specs.declared.tenancy.Tenancy.{Tenancy as KeptTenancy}
-use Rattle.wb_desk.specs.Puts.{first_puts, puts_of, IsBatch}
+use Rattle.wb_commands.specs.Puts.{first_puts, puts_of}
+use Rattle.wb_desk.specs.Puts.{IsBatch}
 use Rattle.wb_recovery.specs.SetUp.{AreSetUpRight}
 use Rattle.wb_desk.specs.Turns.{HasToKeep, KeepsAt, IsLeft, IsTurnOfHosts, IsTurnAt, IsFrameAt, standing}
 use Rattle.wb_desk.specs.declared.batch.Lost.{Lost}
@@ -71,16 +72,16 @@ ruled turns now f at asked t p =
     ∙ (ap (λ (a : TurnContext). ruling (purged at.time t) a f.asked) (at_frame_is turns now f at asked p) ∙ ap (λ (a : Asked). ruling (purged at.time t) (at_of at) a) p.asked_of)
 
 -- a change whose rows are put is kept
-kept_puts : (now t : ℕ) (g : Registry) (x : PlainTenancy) (c : Mutation) → puts_of now x c ≢ [] → IsKept (change_of t g c)
-kept_puts now t g x (planned.Begins o) put = by o.case.items put
+kept_puts : (t : ℕ) (g : Registry) (x : PlainTenancy) (c : Mutation) → puts_of x c ≢ [] → IsKept (change_of t g c)
+kept_puts t g x (planned.Begins o) put = by o.case.items put
   where
-    by : (trail : List Entry) → first_puts now x trail o.secret ≢ [] → IsKept (begins trail)
+    by : (trail : List Entry) → first_puts x.id o.number o.numbering trail o.secret ≢ [] → IsKept (begins trail)
     by [] put = absurd (put refl)
     by (e ∷ es) put = tt
-kept_puts now t g x (planned.Notes n) put = tt
-kept_puts now t g x (planned.Deletes n) put = tt
-kept_puts now t g x (planned.Configures c) put = tt
-kept_puts now t g x _ put = absurd (put refl)
+kept_puts t g x (planned.Notes n) put = tt
+kept_puts t g x (planned.Deletes n) put = tt
+kept_puts t g x (planned.Configures c) put = tt
+kept_puts t g x _ put = absurd (put refl)
 
 outlined : (d : Command) → is_of_sessions (outline d) ≡ is_of_sessions d
 outlined (commands.Submit t c answers) = refl
@@ -100,10 +101,10 @@ kept_keeps f at asked turns now t p kept = (
 
 -- a change is something to keep
 change_keeps : (upto t i : ℕ) (at : KeptAt) (asked : Asked) (items : List SealedItem) (ks : List KeptTenancy) (d : KeptTenancy) (plan : TurnPlan) → ArePlaces upto 0 items (map place_of ks) → IsAt t ks i → t ≡ tenant_of asked.command
-    → PlansTurn (get_or ks i d).configuration.tenant (purged at.time (tables_of items (place_of (get_or ks i d)))) (at_of at) asked plan → puts_of at.time (place_of (get_or ks i d)) plan.change ≢ [] → KeepsAt (map place_of ks) items at asked
+    → PlansTurn (get_or ks i d).configuration.tenant (purged at.time (tables_of items (place_of (get_or ks i d)))) (at_of at) asked plan → puts_of (place_of (get_or ks i d)) plan.change ≢ [] → KeepsAt (map place_of ks) items at asked
 change_keeps upto t i at asked items ks d plan all is named h put = λ turns now f p.
     let x = get_or ks i d in
-    let kept = kept_keeps f at asked turns now (tables_of items (place_of x)) p (subst IsKept (sym h.change) (kept_puts at.time x.configuration.tenant x.configuration.registry (place_of x) plan.change put)) in
+    let kept = kept_keeps f at asked turns now (tables_of items (place_of x)) p (subst IsKept (sym h.change) (kept_puts x.configuration.tenant x.configuration.registry (place_of x) plan.change put)) in
     inr (record {
       tenancy = tenancy_of items (place_of x);
       named = found_at upto 0 (tenant_at f) i items ks d all is.within (is.id d ∙ names_tenant turns now t f at asked p named);
@@ -112,10 +113,10 @@ change_keeps upto t i at asked items ks d plan all is named h put = λ turns now
     })
 
 pub keeps_at : (upto t i : ℕ) (at : KeptAt) (asked : Asked) (items : List SealedItem) (ks : List KeptTenancy) (d : KeptTenancy) (plan : TurnPlan) (batch : List RowChange) → ArePlaces upto 0 items (map place_of ks) → IsAt t ks i → t ≡ tenant_of asked.command
-    → PlansTurn (get_or ks i d).configuration.tenant (purged at.time (tables_of items (place_of (get_or ks i d)))) (at_of at) asked plan → IsBatch at.time (map place_of ks) (puts_of at.time (place_of (get_or ks i d)) plan.change) batch → batch ≢ [] → KeepsAt (map place_of ks) items at asked
-keeps_at upto t i at asked items ks d plan batch all is named h b some = by (batch_some at.time (map place_of ks) (puts_of at.time (place_of (get_or ks i d)) plan.change) batch b some)
+    → PlansTurn (get_or ks i d).configuration.tenant (purged at.time (tables_of items (place_of (get_or ks i d)))) (at_of at) asked plan → IsBatch at.time (map place_of ks) (puts_of (place_of (get_or ks i d)) plan.change) batch → batch ≢ [] → KeepsAt (map place_of ks) items at asked
+keeps_at upto t i at asked items ks d plan batch all is named h b some = by (batch_some at.time (map place_of ks) (puts_of (place_of (get_or ks i d)) plan.change) batch b some)
   where
-    by : (any_dead at.time (map place_of ks) ≡ true) ⊎ (puts_of at.time (place_of (get_or ks i d)) plan.change ≢ []) → KeepsAt (map place_of ks) items at asked
+    by : (any_dead at.time (map place_of ks) ≡ true) ⊎ (puts_of (place_of (get_or ks i d)) plan.change ≢ []) → KeepsAt (map place_of ks) items at asked
     by (inl dead) = dead_keeps (map place_of ks) items at asked dead
     by (inr put) = change_keeps upto t i at asked items ks d plan all is named h put
 

@@ -18,3 +18,7 @@ pub mod MoreTurns
 pub mod Steps
 pub mod Wholes
 pub mod FirstTurns
+pub mod Drafts
+pub mod Families
+pub mod Requests
+pub mod Suits

@@ -1,7 +1,7 @@
 -- A host goes on by one more turn.
 use Rattle.std.proofs.Common.{◌≡◌, ℕ, ◌+◌, true, List, [], ◌∷◌, ◌++◌, length, refl, sym, ap, ◌∙◌, arith}
 use Rattle.wb_model.specs.ByVerdicts.{AsksInRange, AskInRange}
-use Rattle.wb_model.specs.Fits.{fits_command}
+use Rattle.wb_model.specs.Commands.{fits_command}
 use Rattle.wb_model.specs.Past.{Past}
 use Rattle.wb_model.specs.Pasts.{AllOpened, standing_hosts}
 use Rattle.wb_model.specs.Readings.{Asks}

@@ -13,9 +13,9 @@ use Rattle.wb_model.specs.declared.command.Command.{Command}
 use Rattle.wb_model.specs.declared.command.Command.TheVariants as commands
 use Rattle.wb_model.specs.declared.entry.Entry.{Entry}
 use Rattle.wb_model.specs.declared.registry.UserItem.{UserItem}
-use Rattle.wb_model.specs.Commands.{Any_session}
+use Rattle.wb_model.specs.Commands.{Any_session, effect_of}
 use Rattle.wb_model.specs.Changes.{TurnContext, Change, LogsOut, Answer, judged}
-use Rattle.wb_model.specs.Effects.{Effect, Misses, Looks, Reads, Writes, Submits, Comes, Goes, Sets, caller, effect_of, Erases}
+use Rattle.wb_model.specs.Effects.{Effect, Misses, Looks, Reads, Writes, Submits, Comes, Goes, Sets, caller, Erases}
 use Rattle.wb_model.specs.Host.{live_cases, purged, change_of}
 use Rattle.wb_model.specs.Opened.{Apart, has_turn}
 use Rattle.wb_model.specs.OnReports.{change_on}
@@ -28,11 +28,11 @@ use Rattle.wb_model.proofs.Effects.{comes_is, in_open_is, identity_is, share_is,
 use Rattle.wb_model.proofs.Found.{find_true}
 use Rattle.wb_model.proofs.Leaving.{apart_filter}
 use Rattle.wb_model.proofs.Receipts.{HasOwn, verdict_own as receipt_own}
-use Rattle.wb_queries.specs.declared.turn.TurnContext.{TurnContext as KeptAt}
+use Rattle.wb_tables.specs.declared.turn_context.TurnContext.{TurnContext as KeptAt}
 use Rattle.wb_commands.specs.declared.plan.TurnPlan.{TurnPlan}
-use Rattle.wb_commands.specs.declared.plan.Mutation.{Mutation}
-use Rattle.wb_commands.specs.declared.plan.Mutation.TheVariants as planned
-use Rattle.wb_queries.specs.Looks.{at_of}
+use Rattle.wb_commands.specs.declared.mutation.Mutation.{Mutation}
+use Rattle.wb_commands.specs.declared.mutation.Mutation.TheVariants as planned
+use Rattle.wb_tables.specs.TurnContexts.{at_of}
 use Rattle.wb_commands.specs.Plans.{IsFit, PlansTurn, begins, change_of as planned_change_of}
 use Rattle.wb_tables.specs.Kept.{PlainTenancy, place_of, plain_of, tables_of, live_place, live_plain}
 use Rattle.wb_tables.specs.Logins.{who_seen}
@@ -40,7 +40,7 @@ use Rattle.wb_tables.specs.Places.{ArePlaces}
 use Rattle.wb_tables.specs.Receipted.{HasOwnReceipt}
 use Rattle.wb_tables.specs.declared.tenancy.Tenancy.{Tenancy as KeptTenancy}
 use Rattle.wb_tables.proofs.PlacesAt.{place_at}
-use Rattle.wb_desk.specs.Ready.{AreBy, IsOwnMutation}
+use Rattle.wb_commands.specs.Made.{AreBy, IsOwnMutation}
 use Rattle.wb_desk.proofs.Whole.{live_at}
 
 -- ---- the session of a turn

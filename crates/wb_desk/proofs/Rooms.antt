@@ -9,9 +9,9 @@ use Rattle.wb_model.specs.Host.{live_cases}
 use Rattle.wb_model.proofs.Found.{filter_twice}
 use Rattle.wb_model.proofs.Leaving.{some_filter}
 use Rattle.wb_custody.specs.declared.sealed.SealedItem.{SealedItem}
-use Rattle.wb_commands.specs.declared.plan.Mutation.{Mutation}
-use Rattle.wb_commands.specs.declared.plan.Mutation.TheVariants as planned
-use Rattle.wb_commands.specs.Plans.{IsRoomyFor}
+use Rattle.wb_commands.specs.declared.mutation.Mutation.{Mutation}
+use Rattle.wb_commands.specs.declared.mutation.Mutation.TheVariants as planned
+use Rattle.wb_commands.specs.Plans.{IsDraw, IsRoomyFor}
 use Rattle.wb_tables.specs.Configured.{Configured, IsReadyToSet, row_of}
 use Rattle.wb_tables.specs.Kept.{PlainTenancy, case_of, place_of, plain_of, live_place, live_plain}
 use Rattle.wb_tables.specs.Logins.{AreEarlier}
@@ -66,9 +66,8 @@ purged_at time (suc i) (x ∷ ks) (y ∷ ls) d h lt = purged_at time i ks ls d h
 
 room_in : (time spare more : ℕ) (x y : KeptTenancy) (c : Mutation) → Apart has_number (plain_of x).cases → IsPurged time x y → plain_of y ≡ live_plain time (plain_of x) → spare ≤ more → IsRoomyFor time x spare c → IsRoomyFor time y more c
 room_in time spare more x y (planned.Begins o) apart purged is le h =
-    let last : y.numbering.last ≡ x.numbering.last = ap (λ (p : Plain). p.numbering.last) is in
     let wide = purged.room in
-    record { fit = (omega (arith, last, h.fit.0), h.fit.1, h.fit.2, h.fit.3); room = (omega (arith, wide, h.room.0), omega (arith, le, h.room.1)) }
+    record { fit = (subst (λ (p : Plain). IsDraw time p o) (sym is) h.fit.0, h.fit.1, h.fit.2, h.fit.3); room = (omega (arith, wide, h.room.0), omega (arith, le, h.room.1)) }
 room_in time spare more x y (planned.Notes n) apart purged is le h =
     let live : Case → Bool = is_live x.configuration.registry.settings time in
     let wide = purged.room in

@@ -11,8 +11,8 @@ use Rattle.wb_model.specs.declared.registry.FormItem.{FormItem}
 use Rattle.wb_model.specs.Host.{registry_after}
 use Rattle.wb_model.specs.Settings.{configured, form_key, form_item}
 use Rattle.wb_model.specs.Tables.{Registry}
-use Rattle.wb_commands.specs.declared.plan.Mutation.{Mutation}
-use Rattle.wb_commands.specs.declared.plan.Mutation.TheVariants as planned
+use Rattle.wb_commands.specs.declared.mutation.Mutation.{Mutation}
+use Rattle.wb_commands.specs.declared.mutation.Mutation.TheVariants as planned
 use Rattle.wb_commands.specs.Plans.{IsRoomyFor, begins}
 use Rattle.wb_tables.specs.Configured.{IsSoundProposal, setting_of}
 use Rattle.wb_tables.specs.Kept.{PlainTenancy, place_of, live_place}
@@ -20,7 +20,7 @@ use Rattle.wb_tables.specs.Places.{AreGoodForms}
 use Rattle.wb_tables.specs.declared.proposal.Proposal.{Proposal}
 use Rattle.wb_tables.specs.declared.proposal.Proposal.TheVariants as proposals
 use Rattle.wb_tables.specs.declared.tenancy.Tenancy.{Tenancy as KeptTenancy}
-use Rattle.wb_desk.specs.Ready.{planned_change}
+use Rattle.wb_commands.specs.Made.{planned_change}
 use Rattle.wb_recovery.specs.SetUp.{IsSetUpRight, AreSetUpRight}
 
 -- what changes neither the id nor the registry

@@ -3,9 +3,8 @@ use Rattle.std.proofs.Common.{◌≡◌, ◌<◌, ◌≤◌, ◌+◌, ◌==◌, 
 use Rattle.std.specs.Prelude.{◌&&◌}
 use Rattle.std.proofs.lemmas.Bool.Decides.{nat_tests}
 use Rattle.wb_model.specs.declared.body.Told.{Told}
-use Rattle.wb_model.specs.Commands.{is_submission}
+use Rattle.wb_model.specs.Commands.{is_submission, fits_command}
 use Rattle.wb_model.specs.Drawn.{numbers_of, is_accepted}
-use Rattle.wb_model.specs.Fits.{fits_command}
 use Rattle.wb_model.specs.Past.{Past, turns}
 use Rattle.wb_model.specs.Pasts.{AllOpened, standing_hosts}
 use Rattle.wb_model.specs.Refusals.{turns_spent, is_turns_spent}

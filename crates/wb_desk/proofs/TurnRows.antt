@@ -12,7 +12,7 @@ use Rattle.wb_model.specs.Tables.{Case, has_number, is_there}
 use Rattle.wb_model.specs.Tenants.{Tenancy}
 use Rattle.wb_model.proofs.Found.{Held}
 use Rattle.wb_model.proofs.TurnRows.{changed_append}
-use Rattle.wb_commands.specs.declared.plan.Mutation.{Mutation}
+use Rattle.wb_commands.specs.declared.mutation.Mutation.{Mutation}
 use Rattle.wb_commands.specs.Plans.{IsFit}
 use Rattle.wb_tables.specs.Dead.{any_dead}
 use Rattle.wb_tables.specs.Kept.{PlainTenancy, place_of, tables_of, tenancy_of, purged_tenancy}
@@ -20,7 +20,8 @@ use Rattle.wb_tables.specs.Places.{IsPlace, ArePlaces}
 use Rattle.wb_tables.specs.declared.tenancy.Tenancy.{Tenancy as KeptTenancy}
 use Rattle.wb_tables.proofs.PlacesAt.{place_at}
 use Rattle.wb_tables.proofs.Purges.{same_tables, tenancies_above, AreOthers}
-use Rattle.wb_desk.specs.Puts.{puts_of, IsBatch}
+use Rattle.wb_commands.specs.Puts.{puts_of}
+use Rattle.wb_desk.specs.Puts.{IsBatch}
 use Rattle.wb_desk.specs.Ready.{IsMadeAt}
 use Rattle.wb_desk.proofs.ChangeRows.{IsPuttable, IsRowed, as_place, made_one, change_rows, good_puts, live_puts}
 use Rattle.wb_desk.proofs.Tenants.{id_above}
@@ -94,10 +95,10 @@ same_at i (x ∷ ks) [] d e = absurd cc
 same_at zero (x ∷ ks) (y ∷ ls) d e = cc
 same_at (suc i) (x ∷ ks) (y ∷ ls) d e = let rest : map place_of ls ≡ map place_of ks = cc in same_at i ks ls d rest
 
-pub batch_same : (now i : ℕ) (ks ls : List KeptTenancy) (d : KeptTenancy) (c : Mutation) (batch : List RowChange) → map place_of ls ≡ map place_of ks → IsBatch now (map place_of ls) (puts_of now (place_of (get_or ls i d)) c) batch
-    → IsBatch now (map place_of ks) (puts_of now (place_of (get_or ks i d)) c) batch
+pub batch_same : (now i : ℕ) (ks ls : List KeptTenancy) (d : KeptTenancy) (c : Mutation) (batch : List RowChange) → map place_of ls ≡ map place_of ks → IsBatch now (map place_of ls) (puts_of (place_of (get_or ls i d)) c) batch
+    → IsBatch now (map place_of ks) (puts_of (place_of (get_or ks i d)) c) batch
 batch_same now i ks ls d c batch e b =
-    subst (λ x. IsBatch now (map place_of ks) (puts_of now x c) batch) (same_at i ks ls d e) (subst (λ xs. IsBatch now xs (puts_of now (place_of (get_or ls i d)) c) batch) e b)
+    subst (λ x. IsBatch now (map place_of ks) (puts_of x c) batch) (same_at i ks ls d e) (subst (λ xs. IsBatch now xs (puts_of (place_of (get_or ls i d)) c) batch) e b)
 
 -- ---- the whole batch
 
@@ -115,11 +116,11 @@ rows_without now items new xs ys batch b purge = purge_then now items new xs ys 
 
 -- and where the tenant at a place makes a change
 pub rows_at : (turns now i : ℕ) (items mid new : List SealedItem) (ks ls ms : List KeptTenancy) (c : Mutation) (batch : List RowChange) → ArePlaces turns 0 items (map place_of ks) → i < length ks
-    → ((d : KeptTenancy) → IsBatch now (map place_of ks) (puts_of now (place_of (get_or ks i d)) c) batch) → IsPurge now (map place_of ks) items (map place_of ls) mid → ((d : KeptTenancy) → IsPuttable (place_of (get_or ls i d)) c) → IsMadeAt i now c mid new ls ms
+    → ((d : KeptTenancy) → IsBatch now (map place_of ks) (puts_of (place_of (get_or ks i d)) c) batch) → IsPurge now (map place_of ks) items (map place_of ls) mid → ((d : KeptTenancy) → IsPuttable now (place_of (get_or ls i d)) c) → IsMadeAt i now c mid new ls ms
     → all_changed (rows_of (map (tenancy_of items) (map place_of ks))) batch ≡ rows_of (map (tenancy_of new) (map place_of ms))
 rows_at turns now i items mid new ks ls ms c batch all lt b purge puttable_at made =
-    purge_then now items mid (map place_of ks) (map place_of ls) (puts_of now (place_of (get_or ks i made.tenancy)) c) batch (b made.tenancy) purge
-    ∙ (ap (λ l. all_changed (rows_of l) (puts_of now (place_of (get_or ks i made.tenancy)) c)) split.whole
+    purge_then now items mid (map place_of ks) (map place_of ls) (puts_of (place_of (get_or ks i made.tenancy)) c) batch (b made.tenancy) purge
+    ∙ (ap (λ l. all_changed (rows_of l) (puts_of (place_of (get_or ks i made.tenancy)) c)) split.whole
     ∙ (ap (all_changed (rows_of (split.before ++ ((tenancy_of mid (place_of (get_or ls i made.tenancy))) ∷ split.after)))) puts_here
     ∙ (change_rows split.before split.after (tenancy_of mid (place_of (get_or ls i made.tenancy))) split.below split.above (rowed turns mid (place_of (get_or ls i made.tenancy)) here) now c (puttable_at made.tenancy)
     ∙ ap rows_of (ap (λ t. split.before ++ (t ∷ split.after)) (sym one) ∙ (sym (split.made new made.tenancy (made.others made.tenancy)) ∙ ap (λ (l : List KeptTenancy). map (tenancy_of new) (map place_of l)) (sym made.set_at))))))
@@ -136,31 +137,31 @@ rows_at turns now i items mid new ks ls ms c batch all lt b purge puttable_at ma
     here : IsPlace turns mid (place_of (get_or ls i made.tenancy))
     here = place_at turns 0 i mid ls made.tenancy places live.within
 
-    puts_here : puts_of now (place_of (get_or ks i made.tenancy)) c ≡ puts_of now (as_place (tenancy_of mid (place_of (get_or ls i made.tenancy)))) c
+    puts_here : puts_of (place_of (get_or ks i made.tenancy)) c ≡ puts_of (as_place (tenancy_of mid (place_of (get_or ls i made.tenancy)))) c
     puts_here =
-        sym (live_puts now now (place_of (get_or ks i made.tenancy)) c (place_at turns 0 i items ks made.tenancy all lt).plain.cases (subst (λ x. IsPuttable x c) (live.place made.tenancy) (puttable_at made.tenancy)))
-        ∙ ap (λ x. puts_of now x c) (sym (live.place made.tenancy))
+        sym (live_puts now now (place_of (get_or ks i made.tenancy)) c (place_at turns 0 i items ks made.tenancy all lt).plain.cases (subst (λ x. IsPuttable now x c) (live.place made.tenancy) (puttable_at made.tenancy)))
+        ∙ ap (λ x. puts_of x c) (sym (live.place made.tenancy))
 
     one : tenancy_of new (place_of made.tenancy) ≡ made_one now c (tenancy_of mid (place_of (get_or ls i made.tenancy)))
     one = same_tenancy (tenancy_of new (place_of made.tenancy)) (made_one now c (tenancy_of mid (place_of (get_or ls i made.tenancy)))) (made.id made.tenancy) (made.tables made.tenancy)
 
 -- ---- how the batch is made
 
-same_index : (i : ℕ) (ks : List KeptTenancy) (d e : KeptTenancy) → i < length ks → get_or ks i d ≡ get_or ks i e
+pub same_index : (i : ℕ) (ks : List KeptTenancy) (d e : KeptTenancy) → i < length ks → get_or ks i d ≡ get_or ks i e
 same_index i [] d e lt = absurd (omega arith)
 same_index zero (x ∷ ks) d e lt = refl
 same_index (suc i) (x ∷ ks) d e lt = same_index i ks d e (omega arith)
 
 pub batch_made : (now i : ℕ) (ks : List KeptTenancy) (x d : KeptTenancy) (c : Mutation) (drops batch : List RowChange) → i < length ks → x ≡ get_or ks i x → IsFit now (get_or ks i d) c
     → ((items : List SealedItem) → all_changed (rows_of (map (tenancy_of items) (map place_of ks))) drops ≡ rows_of (map (purged_tenancy now) (map (tenancy_of items) (map place_of ks))))
-    → All IsGoodChange drops → (any_dead now (map place_of ks) ≡ false → drops ≡ []) → batch ≡ drops ++ puts_of now (place_of x) c → IsBatch now (map place_of ks) (puts_of now (place_of (get_or ks i d)) c) batch
+    → All IsGoodChange drops → (any_dead now (map place_of ks) ≡ false → drops ≡ []) → batch ≡ drops ++ puts_of (place_of x) c → IsBatch now (map place_of ks) (puts_of (place_of (get_or ks i d)) c) batch
 batch_made now i ks x d c drops batch lt is fit rows good none e = record {
   drops = drops;
   is = whole;
   rows = rows;
   none = none;
-  good = subst (All IsGoodChange) (sym whole) (All-append IsGoodChange drops (puts_of now (place_of (get_or ks i d)) c) good (good_puts now (get_or ks i d) c fit));
+  good = subst (All IsGoodChange) (sym whole) (All-append IsGoodChange drops (puts_of (place_of (get_or ks i d)) c) good (good_puts now (get_or ks i d) c fit));
 }
   where
-    whole : batch ≡ drops ++ puts_of now (place_of (get_or ks i d)) c
-    whole = e ∙ ap (λ (z : KeptTenancy). drops ++ puts_of now (place_of z) c) (is ∙ same_index i ks x d lt)
+    whole : batch ≡ drops ++ puts_of (place_of (get_or ks i d)) c
+    whole = e ∙ ap (λ (z : KeptTenancy). drops ++ puts_of (place_of z) c) (is ∙ same_index i ks x d lt)

@@ -8,10 +8,10 @@ use Rattle.wb_model.specs.declared.body.Told.{Told}
 use Rattle.wb_model.specs.Commands.{tenant_of}
 use Rattle.wb_model.specs.Tenants.{Tenancy, without_tenant}
 use Rattle.wb_model.specs.Host.{purged, tables_after}
-use Rattle.wb_queries.specs.declared.turn.TurnContext.{TurnContext as KeptAt}
+use Rattle.wb_tables.specs.declared.turn_context.TurnContext.{TurnContext as KeptAt}
 use Rattle.wb_commands.specs.declared.plan.TurnPlan.{TurnPlan}
 use Rattle.wb_tables.specs.declared.tenancy.Tenancy.{Tenancy as KeptTenancy}
-use Rattle.wb_queries.specs.Looks.{at_of}
+use Rattle.wb_tables.specs.TurnContexts.{at_of}
 use Rattle.wb_commands.specs.Plans.{PlansTurn}
 use Rattle.wb_tables.specs.Places.{ArePlaces, IsAt, is_tenant}
 use Rattle.wb_desk.specs.Ready.{IsMadeAt}

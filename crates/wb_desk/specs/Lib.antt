@@ -8,3 +8,7 @@ pub mod GoneOn
 pub mod Hosted
 pub mod Turned
 pub mod Whole
+pub mod Jobs
+pub mod Needs
+pub mod Suited
+pub mod Targeted

@@ -1,7 +1,7 @@
 //! A host: a desk, its keeper, and the books of its turns and numbers.
 ghost use Rattle.std.specs.Prelude.{◌≡◌, ◌≤◌, true, if◌then◌else◌};
 ghost use Rattle.wb_model.specs.Drawn.{is_accepted as accepted};
-ghost use Rattle.wb_model.specs.Fits.{fits};
+ghost use Rattle.wb_model.specs.Commands.{fits};
 ghost use Rattle.wb_model.specs.Rows.{rows_of};
 ghost use Rattle.wb_tables.specs.Standing.{hosts_of};
 ghost use Rattle.wb_desk.specs.Hosted.{begun};

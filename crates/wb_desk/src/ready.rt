@@ -1,25 +1,26 @@
 //! A turn that is ready to be made: it is planned, what it has to keep is written, and all memory is taken.
-ghost use Rattle.std.specs.Prelude.{◌≡◌, ◌<◌, ◌++◌, ℕ, List, [], true, map, length, slice_index_or, IfOk, OnOk, OnErr};
+ghost use Rattle.std.specs.Prelude.{◌≡◌, ◌<◌, ℕ, List, [], true, map, length, slice_index_or, IfOk, OnErr};
 ghost use Rattle.wb_custody.specs.declared.sealed.SealedItem.{SealedItem};
-ghost use Rattle.wb_model.specs.Commands.{tenant_of as tenant_of_command};
-ghost use Rattle.wb_model.specs.Fits.{fits};
+ghost use Rattle.wb_model.specs.Commands.{tenant_of as tenant_of_command, fits};
 ghost use Rattle.wb_model.specs.Host.{purged};
 ghost use Rattle.wb_model.specs.Tenants.{without_tenant as told_without};
-ghost use Rattle.wb_commands.specs.Plans.{IsFit, IsRoomyFor};
+ghost use Rattle.wb_commands.specs.Plans.{IsRoomyFor};
 ghost use Rattle.wb_tables.specs.Dead.{any_dead};
 ghost use Rattle.wb_tables.specs.Kept.{place_of};
-ghost use Rattle.wb_tables.specs.Places.{IsPlace, ArePlaces, IsAt};
+ghost use Rattle.wb_tables.specs.Places.{ArePlaces, IsAt};
 ghost use Rattle.wb_tables.specs.declared.tenancy.Tenancy.{Tenancy as KeptTenancy};
-ghost use Rattle.wb_desk.specs.Puts.{puts_of, IsBatch};
+ghost use Rattle.wb_commands.specs.Puts.{puts_of};
+ghost use Rattle.wb_desk.specs.Puts.{IsBatch};
 ghost use Rattle.wb_desk.specs.Turns.{PlansTurnOf};
 
-use crate::batch::{put_deletion, put_noted, put_opening, put_setting};
+use crate::turning::plan_turn;
 use std::alloc::Global;
 use wb_base::{Change, Memory, Moment};
-use wb_commands::{Mutation, TurnContext, TurnPlan, plan_turn, without_tenant};
+use wb_commands::{Mutation, TurnPlan};
 use wb_custody::SealedTable;
 use wb_model::{Asked, Told};
-use wb_tables::{Tenancy, dead_batch};
+use wb_queries::without_tenant;
+use wb_tables::{Tenancy, TurnContext, dead_batch};
 
 /// A turn that is planned, for which there is room, and what it has to keep.
 #[derive(Drop)]
@@ -56,27 +57,6 @@ fn ready_at(
     plan_turn(alloc, tenancy, sealed, at, asked)
 }
 
-// What a change has to keep is to be put.
-fn put_change(
-    alloc: Global,
-    batch: &mut Vec<Change>,
-    tenancy: &Tenancy,
-    time: Moment,
-    change: &Mutation,
-) -> Result<(), Memory>
-    requires place { (turns : ℕ) × (items : List SealedItem) × IsPlace turns items (place_of tenancy.now) }
-    requires fit { IsFit time tenancy.now change.now }
-    ensures { OnOk result (batch.new.items ≡ batch.old.items ++ puts_of time (place_of tenancy.now) change.now) }
-{
-    match change {
-        Mutation::Begins(opening) => put_opening(alloc, batch, tenancy, time, opening),
-        Mutation::Notes(noted) => put_noted(alloc, batch, tenancy, noted),
-        Mutation::Deletes(number) => put_deletion(batch, tenancy.configuration.tenant(), *number),
-        Mutation::Nothing | Mutation::LogsIn(_) | Mutation::LogsOut(..) => Ok(()),
-        Mutation::Configures(next) => put_setting(batch, &next.row),
-    }
-}
-
 // What the turn of the tenant at a place has to keep: what all tenants purge, and what its change puts.
 fn batch_at(
     alloc: Global,
@@ -88,10 +68,10 @@ fn batch_at(
     requires places { (turns : ℕ) × (items : List SealedItem) × ArePlaces turns 0 items (map place_of tenancies.now) }
     requires within { place < length tenancies.now }
     requires room { (spare : ℕ) × ((d : KeptTenancy) → IsRoomyFor time (slice_index_or tenancies.now place d) spare change.now) }
-    ensures { IfOk result (λ batch. (d : KeptTenancy) → IsBatch time (map place_of tenancies.now) (puts_of time (place_of (slice_index_or tenancies.now place d)) change.now) batch.items) }
+    ensures { IfOk result (λ batch. (d : KeptTenancy) → IsBatch time (map place_of tenancies.now) (puts_of (place_of (slice_index_or tenancies.now place d)) change.now) batch.items) }
 {
     let mut batch = dead_batch(alloc, tenancies, time)?;
-    put_change(alloc, &mut batch, &tenancies[place], time, change)?;
+    change.rows(alloc, &mut batch, &tenancies[place])?;
     Ok(batch)
 }
 
@@ -109,7 +89,7 @@ pub fn prepare_at(
     requires fits { fits asked.now ≡ true }
     ensures plan { IfOk result (λ b. (d : KeptTenancy) → PlansTurnOf (slice_index_or tenancies.old place d) sealed.old.items at.now asked.now b.plan) }
     ensures room { IfOk result (λ b. (d : KeptTenancy) → IsRoomyFor at.now.time (slice_index_or tenancies.new place d) sealed.new.spare b.plan.change) }
-    ensures batch { IfOk result (λ b. (d : KeptTenancy) → IsBatch at.now.time (map place_of tenancies.new) (puts_of at.now.time (place_of (slice_index_or tenancies.new place d)) b.plan.change) b.batch.items) }
+    ensures batch { IfOk result (λ b. (d : KeptTenancy) → IsBatch at.now.time (map place_of tenancies.new) (puts_of (place_of (slice_index_or tenancies.new place d)) b.plan.change) b.batch.items) }
     ensures tenants_left { map place_of tenancies.new ≡ map place_of tenancies.old }
     ensures sealed_left { sealed.new.items ≡ sealed.old.items }
 {

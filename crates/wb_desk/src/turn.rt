@@ -1,49 +1,26 @@
 //! One turn over the tables of all tenants: what it has to keep is kept in one call, and then it purges and changes.
 ghost use Rattle.std.specs.Prelude.{◌≡◌, ◌≢◌, ◌<◌, ◌≤◌, ◌+◌, ℕ, None, Err, true, find, map, length, slice_index_or};
 ghost use Rattle.wb_base.specs.Outside.{Rose};
-ghost use Rattle.wb_custody.specs.SealedAnswers.{answers_of};
-ghost use Rattle.wb_model.specs.Commands.{tenant_of as tenant_of_command};
-ghost use Rattle.wb_model.specs.Fits.{fits};
-ghost use Rattle.wb_model.specs.Host.{changed};
+ghost use Rattle.wb_model.specs.Commands.{tenant_of as tenant_of_command, fits};
 ghost use Rattle.wb_model.specs.Rows.{rows_of};
-ghost use Rattle.wb_commands.specs.Plans.{IsRoomyFor, given_of};
-ghost use Rattle.wb_tables.specs.Kept.{place_of, plain_of, tables_of, tenancy_of, sessions_at};
-ghost use Rattle.wb_tables.specs.Places.{IsPlace, ArePlaces, is_tenant, IsAt};
+ghost use Rattle.wb_commands.specs.Plans.{IsRoomyFor};
+ghost use Rattle.wb_tables.specs.Kept.{place_of, plain_of, tenancy_of, sessions_at};
+ghost use Rattle.wb_tables.specs.Places.{ArePlaces, is_tenant, IsAt};
 ghost use Rattle.wb_tables.specs.declared.tenancy.Tenancy.{Tenancy as KeptTenancy};
-ghost use Rattle.wb_desk.specs.Ready.{IsOwnMutation, IsMadeAt, planned_change};
+ghost use Rattle.wb_commands.specs.Made.{IsOwnMutation};
+ghost use Rattle.wb_desk.specs.Ready.{IsMadeAt};
 ghost use Rattle.wb_recovery.specs.SetUp.{AreSetUpRight};
 ghost use Rattle.wb_desk.specs.Turns.{IsTurnAt};
 
-use crate::apply::{log_in, log_out, note_entry, open_case};
 use crate::batch::{Lost, keep};
+use crate::needs::columns_of;
 use crate::ready::{prepare_at, prepare_without};
-use crate::setting::configure;
 use std::alloc::Global;
 use wb_base::{Keeper, Moment};
-use wb_commands::{Mutation, TurnContext, TurnPlan, tenant_of};
+use wb_commands::{Mutation, TurnPlan};
 use wb_custody::SealedTable;
 use wb_model::{Asked, Told};
-use wb_tables::{Tenancy, delete_report, place_at, purge_all};
-
-// Makes the change of a turn that is ready, over purged tables. It takes no memory and cannot fail.
-fn make(tenancy: &mut Tenancy, sealed: &mut SealedTable, time: Moment, change: Mutation)
-    requires place { (turns : ℕ) × IsPlace turns sealed.old.items (place_of tenancy.old) }
-    requires room { IsRoomyFor time tenancy.old sealed.old.spare change }
-    requires own { IsOwnMutation (plain_of tenancy.old) change }
-    ensures tables { tables_of sealed.new.items (place_of tenancy.new) ≡ changed time (planned_change tenancy.old change) (given_of change) (tables_of sealed.old.items (place_of tenancy.old)) }
-    ensures id { (place_of tenancy.new).id ≡ (place_of tenancy.old).id }
-    ensures others { (t n : ℕ) → t ≢ (place_of tenancy.old).id → answers_of sealed.new.items t n ≡ answers_of sealed.old.items t n }
-{
-    match change {
-        Mutation::Nothing => {}
-        Mutation::Begins(opening) => open_case(tenancy, sealed, time, opening),
-        Mutation::Notes(noted) => note_entry(tenancy, sealed, noted),
-        Mutation::Deletes(number) => delete_report(tenancy, sealed, number),
-        Mutation::LogsIn(login) => log_in(tenancy, login),
-        Mutation::LogsOut(turn, _) => log_out(tenancy, turn),
-        Mutation::Configures(next) => configure(tenancy, next.proposal),
-    }
-}
+use wb_tables::{Tenancy, TurnContext, place_at, purge_all};
 
 // Makes the change of the tenant at a place.
 fn make_at(
@@ -63,7 +40,7 @@ fn make_at(
     ensures sessions { sessions_at (map place_of tenancies.new) ≤ sessions_at (map place_of tenancies.old) + 1 }
 {
     let tenancy = &mut tenancies[place];
-    make(tenancy, sealed, time, change)
+    change.apply(tenancy, sealed)
 }
 
 // A turn of the tenant at a place.
@@ -148,7 +125,7 @@ pub fn turn<K: Keeper>(
     ensures fault { result ≡ Err Lost.Keeper → Rose (K.end keeper.old).count (K.end keeper.new).count }
     ensures stayed { result ≢ Err Lost.Keeper → (K.end keeper.new).count ≡ (K.end keeper.old).count }
 {
-    let t = tenant_of(&asked.command);
+    let t = columns_of(&asked.command).tenant;
     match place_at(tenancies, t) {
         Some(place) => turn_at(alloc, tenancies, place, sealed, keeper, at, asked),
         None => turn_without(alloc, tenancies, t, sealed, keeper, at, asked),

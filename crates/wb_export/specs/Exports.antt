@@ -5,8 +5,7 @@ use Rattle.std.specs.Io.KnownBytes.{Appends, Keeps}
 use Rattle.wb_base.specs.Outside.{AppendsFront, Rose}
 use Rattle.wb_base.specs.declared.callers.Role.TheVariants.{Recipient}
 use Rattle.wb_model.specs.Openings.{registry_of}
-use Rattle.wb_model.specs.Tables.{user}
-use Rattle.wb_model.specs.Targets.{same_role}
+use Rattle.wb_model.specs.Tables.{user, same_role}
 use Rattle.wb_tenants.specs.Sets.{is_tenant}
 use Rattle.wb_rows.specs.Held.{Held}
 use Rattle.wb_rows.specs.Openings.{cases_of, time_of}

@@ -13,8 +13,7 @@ use std::alloc::Global;
 use std::sync::Wait;
 use std::sync::ledger::Ledger;
 use wb_base::{Failed, Keeper};
-use wb_desk::Origin;
-use wb_gate::{Gate, Turn};
+use wb_desk::{Gate, Origin, Turn};
 use wb_transport::{Link, Ticker};
 use wb_wire::{
     Response, Routes, WireFault, WireNo, Written, fault_closes, read_request, refusal, reply_head,

@@ -11,8 +11,7 @@ use std::alloc::Global;
 use std::sync::Wait;
 use std::sync::ledger::Ledger;
 use wb_base::Keeper;
-use wb_desk::Origin;
-use wb_gate::{Gate, Turn};
+use wb_desk::{Gate, Origin, Turn};
 use wb_transport::{Link, Ticker};
 use wb_wire::{Routes, WireFault, WireNo, refusal};
 

@@ -1,10 +1,6 @@
-//! The way to a host that several workers share: jobs, and gates that let in one at a time.
+//! A gate that is a lock, and its end.
 #![tactic(auto)]
 
-mod gate;
-mod job;
 mod lock;
 
-pub use gate::Gate;
-pub use job::{Job, Turn};
 pub use lock::{LockGate, NotAll, close};

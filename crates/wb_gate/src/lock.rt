@@ -7,12 +7,10 @@ ghost use Rattle.wb_model.specs.Drawn.{numbers_of};
 ghost use Rattle.wb_model.specs.Rows.{rows_of};
 ghost use Rattle.wb_tables.specs.Standing.{hosts_of};
 
-use crate::gate::Gate;
-use crate::job::Job;
 use std::sync::ledger::Ledger;
 use std::sync::{Mutex, Wait};
 use wb_base::Keeper;
-use wb_desk::{Closed, Kept, KeptBack, Origin, Pass, Tally};
+use wb_desk::{Closed, Gate, Job, Kept, KeptBack, Origin, Pass, Tally};
 
 /// A host under a lock: one job at a time is in.
 #[derive(Drop)]

@@ -8,7 +8,8 @@ use Rattle.wb_model.specs.declared.event.What.TheVariants.{Did, Gap, Idle, Lost}
 use Rattle.wb_model.specs.Tables.{Registry, Who}
 use Rattle.wb_model.specs.Requests.{outline}
 use Rattle.wb_model.specs.Changes.{TurnContext, Change, Nothing, Draws}
-use Rattle.wb_model.specs.Effects.{Effect, Writes, effect_of}
+use Rattle.wb_model.specs.Effects.{Effect, Writes}
+use Rattle.wb_model.specs.Commands.{effect_of}
 use Rattle.wb_model.specs.OnReports.{change_on}
 use Rattle.wb_model.specs.Host.{is_draw, registry_after}
 use Rattle.wb_model.specs.Past.{who_of, report_of, alone_by, change_by, alone_in, change_in}

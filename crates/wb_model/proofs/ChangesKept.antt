@@ -21,21 +21,22 @@ use Rattle.wb_model.specs.declared.registry.FormItem.{FormItem}
 use Rattle.wb_model.specs.declared.registry.UserItem.{UserItem}
 use Rattle.wb_model.specs.Trails as trails
 use Rattle.wb_model.specs.Trails.{Submission, submission_in}
-use Rattle.wb_model.specs.Commands.{Anyone, need, tenant_of}
-use Rattle.wb_model.specs.Tables.{Registry, Plain, Case, Session, Who, TheUser, TheReporter, user, context, is_live, is_there, lasts, has_number, others, newest_form}
-use Rattle.wb_model.specs.Targets.{Target, Nobody, Alone, On, target, trail_at, same_role}
-use Rattle.wb_model.specs.Requests.{Outcome, Unchecked, request, outcome, outline, secret_of, sealed_part, submission_outcome, submission_secret, asking_form, open_form, form_of_trail, submission_fault, late_fault, mark, public, secret}
-use Rattle.wb_model.specs.Settings.{Setting, form_key, ToTenant, ToUser, ToContext, ToForm, setting_of}
+use Rattle.wb_model.specs.Commands.{Anyone, need, tenant_of, is_submission, is_login, fits_command, effect_of}
+use Rattle.wb_model.specs.Tables.{Registry, Plain, Case, Session, Who, TheUser, TheReporter, user, context, is_live, is_there, lasts, has_number, others, newest_form, same_role}
+use Rattle.wb_model.specs.Targets.{Target, Nobody, Alone, On, target, trail_at}
+use Rattle.wb_model.specs.Requests.{Outcome, Unchecked, request, outcome, outline, secret_of, sealed_part, submission_outcome, submission_secret, submission_fault, late_fault, mark, public, secret}
+use Rattle.wb_model.specs.AskingForms.{asking_form, open_form, form_of_trail}
+use Rattle.wb_model.specs.Settings.{Setting, form_key, setting_of}
 use Rattle.wb_model.specs.Refusals.{numbers_spent}
 use Rattle.wb_model.specs.Refusing.{refuses_where}
 use Rattle.wb_model.specs.Ordered.{are_ordered}
 use Rattle.wb_model.specs.SetUps.{is_form_item}
-use Rattle.wb_model.specs.Fits.{is_between, is_path_number, fits_command}
+use Rattle.wb_model.specs.Fits.{is_between, is_path_number}
 use Rattle.wb_base.specs.FormFaults.{is_good}
 use Rattle.wb_model.specs.KeptRules.{has_public_answers, are_valid_after}
 use Rattle.wb_model.specs.Changes.{TurnContext, Change, Nothing, Draws, Begins, Notes, Deletes, LogsIn, LogsOut, Configures, Answer, judged}
 use Rattle.wb_model.specs.Submissions.{outcome_refusal, drawing, submission_entry}
-use Rattle.wb_model.specs.Effects.{Effect, Writes, Submits, Comes, comes, effect_of}
+use Rattle.wb_model.specs.Effects.{Effect, Writes, Submits, Comes, Sets, comes}
 use Rattle.wb_model.specs.OnReports.{refusal_on, change_on}
 use Rattle.wb_model.specs.Rules.{refusal_alone, change_alone, verdict_on}
 use Rattle.wb_model.specs.Host.{Sealed, Tables, purged, live_cases, noted, registry_after, remaining, ends, sealed_under, changed, change_of, ruling, tables_after}
@@ -44,7 +45,7 @@ use Rattle.wb_model.specs.Opened.{Ascend, AtMost, AreOrdered}
 use Rattle.wb_model.specs.AnswerRanges.{are_answers, is_id_before, is_answer}
 use Rattle.wb_model.specs.Readable.{is_count, is_own_form, IsOwn, is_entry_of, are_sealed, is_readable_trail, is_readable, is_right_session, AreReadable}
 use Rattle.wb_model.proofs.Found.{Held, decide, find_true, other_number, held_filter}
-use Rattle.wb_model.proofs.Effects.{found_is, in_open_is, goes_is, share_is, transfer_is, decide_is, identity_is}
+use Rattle.wb_model.proofs.Effects.{IsToldBy, found_is, in_open_is, told, outlined}
 use Rattle.wb_model.proofs.Callers.{Called, target_called}
 use Rattle.wb_model.proofs.CallerRoles.{Roles, target_roles}
 use Rattle.wb_model.proofs.ItemPuts.{held_all, all_held, all_more, role_own, is_version, key_in, own_version}
@@ -348,22 +349,24 @@ module _ (p : Plain) (at : TurnContext) (who : Option Who) (s : Presented) where
         not_spent p.numbering.last _ two.1,
       )
 
+  -- all that is no submission and no login
+  alone_others : (d : Command) → IsOwn (tenant_of d) p.registry → AreOrdered p.registry → fits_command d ≡ true → (is_submission d ≡ true → ⊥) → (is_login d ≡ true → ⊥) →
+      AloneRight (tenant_of d) p at who (outcome p.registry [] d) (secret_of p.registry d) (effect_of at p.registry who s [] (outline d))
+  alone_others d own order fits begins comes = subst (AloneRight (tenant_of d) p at who (outcome p.registry [] d) (secret_of p.registry d)) (outlined at p.registry who s [] d) (by (effect_of at p.registry who s [] d) (told at p.registry who s [] d))
+    where
+      by : (e : Effect) → IsToldBy p.registry s d e → AloneRight (tenant_of d) p at who (outcome p.registry [] d) (secret_of p.registry d) e
+      by (Sets t x) k = λ free. puts_setting (tenant_of d) p (secret_of p.registry d) (setting_of t p.registry x)
+          (subst (λ u. PutsSetting u p.registry (setting_of t p.registry x)) (sym k.1.0) (proposal_right t p.registry x (subst (λ u. IsOwn u p.registry) k.1.0 own) order (k.1.1 fits) free))
+      by (Submits x y) k = absurd (begins k.1.0)
+      by (Comes role) k = absurd (comes k.1)
+      by _ k = λ free. tt
+
   pub alone_puts : (d : Command) → IsOwn (tenant_of d) p.registry → AreOrdered p.registry → fits_command d ≡ true → Roles p.registry.users (need d) (Alone who) → AloneRight (tenant_of d) p at who (outcome p.registry [] d) (secret_of p.registry d) (effect_of at p.registry who s [] (outline d))
   alone_puts (commands.Submit t c answers) own order fits roles = in_open_is (AloneRight t p at who (outcome p.registry [] (commands.Submit t c answers)) (secret_of p.registry (commands.Submit t c answers))) Submits c p.registry (λ free. tt)
       (λ x y found form. submits t c answers own order (and_parts (is_path_number t && is_between 1 64 c) (are_answers answers) fits).1 x y found form)
   alone_puts (commands.Login t name password) own order fits roles = logged t Unchecked who roles
   alone_puts (commands.ReceiptLogin t receipt) own order fits roles = logged t Unchecked who roles
-  alone_puts (commands.SetSettings t next) own order fits roles = λ free. puts_setting t p None (setting_of t p.registry (ToTenant next)) (proposal_right t p.registry (ToTenant next) own order (one (is_path_number t) _ fits) free)
-  alone_puts (commands.SetUser t u next) own order fits roles = λ free. puts_setting t p None (setting_of t p.registry (ToUser u next)) (proposal_right t p.registry (ToUser u next) own order (one (is_path_number t && is_path_number u) _ fits) free)
-  alone_puts (commands.SetContext t c next) own order fits roles = λ free. puts_setting t p None (setting_of t p.registry (ToContext c next)) (proposal_right t p.registry (ToContext c next) own order (one (is_path_number t && is_path_number c) _ fits) free)
-  alone_puts (commands.SetForm t f form) own order fits roles = λ free. puts_setting t p None (setting_of t p.registry (ToForm f form)) (proposal_right t p.registry (ToForm f form) own order (one (is_path_number t && is_path_number f) _ fits) free)
-  alone_puts (commands.Logout t) own order fits roles = goes_is (AloneRight t p at who Unchecked None) s (λ free. tt) (λ turn free. tt)
-  alone_puts (commands.ContextOf t c) own order fits roles = in_open_is (AloneRight t p at who Unchecked None) _ c p.registry (λ free. tt) (λ x y is form free. tt)
-  alone_puts (commands.GiveIdentity t answers) own order fits roles = identity_is (AloneRight t p at who (outcome p.registry [] (commands.GiveIdentity t answers)) (Some answers)) [] p.registry (λ free. tt) (λ free. tt)
-  alone_puts (commands.Share t n u) own order fits roles = share_is (AloneRight t p at who Unchecked None) u p.registry (λ free. tt) (λ free. tt)
-  alone_puts (commands.Transfer t n c) own order fits roles = transfer_is (AloneRight t p at who Unchecked None) c p.registry (λ free. tt) (λ x is free. tt)
-  alone_puts (commands.Decide t n k decision reason withhold) own order fits roles = decide_is (AloneRight t p at who Unchecked None) k p.registry [] decision reason withhold (λ free. tt) (λ r y free. tt)
-  alone_puts _ own order fits roles = λ free. tt
+  alone_puts d own order fits roles = alone_others d own order fits (λ no_one. grind (arith, no_one)) (λ no_one. grind (arith, no_one))
 
 -- ---- what is asked on a report
 

@@ -25,7 +25,7 @@ use Rattle.wb_model.specs.declared.registry.FormItem.{FormItem}
 use Rattle.wb_model.specs.declared.registry.UserItem.{UserItem}
 use Rattle.wb_model.specs.Trails as trails
 use Rattle.wb_model.specs.Trails.{context_in, with_reader, readers_by, readers, reads}
-use Rattle.wb_model.specs.Commands.{need}
+use Rattle.wb_model.specs.Commands.{need, fits_command, effect_of}
 use Rattle.wb_model.specs.Access.{requests, request_at, user_by}
 use Rattle.wb_model.specs.Tables.{Registry, Case, Who, TheUser, TheReporter, user, context, disablings}
 use Rattle.wb_model.specs.Faults.{case_told}
@@ -33,14 +33,15 @@ use Rattle.wb_model.specs.Acts.{closed, not_external, not_reader, last_reader, a
 use Rattle.wb_model.specs.Moves.{effective}
 use Rattle.wb_model.specs.Refusing.{refuses_where}
 use Rattle.wb_model.specs.Targets.{On}
-use Rattle.wb_model.specs.Requests.{Outcome, Unchecked, outcome, outline, secret_of, identity_outcome, form_of_trail, late_fault}
+use Rattle.wb_model.specs.Requests.{Outcome, Unchecked, outcome, outline, secret_of, identity_outcome, late_fault}
+use Rattle.wb_model.specs.AskingForms.{form_of_trail}
 use Rattle.wb_model.specs.Settings.{is_recipient}
 use Rattle.wb_model.specs.SetUps.{is_user_item, is_context_item}
-use Rattle.wb_model.specs.Fits.{is_between, has_bytes, is_path_number, is_staff_role, fits_withhold, fits_command}
+use Rattle.wb_model.specs.Fits.{is_between, has_bytes, is_path_number, is_staff_role, fits_withhold}
 use Rattle.wb_model.specs.KeptRules.{role_of, is_of_channel, is_doer, users_in, is_named, are_valid_after}
 use Rattle.wb_model.specs.Changes.{TurnContext}
 use Rattle.wb_model.specs.Submissions.{outcome_refusal}
-use Rattle.wb_model.specs.Effects.{Effect, Misses, Writes, Submits, caller, effect_of}
+use Rattle.wb_model.specs.Effects.{Effect, Misses, Writes, Submits, caller}
 use Rattle.wb_model.specs.Doings.{Acts, Moves, may_read, retention_of, doing_fault, doing_entry, actor_of, decision_move}
 use Rattle.wb_model.specs.AnswerRanges.{are_answers}
 use Rattle.wb_model.specs.Readable.{are_bytes, is_count, has_id_of, is_own_user, is_own_context, IsOwn, is_withheld, is_stored, is_entry_of, are_sealed, is_of_role}

@@ -11,8 +11,8 @@ use Rattle.wb_model.specs.declared.command.Command.TheVariants as commands
 use Rattle.wb_base.specs.Secrets.{digest, same_digest}
 use Rattle.wb_model.specs.declared.registry.UserItem.{UserItem}
 use Rattle.wb_model.specs.Refusals.{not_found, wrong_role, wrong_right, bad_login}
-use Rattle.wb_model.specs.Tables.{Registry, context, Plain, Case, Session, Who, TheUser, TheReporter, user, user_named, report, has_number, has_receipt, with_receipt, is_there, is_live, lasts, session}
-use Rattle.wb_model.specs.Targets.{Target, Nobody, Alone, On, same_role, finds, named_case, user_target, own_case, reporter_target, some_user_target, who_target, session_target, by_password, by_receipt, anonymous, needed_target, target}
+use Rattle.wb_model.specs.Tables.{Registry, context, Plain, Case, Session, Who, TheUser, TheReporter, user, user_named, report, has_number, has_receipt, with_receipt, is_there, is_live, lasts, session, same_role}
+use Rattle.wb_model.specs.Targets.{Target, Nobody, Alone, On, finds, named_case, user_target, own_case, reporter_target, some_user_target, who_target, session_target, by_password, by_receipt, anonymous, needed_target, target}
 use Rattle.wb_model.specs.Commands.{Need, Anyone, Any_session, Own, Staff, Names, need, has_right}
 use Rattle.wb_model.specs.Requests.{Request, Outcome}
 use Rattle.wb_base.specs.Days.{day_of}

@@ -23,7 +23,7 @@ use Rattle.wb_model.specs.Tables.{Registry, TheReporter}
 use Rattle.wb_model.specs.Requests.{Outcome, Unchecked, Checked}
 use Rattle.wb_model.specs.Acts.{case_fault}
 use Rattle.wb_model.specs.Moves.{custody_fault}
-use Rattle.wb_model.specs.Effects.{effect_of}
+use Rattle.wb_model.specs.Commands.{effect_of}
 use Rattle.wb_model.specs.OnReports.{refusal_on}
 use Rattle.wb_model.proofs.Starter.{starter_registry}
 use Rattle.wb_model.proofs.RowPasts.{after, at, opened_case}

@@ -13,7 +13,8 @@ use Rattle.wb_model.specs.declared.event.What.TheVariants.{Did, Gap, Idle, Lost}
 use Rattle.wb_model.specs.Tables.{Registry, Who, Case, lasts, Session, is_reporter_of, others, sessions_but}
 use Rattle.wb_model.specs.Requests.{Outcome, outline, outcome}
 use Rattle.wb_model.specs.Changes.{TurnContext, Change, Nothing, Draws, Begins, Notes, Deletes, LogsIn, LogsOut, Configures}
-use Rattle.wb_model.specs.Effects.{Effect, Writes, Erases, Submits, Comes, Goes, Sets, effect_of}
+use Rattle.wb_model.specs.Effects.{Effect, Writes, Erases, Submits, Comes, Goes, Sets}
+use Rattle.wb_model.specs.Commands.{effect_of}
 use Rattle.wb_model.specs.OnReports.{change_on}
 use Rattle.wb_model.specs.Rules.{change_alone}
 use Rattle.wb_model.proofs.Effects.{set_is}

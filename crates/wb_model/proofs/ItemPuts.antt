@@ -12,7 +12,7 @@ use Rattle.wb_base.specs.AnswerList.{is_text}
 use Rattle.wb_list.specs.Keyed.{insert_item}
 use Rattle.wb_model.specs.declared.registry.FormItem.{FormItem}
 use Rattle.wb_model.specs.declared.registry.UserItem.{UserItem}
-use Rattle.wb_model.specs.Targets.{same_role}
+use Rattle.wb_model.specs.Tables.{same_role}
 use Rattle.wb_model.specs.Settings.{form_key}
 use Rattle.wb_model.specs.SetUps.{are_apart}
 use Rattle.wb_model.specs.Legal.{ascends_from, ascends}

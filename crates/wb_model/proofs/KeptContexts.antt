@@ -7,7 +7,8 @@ use Rattle.wb_model.specs.declared.event.What.TheVariants.{Did, Gap, Idle, Lost}
 use Rattle.wb_model.specs.Tables.{Registry, Who}
 use Rattle.wb_model.specs.Requests.{Outcome, outline, outcome}
 use Rattle.wb_model.specs.Changes.{TurnContext, Change, Nothing, Configures}
-use Rattle.wb_model.specs.Effects.{Effect, Submits, Sets, effect_of}
+use Rattle.wb_model.specs.Effects.{Effect, Submits, Sets}
+use Rattle.wb_model.specs.Commands.{effect_of}
 use Rattle.wb_model.specs.Rules.{change_alone}
 use Rattle.std.specs.Option.{option_map_or}
 use Rattle.wb_model.specs.Host.{registry_after}

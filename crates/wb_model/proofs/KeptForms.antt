@@ -23,7 +23,8 @@ use Rattle.wb_model.specs.Trails.{Submission, submission_in}
 use Rattle.wb_model.specs.Tables.{Registry, Plain, Case, Who, context, newest_form}
 use Rattle.wb_model.specs.Faults.{admin_told}
 use Rattle.wb_model.specs.Refusing.{refuses_where}
-use Rattle.wb_model.specs.Requests.{Outcome, Request, open_form, form_of_trail}
+use Rattle.wb_model.specs.Requests.{Outcome, Request}
+use Rattle.wb_model.specs.AskingForms.{open_form, form_of_trail}
 use Rattle.wb_model.specs.Settings.{OfTenant, OfUser, OfContext, OfForm, form_key, in_range, context_item, next_version, form_fault, Proposal, ToTenant, ToUser, ToContext, ToForm, proposal_refusal, setting_of}
 use Rattle.wb_model.specs.Changes.{TurnContext, Change, Nothing, Draws, Begins, Notes, Deletes, Configures, Answer, judged}
 use Rattle.wb_model.specs.Effects.{Effect, Writes, Submits, Sets}

@@ -10,21 +10,19 @@ use Rattle.wb_model.specs.declared.registry.FormItem.{FormItem}
 use Rattle.wb_model.specs.declared.registry.Lists.{Lists}
 use Rattle.wb_model.specs.Trails.{receipt}
 use Rattle.wb_model.specs.Tables.{Case, has_receipt}
-use Rattle.wb_model.specs.Requests.{form_of_trail}
+use Rattle.wb_model.specs.AskingForms.{form_of_trail}
 use Rattle.wb_model.specs.Host.{Tables}
-use Rattle.wb_model.specs.Legal.{Reckoning, reckoning, ascends_from, is_legal, last_at, AreLegal}
+use Rattle.wb_model.specs.Legal.{Reckoning, reckoning, ascends_from, is_legal, last_at, AreLegal, ascends}
 use Rattle.wb_model.specs.Opened.{Ascend, AtMost, Apart, begun, AreBegunBy, HaveForms, AreOpened}
 use Rattle.wb_model.specs.SetUps.{are_apart, AreSetUp}
 use Rattle.wb_model.specs.KeptRules.{is_named, has_public_answers, are_valid_after, same_receipt, AreKept}
 use Rattle.wb_model.specs.Openings.{registry_of}
-use Rattle.wb_model.specs.Readable.{is_stored, is_entry_of, are_sealed, is_readable, AreReadable}
-use Rattle.wb_model.specs.Legal.{ascends}
+use Rattle.wb_model.specs.Readable.{is_stored, is_entry_of, are_sealed, is_readable, AreReadable, AreRanged, OpensReadable}
 use Rattle.wb_model.specs.Tenants.{Tenancy}
 use Rattle.wb_model.specs.Past.{Past}
 use Rattle.wb_model.specs.Pasts.{AllOpened, part, tenants, has_tenant, held_tenancy, standing_hosts}
 use Rattle.wb_model.specs.ByVerdicts.{AreByVerdicts}
 use Rattle.wb_model.specs.Reopened.{left_time, without_sessions}
-use Rattle.wb_model.specs.Readable.{AreRanged, OpensReadable}
 use Rattle.wb_model.specs.LeftLists.{lists_of}
 use Rattle.wb_model.proofs.Found.{Held, same_number}
 use Rattle.wb_model.proofs.TurnRows.{map_held}

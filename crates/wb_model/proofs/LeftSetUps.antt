@@ -14,7 +14,7 @@ use Rattle.wb_model.specs.declared.registry.FormItem.{FormItem}
 use Rattle.wb_model.specs.declared.registry.Lists.{Lists}
 use Rattle.wb_model.specs.declared.registry.TenantItem.{TenantItem}
 use Rattle.wb_model.specs.declared.registry.UserItem.{UserItem}
-use Rattle.wb_model.specs.Targets.{same_role}
+use Rattle.wb_model.specs.Tables.{same_role}
 use Rattle.wb_model.specs.Settings.{form_key, is_recipient}
 use Rattle.wb_model.specs.SetUps.{is_tenant_item, is_user_item, is_form_item, is_context_item, are_apart, same_user_name, is_user_before, is_version_before, is_context_before, has_tenant, has_form, is_recipient_of, has_recipients, follows, AreSetUp}
 use Rattle.wb_model.specs.Ordered.{are_ordered}

@@ -84,15 +84,10 @@ was_external (Some x) p false free = absurd (grind (arith, free))
 
 act_legal : (days : Reckoning) (last time : ℕ) (trail : List Entry) (by : Actor) (act : Act) → last ≤ time → AsksRightly days time by (Acts act) → case_fault trail act ≡ None → is_next days last trail (record { at = time; by = by; deed = act_deed days.calendar trail act }) ≡ true
 act_legal days last time trail by (acts.Comment internal text) le asks free = four _ _ _ _ (grind (arith, nat_tests, le)) refl refl (no_fault case_told _ free)
-act_legal days last time trail by (acts.Label text) le asks free = four _ _ _ _ (grind (arith, nat_tests, le)) (user_right (is_reporter by) asks) refl (no_fault case_told _ free)
-act_legal days last time trail by (acts.SetStatus status) le asks free = four _ _ _ _ (grind (arith, nat_tests, le)) (user_right (is_reporter by) asks) refl (no_fault case_told _ free)
 act_legal days last time trail by (acts.Acknowledge today) le asks free =
     four _ _ _ _ (grind (arith, nat_tests, le)) (user_right (is_reporter by) asks.0)
     (ap (λ b. b && int_eq (terms.feedback_due (received trail) (Some today) (is_extended trail) days.calendar) (terms.feedback_due (received trail) (Some today) (is_extended trail) days.calendar)) (same_day today (day_of time days.offset) asks.1) ∙ same_day (terms.feedback_due (received trail) (Some today) (is_extended trail) days.calendar) (terms.feedback_due (received trail) (Some today) (is_extended trail) days.calendar) refl)
     (no_fault case_told _ free)
-act_legal days last time trail by (acts.Feedback text) le asks free = four _ _ _ _ (grind (arith, nat_tests, le)) (user_right (is_reporter by) asks) refl (no_fault case_told _ free)
-act_legal days last time trail by (acts.Share user) le asks free = four _ _ _ _ (grind (arith, nat_tests, le)) (user_right (is_reporter by) asks) refl (no_fault case_told _ free)
-act_legal days last time trail by (acts.Unshare user) le asks free = four _ _ _ _ (grind (arith, nat_tests, le)) (user_right (is_reporter by) asks) refl (no_fault case_told _ free)
 act_legal days last time trail by (acts.Transfer context is_open readers) le asks free =
     let open_is : is_open ≡ true = was_open (closed trail) (same_context context trail) (full trail) is_open free in
     four _ _ _ _ (grind (arith, nat_tests, le)) (user_right (is_reporter by) asks.0) asks.1
@@ -107,6 +102,7 @@ act_legal days last time trail by (acts.Extend reason external) le asks free =
     four _ _ _ _ (grind (arith, nat_tests, le)) (user_right (is_reporter by) asks) (same_day due due refl)
     (no_fault case_told _ (ap (λ b. case_fault trail (acts.Extend reason b)) (sym external_is) ∙ free))
 act_legal days last time trail by acts.Identity le asks free = four _ _ _ _ (grind (arith, nat_tests, le)) asks refl (no_fault case_told _ free)
+act_legal days last time trail by _ le asks free = four _ _ _ _ (grind (arith, nat_tests, le)) (user_right (is_reporter by) asks) refl (no_fault case_told _ free)
 
 -- ---- moves
 

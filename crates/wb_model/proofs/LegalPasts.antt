@@ -5,7 +5,7 @@ use Rattle.wb_model.specs.declared.command.Asked.{Asked}
 use Rattle.wb_model.specs.declared.event.Event.{Event}
 use Rattle.wb_model.specs.declared.event.What.{What}
 use Rattle.wb_model.specs.declared.event.What.TheVariants.{Did, Gap, Idle, Lost}
-use Rattle.wb_model.specs.Fits.{fits_command}
+use Rattle.wb_model.specs.Commands.{fits_command, is_read}
 use Rattle.wb_model.specs.Tables.{Plain, Case, is_live}
 use Rattle.wb_model.specs.Targets.{Target, Nobody, Alone, On}
 use Rattle.wb_model.specs.Requests.{Frame, outline, plain_part}
@@ -13,7 +13,6 @@ use Rattle.wb_model.specs.Changes.{TurnContext, Change, Begins, Deletes, Verdict
 use Rattle.wb_model.specs.Host.{Tables, tables_after}
 use Rattle.wb_model.specs.Past.{Past, Opening, Turn, now, registry, alone_at, change_at, last, numbers_after, numbers, case_of, live_reports, held, tables}
 use Rattle.wb_model.specs.PastTurns.{at_frame, did, what_by, what_at, verdict_at, target_at}
-use Rattle.wb_model.specs.Commands.{is_read}
 use Rattle.wb_model.specs.Opened.{Ascend, Opened}
 use Rattle.wb_model.specs.Pasts.{AllOpened, seen, part, has_tenant, what_in, with_turn}
 use Rattle.wb_model.specs.Tenants.{tenant_at}

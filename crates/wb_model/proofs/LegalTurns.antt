@@ -13,12 +13,12 @@ use Rattle.wb_model.specs.declared.entry.Entry.{Entry}
 use Rattle.wb_model.specs.declared.registry.ContextItem.{ContextItem}
 use Rattle.wb_model.specs.declared.registry.FormItem.{FormItem}
 use Rattle.wb_model.specs.Trails as trails
-use Rattle.wb_model.specs.Commands.{need}
+use Rattle.wb_model.specs.Commands.{Need, Anyone, Any_session, Own, Staff, Names, need, effect_of}
 use Rattle.wb_model.specs.Tables.{Registry, Plain, Case, Who, TheUser, TheReporter, context, disablings}
 use Rattle.wb_model.specs.Targets.{Target, Nobody, Alone, On, target}
 use Rattle.wb_model.specs.Requests.{Outcome, Request}
 use Rattle.wb_model.specs.Changes.{TurnContext, Change, Begins, Deletes, Notes, Answer, judged}
-use Rattle.wb_model.specs.Effects.{Effect, Writes, Submits, Sets, effect_of}
+use Rattle.wb_model.specs.Effects.{Effect, Writes, Submits, Sets}
 use Rattle.wb_model.specs.OnReports.{refusal_on, change_on}
 use Rattle.wb_model.specs.Rules.{change_alone, effect_at, verdict_on}
 use Rattle.wb_model.specs.Submissions.{submission_entry, outcome_refusal}
@@ -55,25 +55,32 @@ abbrev Asked : TurnContext → Registry → Who → Effect → Type 0
 Asked at g who (Writes d) = AsksRightly (reckoning g.settings) at.time (actor_of who) d
 Asked at g who _ = Unit {0}
 
+-- nothing is asked but that a user asks
+abbrev ByUser : TurnContext → Registry → Who → Need → Effect → Type 0
+ByUser at g who (Names role right n) (Writes d) = is_reporter (actor_of who) ≡ false → AsksRightly (reckoning g.settings) at.time (actor_of who) d
+ByUser at g who k (Writes d) = ⊥
+ByUser at g who k e = is_reporter (actor_of who) ≡ false → is_reporter (actor_of who) ≡ false
+
+asked_by : (at : TurnContext) (g : Registry) (who : Who) (k : Need) (e : Effect) → IsCaller k who → ByUser at g who k e → Asked at g who e
+asked_by at g who (Names role right n) (Writes d) h by = by (user_only who h)
+asked_by at g who Anyone (Writes d) h by = absurd by
+asked_by at g who Any_session (Writes d) h by = absurd by
+asked_by at g who Own (Writes d) h by = absurd by
+asked_by at g who (Staff role) (Writes d) h by = absurd by
+asked_by at g who k _ h by = tt
+
 effect_asked : (at : TurnContext) (g : Registry) (who : Who) (s : Presented) (es : List Entry) (d : Command) → IsSound g → IsCaller (need d) who → Asked at g who (effect_of at g (Some who) s es d)
 effect_asked at g who s es (commands.OwnComment t text) sound h = tt
 effect_asked at g who s es (commands.GiveIdentity t answers) sound h = identity_is (Asked at g who) es g tt (reporter_only who h)
 effect_asked at g who s es (commands.Comment t n text internal) sound h = tt
-effect_asked at g who s es (commands.Label t n text) sound h = user_only who h
-effect_asked at g who s es (commands.SetStatus t n status) sound h = user_only who h
 effect_asked at g who s es (commands.Acknowledge t n) sound h = (user_only who h, refl)
-effect_asked at g who s es (commands.Feedback t n text) sound h = user_only who h
 effect_asked at g who s es (commands.Share t n reader) sound h = share_is (Asked at g who) reader g tt (user_only who h)
-effect_asked at g who s es (commands.Unshare t n reader) sound h = user_only who h
 effect_asked at g who s es (commands.Transfer t n c) sound h = transfer_is (Asked at g who) c g tt (λ x is. (user_only who h, (found_sound c g.contexts x sound.contexts is).2))
 effect_asked at g who s es (commands.Postpone t n) sound h = (user_only who h, refl, by (context (trails.context es) g.contexts) refl)
   where
     by : (x : Option ContextItem) → context (trails.context es) g.contexts ≡ x → retention_of x ≤ 3_650
     by None e = omega arith
     by (Some x) e = (found_sound (trails.context es) g.contexts x sound.contexts e).1
-effect_asked at g who s es (commands.Extend t n reason) sound h = user_only who h
-effect_asked at g who s es (commands.Delete t n) sound h = tt
-effect_asked at g who s es (commands.Ask t n reason) sound h = user_only who h
 effect_asked at g who s es (commands.Decide t n k decision reason withhold) sound h = decide_is (Asked at g who) k g es decision reason withhold tt (λ r y. by r y (user_only who h))
   where
     by : (r : AccessRequest) (y : Decision) → is_reporter (actor_of who) ≡ false → Asked at g who (Writes (Moves (decision_move k (disablings r.by g.users) g.settings.notice_days reason withhold y)))
@@ -85,7 +92,7 @@ effect_asked at g who s es (commands.Submit t c answers) sound h = in_open_is (A
 effect_asked at g who s es (commands.Login t name password) sound h = comes_is (Asked at g who) (Some who) g.users tt (λ role. tt)
 effect_asked at g who s es (commands.ReceiptLogin t receipt) sound h = comes_is (Asked at g who) (Some who) g.users tt (λ role. tt)
 effect_asked at g who s es (commands.Logout t) sound h = goes_is (Asked at g who) s tt (λ turn. tt)
-effect_asked at g who s es _ sound h = tt
+effect_asked at g who s es d sound h = asked_by at g who (need d) (effect_of at g (Some who) s es d) h (λ user. user)
 
 -- ---- what is written
 

@@ -4,12 +4,11 @@ use Rattle.std.specs.Prelude.{is_some, max, ◌&&◌, ◌||◌}
 use Rattle.wb_base.specs.declared.callers.Presented.{Presented}
 use Rattle.wb_base.specs.declared.callers.Principal.{Principal}
 use Rattle.wb_base.specs.AnswerList.{Answered}
-use Rattle.wb_model.specs.declared.access.AccessRequest.{AccessRequest}
 use Rattle.wb_model.specs.declared.command.Asked.{Asked}
 use Rattle.wb_model.specs.declared.command.Command.{Command}
 use Rattle.wb_model.specs.declared.command.Command.TheVariants as commands
-use Rattle.wb_model.specs.declared.command.Decision.{Decision}
-use Rattle.wb_model.specs.declared.command.Decision.TheVariants as decisions
+use Rattle.wb_model.specs.declared.act.Act.TheVariants as acts
+use Rattle.wb_model.specs.declared.act.Move.TheVariants as moves
 use Rattle.wb_base.specs.Calendars.{Calendar}
 use Rattle.wb_model.specs.declared.entry.Entry.{Entry}
 use Rattle.wb_model.specs.declared.event.What.{What}
@@ -17,18 +16,19 @@ use Rattle.wb_model.specs.declared.event.What.TheVariants.{Did, Gap, Idle, Lost}
 use Rattle.wb_model.specs.declared.registry.ContextItem.{ContextItem}
 use Rattle.wb_model.specs.declared.registry.FormItem.{FormItem}
 use Rattle.wb_model.specs.Trails.{is_marked, has_identity}
-use Rattle.wb_model.specs.Tables.{Registry, Who, context, disablings}
-use Rattle.wb_model.specs.Requests.{Outcome, mark, asking_form, submission_outcome, submission_secret, outcome, outline, secret_of}
+use Rattle.wb_model.specs.Tables.{Registry, Who, context}
+use Rattle.wb_model.specs.Requests.{Outcome, mark, submission_outcome, submission_secret, outcome, outline, secret_of}
+use Rattle.wb_model.specs.AskingForms.{asking_form}
 use Rattle.wb_model.specs.Changes.{TurnContext, Change, Begins, Notes}
-use Rattle.wb_model.specs.Effects.{Effect, Writes, Submits, Sets, effect_of}
+use Rattle.wb_model.specs.Effects.{Effect, Writes, Submits, Sets}
+use Rattle.wb_model.specs.Commands.{effect_of, is_submission}
 use Rattle.wb_model.specs.OnReports.{change_on}
 use Rattle.wb_model.specs.Rules.{change_alone}
 use Rattle.wb_model.specs.Submissions.{submission_entry}
-use Rattle.wb_model.specs.Doings.{Moves, doing_entry, decision_move}
-use Rattle.wb_model.specs.Commands.{is_submission}
+use Rattle.wb_model.specs.Doings.{Doing, Acts, Moves, doing_entry}
 use Rattle.wb_model.specs.Past.{Past, Opening, Turn, now, at_of, who_of, report_of, about, change_by, change_in, secret_in, registry, last, grown, trail_of, trail, change_at, lives_at, newer, given, sealed}
 use Rattle.wb_model.specs.Opened.{Opened}
-use Rattle.wb_model.proofs.Effects.{IsSubmitted, submitted, share_is, transfer_is, decide_is, comes_is, goes_is, in_open_is, identity_is, set_is}
+use Rattle.wb_model.proofs.Effects.{IsSubmitted, IsToldBy, is_given, submitted, told, outlined, in_open_is, set_is}
 
 -- identity answers come with an entry that says so
 abbrev pub Says : Change → Option Answered → Type 0
@@ -48,31 +48,17 @@ on_says at g who n trail (Writes d) secret w = w
 on_says at g who n trail _ secret w = tt
 
 effect_says : (at : TurnContext) (g : Registry) (who : Who) (s : Presented) (trail : List Entry) (d : Command) → Writing g.settings.calendar at who trail (secret_of g d) (effect_of at g (Some who) s trail (outline d))
-effect_says at g who s trail (commands.Share t n reader) = share_is (Writing g.settings.calendar at who trail None) reader g tt refl
-effect_says at g who s trail (commands.Transfer t n c) = transfer_is (Writing g.settings.calendar at who trail None) c g tt (λ x is. refl)
-effect_says at g who s trail (commands.Decide t n k decision reason withhold) = decide_is (Writing g.settings.calendar at who trail None) k g trail decision reason withhold tt (λ r y. by r y)
+effect_says at g who s trail d = subst (Writing g.settings.calendar at who trail (secret_of g d)) (outlined at g (Some who) s trail d) (by (effect_of at g (Some who) s trail d) (told at g (Some who) s trail d))
   where
-    by : (r : AccessRequest) (y : Decision) → Writing g.settings.calendar at who trail None (Writes (Moves (decision_move k (disablings r.by g.users) g.settings.notice_days reason withhold y)))
-    by r decisions.Grant = refl
-    by r decisions.Deny = refl
-    by r decisions.Revoke = refl
-effect_says at g who s trail (commands.Submit t c answers) = in_open_is (Writing g.settings.calendar at who trail (secret_of g (commands.Submit t c answers))) Submits c g tt (λ x y is form. tt)
-effect_says at g who s trail (commands.ContextOf t c) = in_open_is (Writing g.settings.calendar at who trail None) _ c g tt (λ x y is form. tt)
-effect_says at g who s trail (commands.Login t name password) = comes_is (Writing g.settings.calendar at who trail None) (Some who) g.users tt (λ role. tt)
-effect_says at g who s trail (commands.ReceiptLogin t receipt) = comes_is (Writing g.settings.calendar at who trail None) (Some who) g.users tt (λ role. tt)
-effect_says at g who s trail (commands.Logout t) = goes_is (Writing g.settings.calendar at who trail None) s tt (λ turn. tt)
-effect_says at g who s trail (commands.GiveIdentity t answers) = identity_is (Writing g.settings.calendar at who trail (Some answers)) trail g tt refl
-effect_says at g who s trail (commands.OwnComment t text) = refl
-effect_says at g who s trail (commands.Comment t n text internal) = refl
-effect_says at g who s trail (commands.Label t n text) = refl
-effect_says at g who s trail (commands.SetStatus t n status) = refl
-effect_says at g who s trail (commands.Acknowledge t n) = refl
-effect_says at g who s trail (commands.Feedback t n text) = refl
-effect_says at g who s trail (commands.Unshare t n u) = refl
-effect_says at g who s trail (commands.Postpone t n) = refl
-effect_says at g who s trail (commands.Extend t n reason) = refl
-effect_says at g who s trail (commands.Ask t n reason) = refl
-effect_says at g who s trail _ = tt
+    marked_is : (doing : Doing) → is_given doing ≡ is_marked (doing_entry g.settings.calendar at.time who trail doing).deed
+    marked_is (Acts acts.Identity) = refl
+    marked_is (Acts _) = refl
+    marked_is (Moves (moves.Ask reason stamp)) = refl
+    marked_is (Moves _) = refl
+
+    by : (e : Effect) → IsToldBy g s d e → Writing g.settings.calendar at who trail (secret_of g d) e
+    by (Writes doing) k = k.1 ∙ marked_is doing
+    by _ k = tt
 
 -- ---- a submission
 

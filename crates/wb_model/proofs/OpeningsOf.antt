@@ -15,7 +15,7 @@ use Rattle.wb_model.specs.declared.registry.UserItem.{UserItem}
 use Rattle.wb_model.specs.Settings.{form_key}
 use Rattle.wb_model.specs.Trails.{receipt}
 use Rattle.wb_model.specs.Tables.{Registry, Case, has_receipt}
-use Rattle.wb_model.specs.Requests.{form_of_trail}
+use Rattle.wb_model.specs.AskingForms.{form_of_trail}
 use Rattle.wb_model.specs.Host.{Tables}
 use Rattle.wb_model.specs.Fits.{is_between, has_bytes}
 use Rattle.wb_model.specs.Legal.{Reckoning, reckoning, ascends, ascends_from, are_readers, is_legal, last_at, AreSound, IsSound, AreLegal}

@@ -1,7 +1,7 @@
 -- What JSON that was read is: members in the order of their keys, and numbers of 64 bits. So answers in it stand in byte order of their ids, each in its range.
-use Rattle.std.proofs.Common.{◌≡◌, ◌≢◌, ◌⊎◌, inl, inr, ℕ, ◌+◌, ◌*◌, ◌^◌, ◌≤◌, ◌<◌, suc, Bool, true, false, cond, not, List, [], ◌∷◌, length, Option, Some, None, Result, Ok, Err, refl, sym, ap, ◌∙◌, subst, arith, ℤ, pos, negsuc, neg_ℤ, codes}
+use Rattle.std.proofs.Common.{◌≡◌, ℕ, ◌^◌, ◌≤◌, ◌<◌, Bool, true, false, cond, not, List, [], ◌∷◌, length, Option, Some, None, refl, sym, ap, ◌∙◌, subst, arith, ℤ, pos, neg_ℤ, codes}
 use Rattle.std.specs.Float.{binary64, float_is_finite}
-use Rattle.std.specs.Prelude.{⊤, drop, if◌then◌else◌, nat_le, nat_lt, ◌&&◌, ◌||◌, ◌==◌, option_map, option_and_then, int_le, slice_index}
+use Rattle.std.specs.Prelude.{⊤, drop, nat_le, nat_lt, ◌&&◌, ◌==◌, option_map, option_and_then, int_le, slice_index}
 use Rattle.std.specs.List.{list_all}
 use Rattle.std.specs.Ordering.{nat_cmp, ordering_reverse, match_ordering, is_lt}
 use Rattle.std.specs.declared.cmp.Ordering.{Ordering}
@@ -15,7 +15,7 @@ use Rattle.fast_float.specs.Text.{minus, Parts, scan, digits_of, nearest}
 use Rattle.json.specs.Json as json
 use Rattle.json.specs.Lex.{tokens}
 use Rattle.serde_json.specs.Data.{Num, unsigned, negative, float, Data, null, boolean, number, string, array, object, Items, no_items, item, Members, no_members, member, put}
-use Rattle.serde_json.specs.Find.{get, get_member, as_str, as_bool, as_number, as_u64, as_i64, as_array, as_object}
+use Rattle.serde_json.specs.Find.{get, get_member, as_str, as_i64, as_object}
 use Rattle.serde_json.specs.Read.{number_of, number_from, float_of, is_integer, of_json, of_items, of_members, max_depth, read}
 use Rattle.wb_base.specs.declared.answers.Given.{Given}
 use Rattle.wb_base.specs.declared.answers.Given.TheVariants as given

@@ -4,8 +4,7 @@ use Rattle.wb_model.specs.declared.command.Asked.{Asked}
 use Rattle.wb_model.specs.declared.event.Event.{Event}
 use Rattle.wb_model.specs.declared.event.What.{What}
 use Rattle.wb_model.specs.declared.event.What.TheVariants.{Did, Gap, Idle, Lost}
-use Rattle.wb_model.specs.Commands.{tenant_of, is_read}
-use Rattle.wb_model.specs.Fits.{fits_command}
+use Rattle.wb_model.specs.Commands.{tenant_of, is_read, fits_command}
 use Rattle.wb_model.specs.Tables.{is_live, is_there}
 use Rattle.wb_model.specs.Targets.{Target, Nobody, Alone, On}
 use Rattle.wb_model.specs.Requests.{Frame}

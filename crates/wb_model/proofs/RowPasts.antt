@@ -19,7 +19,8 @@ use Rattle.wb_model.specs.Tables.{Who, TheUser, Case, report}
 use Rattle.wb_model.specs.Requests.{Unchecked}
 use Rattle.wb_model.specs.Changes.{TurnContext, Answer}
 use Rattle.wb_model.specs.OnReports.{refusal_on, answer_on}
-use Rattle.wb_model.specs.Effects.{Effect, effect_of}
+use Rattle.wb_model.specs.Effects.{Effect}
+use Rattle.wb_model.specs.Commands.{effect_of}
 use Rattle.wb_model.proofs.Starter.{starter_registry, starter_tables}
 use Rattle.wb_model.specs.Past.{Past, Opening, Turn, registry, trail, case_of}
 use Rattle.wb_model.specs.Legal.{is_legal, IsSound}

@@ -12,7 +12,8 @@ use Rattle.wb_model.specs.declared.event.What.TheVariants.{Did, Gap, Idle, Lost}
 use Rattle.wb_model.specs.Tables.{Registry, Case, Session, Who, TheUser, TheReporter, is_there, stays, lasts, others, is_reporter_of}
 use Rattle.wb_model.specs.Requests.{Outcome, outline, outcome}
 use Rattle.wb_model.specs.Changes.{TurnContext, Change, Begins, Notes, Deletes, LogsIn, LogsOut, Configures}
-use Rattle.wb_model.specs.Effects.{Effect, Comes, Sets, effect_of}
+use Rattle.wb_model.specs.Effects.{Effect, Comes, Sets}
+use Rattle.wb_model.specs.Commands.{effect_of}
 use Rattle.wb_model.specs.OnReports.{change_on}
 use Rattle.wb_model.specs.Rules.{change_alone}
 use Rattle.wb_model.proofs.Effects.{set_is}

@@ -13,8 +13,7 @@ use Rattle.wb_model.specs.declared.registry.FormItem.{FormItem}
 use Rattle.wb_model.specs.declared.registry.Lists.{Lists}
 use Rattle.wb_model.specs.declared.registry.TenantItem.{TenantItem}
 use Rattle.wb_model.specs.declared.registry.UserItem.{UserItem}
-use Rattle.wb_model.specs.Tables.{Case}
-use Rattle.wb_model.specs.Targets.{same_role}
+use Rattle.wb_model.specs.Tables.{Case, same_role}
 use Rattle.wb_model.specs.Settings.{is_recipient}
 use Rattle.wb_model.specs.SetUps.{is_tenant_item, is_user_item, is_form_item, is_context_item, are_apart, same_user_name, has_tenant, has_form, is_recipient_of, has_recipients, follows, AreSetUp}
 use Rattle.wb_model.specs.KeptRules.{is_named, has_public_answers, are_valid_after, AreKept}

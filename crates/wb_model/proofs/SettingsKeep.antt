@@ -17,9 +17,8 @@ use Rattle.wb_model.specs.declared.registry.FormItem.{FormItem}
 use Rattle.wb_model.specs.declared.registry.UserItem.{UserItem}
 use Rattle.wb_model.specs.Trails as trails
 use Rattle.wb_model.specs.Trails.{context_in}
-use Rattle.wb_model.specs.Tables.{Registry, Case, Session, Who, TheUser, TheReporter, user, context}
-use Rattle.wb_model.specs.Targets.{same_role}
-use Rattle.wb_model.specs.Requests.{form_of_trail}
+use Rattle.wb_model.specs.Tables.{Registry, Case, Session, Who, TheUser, TheReporter, user, context, same_role}
+use Rattle.wb_model.specs.AskingForms.{form_of_trail}
 use Rattle.wb_model.specs.Settings.{Setting, OfTenant, OfUser, OfContext, OfForm, form_key, is_recipient, configured}
 use Rattle.wb_model.specs.SetUps.{is_context_item}
 use Rattle.wb_model.specs.Fits.{fits_settings}

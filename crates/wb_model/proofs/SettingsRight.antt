@@ -18,27 +18,20 @@ use Rattle.wb_model.specs.declared.command.UserSet.{UserSet}
 use Rattle.wb_model.specs.declared.registry.FormItem.{FormItem}
 use Rattle.wb_model.specs.declared.registry.UserItem.{UserItem}
 use Rattle.wb_model.specs.declared.setting.AdminFault.TheVariants.{NotFound, NoPassword, RoleFixed, Full}
-use Rattle.wb_model.specs.Tables.{Registry, user, newest_form}
-use Rattle.wb_model.specs.Targets.{same_role}
+use Rattle.wb_model.specs.Tables.{Registry, user, newest_form, same_role}
 use Rattle.wb_model.specs.Faults.{admin_told}
 use Rattle.wb_model.specs.Refusing.{refuses_where}
 use Rattle.wb_model.specs.Settings.{Setting, OfUser, OfContext, OfForm, form_key, in_range, times_disabled, disables, password_digest, user_item, ends_sessions, name_taken, role_fixed, user_fault, is_recipient, context_fault, context_item, next_version, form_fault, form_item, Proposal, ToTenant, ToUser, ToContext, ToForm, proposal_refusal, setting_of}
 use Rattle.wb_model.specs.SetUps.{is_user_item, is_form_item}
-use Rattle.wb_model.specs.Fits.{is_between, has_bytes, is_staff_role, fits_settings, fits_user, fits_context, fits_form, fits_password, are_distinct}
+use Rattle.wb_model.specs.Fits.{is_between, has_bytes, is_staff_role, fits_user, fits_context, fits_password, are_distinct}
 use Rattle.wb_model.specs.Legal.{ascends}
 use Rattle.wb_model.specs.Opened.{AreOrdered}
 use Rattle.wb_model.specs.Readable.{is_byte, are_bytes, is_own_user, is_own_form, is_own_context, follows_in, has_id_of, IsOwn}
 use Rattle.wb_model.proofs.Found.{Held, find_held, decide, other_number}
+use Rattle.wb_model.proofs.Effects.{FitsProposal}
 use Rattle.wb_model.proofs.SoundRegistries.{put, context_right}
 use Rattle.wb_model.proofs.ItemPuts.{held_all, put_all, role_is, has_key, newest_above, newest_most, newest_from, IsAbove}
 use Rattle.wb_model.proofs.SettingsKeep.{KeepsRole, Keeps}
-
--- what a proposal asks of its values
-abbrev pub FitsProposal : Proposal → Type 0
-FitsProposal (ToTenant next) = fits_settings next ≡ true
-FitsProposal (ToUser u next) = fits_user next ≡ true
-FitsProposal (ToContext c next) = fits_context next ≡ true
-FitsProposal (ToForm f form) = fits_form form ≡ true
 
 abbrev pub PutsSetting : ℕ → Registry → Option Setting → Type 0
 PutsSetting t g None = Unit {0}

@@ -11,21 +11,20 @@ use Rattle.wb_base.specs.declared.faults.FormFault.{FormFault}
 use Rattle.wb_base.specs.declared.form.Form.{Form}
 use Rattle.wb_model.specs.declared.body.Told.{Told}
 use Rattle.wb_model.specs.declared.command.Command.{Command}
-use Rattle.wb_model.specs.declared.command.Command.TheVariants as commands
 use Rattle.wb_model.specs.declared.command.ContextSet.{ContextSet}
 use Rattle.wb_model.specs.declared.registry.ContextItem.{ContextItem}
 use Rattle.wb_model.specs.Tables.{Registry, Plain, Who}
 use Rattle.wb_model.specs.Targets.{Target, Nobody, Alone, On, target}
 use Rattle.wb_model.specs.Requests.{Outcome, Request, outline}
-use Rattle.wb_model.specs.Fits.{is_path_number, is_between, fits_context, fits_command}
-use Rattle.wb_model.specs.Settings.{OfTenant, OfUser, OfContext, OfForm, context_item, ascending}
+use Rattle.wb_model.specs.Fits.{is_between, fits_context}
+use Rattle.wb_model.specs.Commands.{fits_command, effect_of}
+use Rattle.wb_model.specs.Settings.{OfTenant, OfUser, OfContext, OfForm, context_item, ascending, ToTenant, ToUser, ToContext, ToForm, setting_of}
 use Rattle.wb_model.specs.Changes.{Nothing, TurnContext, Change, Configures, Answer, judged}
-use Rattle.wb_model.specs.Effects.{Effect, Writes, Submits, effect_of}
+use Rattle.wb_model.specs.Effects.{Effect, Writes, Sets}
 use Rattle.wb_model.specs.OnReports.{change_on}
 use Rattle.wb_model.specs.Rules.{change_alone, effect_at, verdict_on}
-use Rattle.wb_model.specs.Settings.{ToForm, setting_of}
 use Rattle.std.specs.Option.{option_map_or}
-use Rattle.wb_model.proofs.Effects.{share_is, transfer_is, decide_is, comes_is, goes_is, in_open_is, identity_is}
+use Rattle.wb_model.proofs.Effects.{IsToldBy, told, outlined}
 use Rattle.wb_model.specs.declared.entry.Entry.{Entry}
 use Rattle.wb_model.specs.Host.{registry_after, change_of}
 use Rattle.wb_model.specs.Legal.{ascends_from, ascends, are_readers, AreSound, IsSound}
@@ -130,41 +129,30 @@ change_sound _ g puts sound = sound
 
 -- ---- requests
 
-notice_right : (a b : Bool) (n : ℕ) (d : Bool) → (a && (b && nat_le n 30 && d)) ≡ true → n ≤ 30
-notice_right true true n d e = (let k : nat_le n 30 ≡ true = (and_both (nat_le n 30) d e).0 in grind (arith, nat_tests, k))
-notice_right true false n d e = absurd (grind (arith, e))
-notice_right false b n d e = absurd (grind (arith, e))
+notice_right : (b : Bool) (n : ℕ) (d : Bool) → (b && nat_le n 30 && d) ≡ true → n ≤ 30
+notice_right true n d e = (let k : nat_le n 30 ≡ true = (and_both (nat_le n 30) d e).0 in grind (arith, nat_tests, k))
+notice_right false n d e = absurd (grind (arith, e))
 
 abbrev PutsBy : TurnContext → Registry → Option Who → Outcome → Effect → Type 0
 PutsBy at g who o e = Puts (change_alone at g who o e)
 
 alone_puts : (at : TurnContext) (g : Registry) (who : Option Who) (s : Presented) (o : Outcome) (d : Command) → fits_command d ≡ true → PutsBy at g who o (effect_of at g who s [] (outline d))
-alone_puts at g who s o (commands.SetContext t c next) fits = by (nat_le 1 next.retention)
+alone_puts at g who s o d fits = subst (PutsBy at g who o) (outlined at g who s [] d) (by (effect_of at g who s [] d) (told at g who s [] d))
   where
-    two : (a b d : Bool) → (a && b && d) ≡ true → d ≡ true
-    two true true d e = e
-    two true false d e = absurd (grind (arith, e))
-    two false b d e = absurd (grind (arith, e))
+    context_puts : (t c : ℕ) (next : ContextSet) → fits_context next ≡ true → (b : Bool) → Puts (option_map_or Configures (cond b (Some (OfContext (context_item t c next))) None) Nothing)
+    context_puts t c next right true = context_right t c next right
+    context_puts t c next right false = tt
 
-    by : (b : Bool) → Puts (option_map_or Configures (cond b (Some (OfContext (context_item t c next))) None) Nothing)
-    by true = context_right t c next (two (is_path_number t) (is_path_number c) (fits_context next) fits)
-    by false = tt
-alone_puts at g who s o (commands.SetSettings t next) fits = notice_right _ _ next.notice_days _ fits
-alone_puts at g who s o (commands.SetForm t f form) fits = by form
-  where
-    by : (x : Result Form FormFault) → Puts (option_map_or Configures (setting_of t g (ToForm f x)) Nothing)
-    by (Ok x) = tt
-    by (Err x) = tt
-alone_puts at g who s o (commands.Submit t c answers) fits = in_open_is (PutsBy at g who o) Submits c g tt (λ x y is form. tt)
-alone_puts at g who s o (commands.ContextOf t c) fits = in_open_is (PutsBy at g who o) _ c g tt (λ x y is form. tt)
-alone_puts at g who s o (commands.Login t name password) fits = comes_is (PutsBy at g who o) who g.users tt (λ role. tt)
-alone_puts at g who s o (commands.ReceiptLogin t receipt) fits = comes_is (PutsBy at g who o) who g.users tt (λ role. tt)
-alone_puts at g who s o (commands.GiveIdentity t answers) fits = identity_is (PutsBy at g who o) [] g tt tt
-alone_puts at g who s o (commands.Logout t) fits = goes_is (PutsBy at g who o) s tt (λ turn. tt)
-alone_puts at g who s o (commands.Share t n u) fits = share_is (PutsBy at g who o) u g tt tt
-alone_puts at g who s o (commands.Transfer t n c) fits = transfer_is (PutsBy at g who o) c g tt (λ x is. tt)
-alone_puts at g who s o (commands.Decide t n k decision reason withhold) fits = decide_is (PutsBy at g who o) k g [] decision reason withhold tt (λ r y. tt)
-alone_puts at g who s o _ fits = tt
+    form_puts : (t f : ℕ) (x : Result Form FormFault) → Puts (option_map_or Configures (setting_of t g (ToForm f x)) Nothing)
+    form_puts t f (Ok x) = tt
+    form_puts t f (Err x) = tt
+
+    by : (e : Effect) → IsToldBy g s d e → PutsBy at g who o e
+    by (Sets t (ToTenant next)) k = notice_right _ next.notice_days _ (k.1.1 fits)
+    by (Sets t (ToUser u next)) k = tt
+    by (Sets t (ToContext c next)) k = context_puts t c next (k.1.1 fits) (nat_le 1 next.retention)
+    by (Sets t (ToForm f form)) k = form_puts t f form
+    by _ k = tt
 
 on_puts : (at : TurnContext) (g : Registry) (who : Who) (n : ℕ) (trail : List Entry) (e : Effect) → Puts (change_on at g who n trail e)
 on_puts at g who n trail (Writes d) = tt

@@ -11,7 +11,7 @@ use Rattle.wb_model.specs.Refusals.{not_found, numbers_spent, quota_spent, recei
 use Rattle.wb_model.specs.Tables.{Registry}
 use Rattle.wb_model.specs.Requests.{Outcome, Checked}
 use Rattle.wb_model.specs.Submissions.{Drawing, submission_refusal}
-use Rattle.wb_model.specs.Effects.{effect_of}
+use Rattle.wb_model.specs.Commands.{effect_of}
 use Rattle.wb_model.specs.Rules.{refusal_alone}
 use Rattle.wb_model.proofs.Starter.{starter_registry}
 use Rattle.wb_model.specs.Past.{Past, Turn, last, numbering, day, drawn}

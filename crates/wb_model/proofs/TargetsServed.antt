@@ -12,8 +12,8 @@ use Rattle.wb_model.specs.Commands.{Need, Anyone, Any_session, Own, Staff, Names
 use Rattle.wb_base.specs.Secrets.{digest, same_digest}
 use Rattle.wb_model.specs.Playing.{is_loss}
 use Rattle.wb_model.specs.Refusals.{is_turns_spent, not_found, no_session, wrong_role, wrong_right, bad_login}
-use Rattle.wb_model.specs.Tables.{Plain, Case, Session, Who, TheUser, TheReporter, user, user_named, report, session, with_receipt}
-use Rattle.wb_model.specs.Targets.{Target, Nobody, Alone, On, same_role, finds, named_case, user_target, own_case, reporter_target, some_user_target, who_target, session_target, by_password, by_receipt, anonymous, needed_target}
+use Rattle.wb_model.specs.Tables.{Plain, Case, Session, Who, TheUser, TheReporter, user, user_named, report, session, with_receipt, same_role}
+use Rattle.wb_model.specs.Targets.{Target, Nobody, Alone, On, finds, named_case, user_target, own_case, reporter_target, some_user_target, who_target, session_target, by_password, by_receipt, anonymous, needed_target}
 use Rattle.wb_model.specs.Tenants.{healthy}
 
 -- the reply of a turn that is not made: it is lost, or after the host's last

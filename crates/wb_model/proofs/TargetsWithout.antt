@@ -16,9 +16,9 @@ use Rattle.wb_model.specs.declared.event.What.TheVariants.{Idle}
 use Rattle.wb_model.specs.declared.registry.UserItem.{UserItem}
 use Rattle.wb_model.specs.Refusals.{bad_login, not_found, no_session, wrong_role, wrong_right}
 use Rattle.wb_base.specs.Secrets.{digest, same_digest}
-use Rattle.wb_model.specs.Tables.{Registry, has_number, Plain, Case, Session, Who, TheUser, TheReporter, Registry, user, user_named, report, has_receipt, with_receipt, session, others, is_reporter_of, sessions_but}
-use Rattle.wb_model.specs.Targets.{Target, Nobody, Alone, On, same_role, finds, named_case, staff, user_target, own_case, reporter_target, some_user_target, who_target, session_target, by_password, by_receipt, anonymous, needed_target, target, trail_at}
-use Rattle.wb_model.specs.Commands.{Right, Free, Need, Anyone, Any_session, Own, Staff, Names, need, has_right}
+use Rattle.wb_model.specs.Tables.{Registry, has_number, Plain, Case, Session, Who, TheUser, TheReporter, Registry, user, user_named, report, has_receipt, with_receipt, session, others, is_reporter_of, sessions_but, same_role}
+use Rattle.wb_model.specs.Targets.{Target, Nobody, Alone, On, finds, named_case, staff, user_target, own_case, reporter_target, some_user_target, who_target, session_target, by_password, by_receipt, anonymous, needed_target, target, trail_at}
+use Rattle.wb_model.specs.Commands.{Right, Free, Need, Anyone, Any_session, Own, Staff, Names, need, has_right, is_read, is_submission}
 use Rattle.wb_model.specs.Requests.{Outcome, Request, request, outline}
 use Rattle.wb_model.specs.Changes.{TurnContext, Change, Answer, Verdict, Refused, Accepted, judged}
 use Rattle.wb_model.specs.Effects.{Effect, Submits}
@@ -26,10 +26,8 @@ use Rattle.wb_model.proofs.Effects.{IsSubmitted, submitted}
 use Rattle.wb_model.specs.Submissions.{Drawing, drawing, submission_refusal}
 use Rattle.wb_model.specs.Rules.{refusal_alone, answer_alone, change_alone, effect_at, verdict_on}
 use Rattle.wb_model.specs.PastTurns.{did, what_by}
-use Rattle.wb_model.specs.Commands.{is_read}
 use Rattle.wb_model.specs.Opened.{Apart, has_turn}
 use Rattle.wb_model.specs.Absence.{shrunk}
-use Rattle.wb_model.specs.Commands.{is_submission}
 use Rattle.wb_model.proofs.Found.{decide, same_number, other_number}
 use Rattle.wb_model.proofs.Leaving.{truth, none_filter, some_filter, apart_gone, report_others, report_gone, report_number}
 

@@ -6,7 +6,6 @@ use Rattle.wb_base.specs.declared.callers.Principal.{Principal}
 use Rattle.wb_model.specs.declared.body.Told.{Told}
 use Rattle.wb_model.specs.declared.command.Asked.{Asked}
 use Rattle.wb_model.specs.declared.command.Command.{Command}
-use Rattle.wb_model.specs.declared.command.Command.TheVariants as commands
 use Rattle.wb_model.specs.declared.entry.Entry.{Entry}
 use Rattle.wb_model.specs.declared.event.Event.{Event}
 use Rattle.wb_model.specs.declared.event.What.{What}
@@ -17,16 +16,15 @@ use Rattle.wb_model.specs.Targets.{Target, Nobody, Alone, On, trail_at}
 use Rattle.wb_model.specs.Requests.{Frame, Outcome, Request, outline, outcome, request, secret_of, plain_part}
 use Rattle.wb_model.specs.Settings.{Setting, OfTenant, configured}
 use Rattle.wb_model.specs.Changes.{TurnContext, Change, Nothing, Configures, Answer, Verdict, Refused, Accepted, judged}
-use Rattle.wb_model.specs.Effects.{Effect, Misses, Looks, Reads, effect_of}
+use Rattle.wb_model.specs.Effects.{Effect, Misses, Looks, Reads}
+use Rattle.wb_model.specs.Commands.{effect_of, is_read}
 use Rattle.wb_model.specs.OnReports.{change_on}
-use Rattle.wb_model.specs.Routes.{paths}
-use Rattle.wb_model.proofs.Effects.{in_open_is}
+use Rattle.wb_model.proofs.Effects.{IsToldBy, told, outlined}
 use Rattle.wb_model.specs.Rules.{change_alone, verdict_on}
 use Rattle.wb_model.specs.Host as host
 use Rattle.wb_model.specs.Host.{Sealed, Tables, Host, purged, is_draw, registry_after, cases_after, plain_after, sealed_after, changed, reply_by, ruling, tables_after, reply_to, host_after}
 use Rattle.wb_model.specs.Past.{Past, Turn, now, at_of, report_of, about, change_by, secret_in, registry, alone_at, drew, last, drawn_at, day, drawn, numbering, numbers, trail_of, trail, change_at, sealed, case_of, live_reports, logins, stands_by, is_ended, plain, tables}
 use Rattle.wb_model.specs.PastTurns.{at_frame, verdict_at, reply_at, target_at, principal, did, what_by, what_at}
-use Rattle.wb_model.specs.Commands.{is_read}
 use Rattle.wb_model.specs.Opened.{Opened}
 use Rattle.wb_model.proofs.Found.{Held, held_filter, held_map, filter_same}
 use Rattle.wb_model.proofs.Agreeing.{Agree, alone_agrees}
@@ -132,21 +130,16 @@ IsRead (Reads part) = Unit {0}
 IsRead _ = ⊥
 
 pub read_effect : (at : TurnContext) (g : Registry) (who : Option Who) (s : Presented) (es : List Entry) (d : Command) → is_read d ≡ true → IsRead (effect_of at g who s es (outline d))
-unfolding paths
-read_effect at g who s es (commands.ContextOf t c) e = in_open_is IsRead _ c g tt (λ x y is form. tt)
-read_effect at g who s es commands.Health e = tt
-read_effect at g who s es (commands.Public t) e = tt
-read_effect at g who s es (commands.OwnReport t) e = tt
-read_effect at g who s es (commands.List t) e = tt
-read_effect at g who s es (commands.DueList t) e = tt
-read_effect at g who s es (commands.ReadReport t n) e = tt
-read_effect at g who s es (commands.ReadIdentity t n) e = tt
-read_effect at g who s es (commands.Requests t) e = tt
-read_effect at g who s es (commands.Admin t) e = tt
-read_effect at g who s es _ e = absurd (no_less e)
+read_effect at g who s es d e = subst IsRead (outlined at g who s es d) (by (effect_of at g who s es d) (told at g who s es d))
   where
-    no_less : false ≡ true → ⊥
+    no_less : true ≡ false → ⊥
     no_less e = grind (arith, e)
+
+    by : (x : Effect) → IsToldBy g s d x → IsRead x
+    by Misses k = tt
+    by (Looks view) k = tt
+    by (Reads part) k = tt
+    by _ k = absurd (no_less (sym e ∙ k.0))
 
 pub read_alone : (at : TurnContext) (g : Registry) (who : Option Who) (o : Outcome) (e : Effect) → IsRead e → change_alone at g who o e ≡ Nothing
 read_alone at g who o Misses is = refl

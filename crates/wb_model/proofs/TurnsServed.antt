@@ -67,17 +67,8 @@ read_served at g c (TheUser u) = refl
 read_served at g c (TheReporter n) = served_not_found
 
 pub act_served : (act : Act) (body : List ℕ) → Served (record { status = act_status act; body = body })
-act_served (acts.Comment internal text) body = refl
-act_served (acts.Label text) body = refl
-act_served (acts.SetStatus status) body = refl
-act_served (acts.Acknowledge today) body = refl
-act_served (acts.Feedback text) body = refl
-act_served (acts.Share reader) body = refl
-act_served (acts.Unshare reader) body = refl
-act_served (acts.Transfer context is_open readers) body = refl
-act_served (acts.Postpone today retention) body = refl
-act_served (acts.Extend reason external) body = refl
 act_served acts.Identity body = refl
+act_served _ body = refl
 
 pub doing_answered : (trail : List Entry) (d : Doing) → Served (doing_told trail d)
 doing_answered trail (Acts act) = act_served act _

@@ -5,7 +5,7 @@ use Rattle.wb_model.specs.Refusals.{not_found}
 use Rattle.wb_model.specs.Refusing.{refuses_where}
 use Rattle.wb_base.specs.declared.callers.Presented.{Presented}
 use Rattle.wb_model.specs.declared.entry.Entry.{Entry}
-use Rattle.wb_model.specs.OnReports.{has_grant}
+use Rattle.wb_model.specs.OnReports.{has_grant, refusal_on, change_on, answer_on}
 use Rattle.std.proofs.lemmas.Bool.Decides.{nat_tests}
 use Rattle.wb_base.specs.declared.faults.AnswerFault.{AnswerFault}
 use Rattle.wb_base.specs.AnswerList.{Answered}
@@ -17,12 +17,13 @@ use Rattle.wb_model.specs.Views.{reporter_view, identity_view}
 use Rattle.wb_model.specs.Trails as trails
 use Rattle.wb_model.specs.Tables.{Registry, Plain, Case, Who, TheReporter, is_there, lasts, context}
 use Rattle.wb_model.specs.Targets.{Target, Nobody, Alone, On, target, trail_at}
-use Rattle.wb_model.specs.Requests.{Frame, Outcome, Checked, Request, outline, outcome, asking_form, form_of_trail, submission_outcome, identity_outcome, submission_fault, late_fault, public, mark, plain_part, sealed_part}
+use Rattle.wb_model.specs.Requests.{Frame, Outcome, Checked, Request, outline, outcome, submission_outcome, identity_outcome, submission_fault, late_fault, public, mark, plain_part, sealed_part}
+use Rattle.wb_model.specs.AskingForms.{asking_form, form_of_trail}
 use Rattle.wb_model.specs.Changes.{TurnContext, Change, Begins, Deletes, Notes, Answer, Says, Shows_own, Shows_identity, Verdict, Refused, Accepted, judged}
 use Rattle.wb_model.specs.Rules.{change_alone, answer_alone, effect_at, verdict, verdict_on}
-use Rattle.wb_model.specs.OnReports.{refusal_on, change_on, answer_on}
-use Rattle.wb_model.specs.Effects.{Effect, Looks, Writes, Submits, Sets, effect_of}
-use Rattle.wb_model.proofs.Effects.{share_is, transfer_is, decide_is, comes_is, goes_is, in_open_is, identity_is, set_is}
+use Rattle.wb_model.specs.Effects.{Effect, Looks, Reads, Writes, Submits, Sets, ToReader, ToReporter, TheIdentity}
+use Rattle.wb_model.specs.Commands.{effect_of}
+use Rattle.wb_model.proofs.Effects.{IsToldBy, told as told_by, outlined, set_is}
 use Rattle.wb_model.specs.Host.{Sealed, Tables, Host, live_cases, purged, plain_after, sealed_under, sealed_after, changed, change_of, reply_by, at_frame, time_at, purge_at, ruling_at, reply_to, tables_after, host_after}
 use Rattle.wb_model.specs.Alike.{TablesAlike, HostsAlike, may_see, is_reader, FramesAlike, SubmissionsAlike, IdentitiesAlike, LaterAlike}
 
@@ -63,18 +64,19 @@ abbrev Hides : ℕ → TurnContext → Registry → Who → Case → Effect → 
 Hides r at g who c e = answer_shows r (answer_on at g who c e) ≡ false
 
 on_shows : (r : ℕ) (at : TurnContext) (g : Registry) (who : Who) (c : Case) (o : Outcome) (s : Presented) (d : Command) → may_see r at.time g (On who c) d ≡ false → refusal_on at g who c o (effect_of at g (Some who) s c.trail (outline d)) ≡ None → Hides r at g who c (effect_of at g (Some who) s c.trail (outline d))
-on_shows r at g who c o s (commands.OwnReport t) e accepted = e
-on_shows r at g who c o s (commands.ReadIdentity t n) e accepted = granted_shows (eqb c.number r) (has_grant at.time g who c) not_found e accepted
-on_shows r at g who c o s (commands.ContextOf t k) e accepted = in_open_is (Hides r at g who c) _ k g refl (λ x y is form. refl)
-on_shows r at g who c o s (commands.Submit t k answers) e accepted = in_open_is (Hides r at g who c) Submits k g refl (λ x y is form. refl)
-on_shows r at g who c o s (commands.Login t name password) e accepted = comes_is (Hides r at g who c) (Some who) g.users refl (λ role. refl)
-on_shows r at g who c o s (commands.ReceiptLogin t receipt) e accepted = comes_is (Hides r at g who c) (Some who) g.users refl (λ role. refl)
-on_shows r at g who c o s (commands.Logout t) e accepted = goes_is (Hides r at g who c) s refl (λ turn. refl)
-on_shows r at g who c o s (commands.GiveIdentity t answers) e accepted = identity_is (Hides r at g who c) c.trail g refl refl
-on_shows r at g who c o s (commands.Share t n u) e accepted = share_is (Hides r at g who c) u g refl refl
-on_shows r at g who c o s (commands.Transfer t n k) e accepted = transfer_is (Hides r at g who c) k g refl (λ x is. refl)
-on_shows r at g who c o s (commands.Decide t n k decision reason withhold) e accepted = decide_is (Hides r at g who c) k g c.trail decision reason withhold refl (λ r y. refl)
-on_shows r at g who c o s _ e accepted = refl
+on_shows r at g who c o s d e = subst (λ x. refusal_on at g who c o x ≡ None → Hides r at g who c x) (outlined at g (Some who) s c.trail d) (by (effect_of at g (Some who) s c.trail d) (told_by at g (Some who) s c.trail d))
+  where
+    sees : (x : Command) → d ≡ x → may_see r at.time g (On who c) x ≡ false
+    sees x is = subst (λ y. may_see r at.time g (On who c) y ≡ false) is e
+
+    by : (x : Effect) → IsToldBy g s d x → refusal_on at g who c o x ≡ None → Hides r at g who c x
+    by (Reads ToReporter) k accepted = sees (commands.OwnReport k.1.0) k.1.1
+    by (Reads TheIdentity) k accepted = granted_shows (eqb c.number r) (has_grant at.time g who c) not_found (sees (commands.ReadIdentity k.1.0 k.1.1) k.1.2) accepted
+    by (Reads ToReader) k accepted = reads who
+      where
+        reads : (w : Who) → Hides r at g w c (Reads ToReader)
+        reads w = refl
+    by _ k accepted = refl
 
 alone_shows : (r : ℕ) (at : TurnContext) (p : Plain) (who : Option Who) (e : Effect) → answer_shows r (answer_alone at p who e) ≡ false
 alone_shows r at p who (Looks view) = refl

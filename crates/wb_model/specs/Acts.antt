@@ -1,5 +1,5 @@
 -- Acts on a report: what refuses each, by the report's trail alone, and the deed that it is.
-use Rattle.std.specs.Prelude.{ℕ, nat_le, nat_lt, ◌==◌, not, Bool, true, List, length, Option, Some, option_map}
+use Rattle.std.specs.Prelude.{ℕ, ℤ, nat_le, nat_lt, ◌==◌, not, Bool, true, List, length, Option, Some, option_map}
 use Rattle.std.specs.Int.{int_max}
 use Rattle.std.specs.Option.{option_or}
 use Rattle.wb_base.specs.Calendars.{Calendar}
@@ -60,44 +60,59 @@ full trail = refuses_where (is_full (length trail)) faults.TrailFull
 
 -- ---- the table of acts
 
--- what refuses an act: the first of its rules that does
+-- what refuses it, by the report's trail
+abbrev pub Rule : Type 0
+Rule = List Entry → Option CaseFault
+
+-- the first of two rules that refuses
+abbrev pub first_of : Rule → Rule → Rule
+first_of rule next trail = option_or (rule trail) (next trail)
+
+-- the deed that it is, after a trail, on a calendar
+abbrev pub DeedOf : Type 0
+DeedOf = Calendar → List Entry → Deed
+
+-- whatever there is
+abbrev pub always : Deed → DeedOf
+always deed calendar trail = deed
+
+abbrev pub acknowledged_on : ℤ → DeedOf
+acknowledged_on today calendar trail = deeds.Acknowledged today (terms.feedback_due (trails.received trail) (Some today) (trails.is_extended trail) calendar)
+
+abbrev pub postponed_from : ℤ → ℕ → DeedOf
+postponed_from today retention calendar trail = deeds.Postponed (int_max (trails.expires trail) (terms.expiry today retention))
+
+abbrev pub extended_for : List ℕ → DeedOf
+extended_for reason calendar trail = deeds.Extended (terms.feedback_due (trails.received trail) (trails.acknowledged trail) true calendar) reason
+
+pub record ActColumns : Type 0 where
+  -- the first of its rules that refuses it
+  pub fault : Rule
+  pub deed : DeedOf
+  -- of its reply: 201 where it makes something new, and else 200
+  pub status : ℕ
+
+abbrev pub act_line : Rule → DeedOf → ℕ → ActColumns
+act_line fault deed status = record { fault = fault; deed = deed; status = status }
+
+abbrev pub act_columns : Act → ActColumns
+act_columns (acts.Comment internal text) = act_line (first_of closed full) (always (deeds.Comment internal text)) 201
+act_columns (acts.Label text) = act_line full (always (deeds.Label text)) 200
+act_columns (acts.SetStatus status) = act_line (first_of (has_status status) full) (always (deeds.SetStatus status)) 200
+act_columns (acts.Acknowledge today) = act_line (first_of closed (first_of acknowledged full)) (acknowledged_on today) 201
+act_columns (acts.Feedback text) = act_line (first_of closed full) (always (deeds.Feedback text)) 201
+act_columns (acts.Share user) = act_line (first_of (has_reader user) full) (always (deeds.Shared user)) 201
+act_columns (acts.Unshare user) = act_line (first_of (not_reader user) last_reader) (always (deeds.Unshared user)) 200
+act_columns (acts.Transfer context is_open readers) = act_line (first_of closed (first_of (same_context context) (first_of (λ trail. context_closed is_open) full))) (always (deeds.Transferred context readers)) 201
+act_columns (acts.Postpone today retention) = act_line (first_of postpone_spent full) (postponed_from today retention) 201
+act_columns (acts.Extend reason external) = act_line (first_of closed (first_of (λ trail. not_external external) (first_of extended full))) (extended_for reason) 201
+act_columns acts.Identity = act_line (first_of closed full) (always deeds.Identity) 200
+
 abbrev pub case_fault : List Entry → Act → Option CaseFault
-case_fault trail (acts.Comment internal text) = option_or (closed trail) (full trail)
-case_fault trail (acts.Label text) = full trail
-case_fault trail (acts.SetStatus status) = option_or (has_status status trail) (full trail)
-case_fault trail (acts.Acknowledge today) = option_or (closed trail) (option_or (acknowledged trail) (full trail))
-case_fault trail (acts.Feedback text) = option_or (closed trail) (full trail)
-case_fault trail (acts.Share user) = option_or (has_reader user trail) (full trail)
-case_fault trail (acts.Unshare user) = option_or (not_reader user trail) (last_reader trail)
-case_fault trail (acts.Transfer context is_open readers) = option_or (closed trail) (option_or (same_context context trail) (option_or (context_closed is_open) (full trail)))
-case_fault trail (acts.Postpone today retention) = option_or (postpone_spent trail) (full trail)
-case_fault trail (acts.Extend reason external) = option_or (closed trail) (option_or (not_external external) (option_or (extended trail) (full trail)))
-case_fault trail acts.Identity = option_or (closed trail) (full trail)
+case_fault trail act = (act_columns act).fault trail
 
--- the deed that an act is, after this trail, on this calendar
 abbrev pub act_deed : Calendar → List Entry → Act → Deed
-act_deed calendar trail (acts.Comment internal text) = deeds.Comment internal text
-act_deed calendar trail (acts.Label text) = deeds.Label text
-act_deed calendar trail (acts.SetStatus status) = deeds.SetStatus status
-act_deed calendar trail (acts.Acknowledge today) = deeds.Acknowledged today (terms.feedback_due (trails.received trail) (Some today) (trails.is_extended trail) calendar)
-act_deed calendar trail (acts.Feedback text) = deeds.Feedback text
-act_deed calendar trail (acts.Share user) = deeds.Shared user
-act_deed calendar trail (acts.Unshare user) = deeds.Unshared user
-act_deed calendar trail (acts.Transfer context is_open readers) = deeds.Transferred context readers
-act_deed calendar trail (acts.Postpone today retention) = deeds.Postponed (int_max (trails.expires trail) (terms.expiry today retention))
-act_deed calendar trail (acts.Extend reason external) = deeds.Extended (terms.feedback_due (trails.received trail) (trails.acknowledged trail) true calendar) reason
-act_deed calendar trail acts.Identity = deeds.Identity
+act_deed calendar trail act = (act_columns act).deed calendar trail
 
--- 201 where it makes something new, and else 200
 abbrev pub act_status : Act → ℕ
-act_status (acts.Label text) = 200
-act_status (acts.SetStatus status) = 200
-act_status (acts.Unshare user) = 200
-act_status acts.Identity = 200
-act_status (acts.Comment internal text) = 201
-act_status (acts.Acknowledge today) = 201
-act_status (acts.Feedback text) = 201
-act_status (acts.Share user) = 201
-act_status (acts.Transfer context is_open readers) = 201
-act_status (acts.Postpone today retention) = 201
-act_status (acts.Extend reason external) = 201
+act_status act = (act_columns act).status

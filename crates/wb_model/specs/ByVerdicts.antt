@@ -3,7 +3,7 @@ use Rattle.std.specs.Prelude.{◌≡◌, ℕ, true, List, [], ◌∷◌}
 use Rattle.wb_model.specs.declared.event.Event.{Event}
 use Rattle.wb_model.specs.declared.event.What.{What}
 use Rattle.wb_model.specs.declared.event.What.TheVariants.{Did}
-use Rattle.wb_model.specs.Fits.{fits_command}
+use Rattle.wb_model.specs.Commands.{fits_command}
 use Rattle.wb_model.specs.Readings.{Reading, Asks, Refuses}
 use Rattle.wb_model.specs.Past.{Past, Opening, Turn}
 use Rattle.wb_model.specs.PastTurns.{what_at}

@@ -17,8 +17,7 @@ use Rattle.wb_model.specs.declared.registry.ContextItem.{ContextItem}
 use Rattle.wb_model.specs.declared.registry.UserItem.{UserItem}
 use Rattle.wb_model.specs.Access.{requests}
 use Rattle.wb_model.specs.Trails.{has_identity}
-use Rattle.wb_model.specs.Tables.{Who, TheUser, TheReporter, user}
-use Rattle.wb_model.specs.Targets.{same_role}
+use Rattle.wb_model.specs.Tables.{Who, TheUser, TheReporter, user, same_role}
 use Rattle.wb_model.specs.Json.{told}
 use Rattle.wb_model.specs.Faults.{case_told, custody_told}
 use Rattle.wb_model.specs.ShortViews.{done_view, request_view}

@@ -14,9 +14,9 @@ use Rattle.wb_model.specs.declared.registry.FormItem.{FormItem}
 use Rattle.wb_model.specs.declared.registry.Lists.{Lists}
 use Rattle.wb_model.specs.declared.registry.UserItem.{UserItem}
 use Rattle.wb_model.specs.Trails.{answers, context_in, receipt, has_identity}
-use Rattle.wb_model.specs.Tables.{Registry, Case, user, context, report}
-use Rattle.wb_model.specs.Targets.{same_role}
-use Rattle.wb_model.specs.Requests.{form_of_trail, submission_fault, late_fault, mark}
+use Rattle.wb_model.specs.Tables.{Registry, Case, user, context, report, same_role}
+use Rattle.wb_model.specs.Requests.{submission_fault, late_fault, mark}
+use Rattle.wb_model.specs.AskingForms.{form_of_trail}
 use Rattle.wb_model.specs.Host.{Tables}
 use Rattle.wb_model.specs.Legal.{ascends_from, is_legal, last_at, reckoning}
 use Rattle.wb_model.specs.Opened.{begun, entries_of, is_numbering}

@@ -9,6 +9,7 @@ pub mod Names
 pub mod Refusals
 pub mod Refusing
 pub mod Faults
+pub mod AskingForms
 pub mod Commands
 pub mod Targets
 pub mod ShortViews

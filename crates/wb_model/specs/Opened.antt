@@ -7,7 +7,7 @@ use Rattle.wb_model.specs.declared.registry.FormItem.{FormItem}
 use Rattle.wb_model.specs.declared.registry.UserItem.{UserItem}
 use Rattle.wb_model.specs.Trails.{has_identity}
 use Rattle.wb_model.specs.Tables.{Registry, has_receipt, Case, Session, Who, TheUser, TheReporter, report}
-use Rattle.wb_model.specs.Requests.{form_of_trail}
+use Rattle.wb_model.specs.AskingForms.{form_of_trail}
 use Rattle.wb_model.specs.Settings.{form_key}
 use Rattle.wb_model.specs.Legal.{ascends, IsSound, AreLegal, reckoning, AreLegalIn}
 use Rattle.wb_model.specs.Host.{Tables}

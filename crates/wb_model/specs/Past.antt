@@ -14,10 +14,9 @@ use Rattle.wb_model.specs.declared.event.What.{What}
 use Rattle.wb_model.specs.declared.event.What.TheVariants.{Did, Gap, Idle, Lost}
 use Rattle.wb_model.specs.declared.numbering.Numbering.{Numbering}
 use Rattle.wb_model.specs.Tables.{Registry, Plain, Case, Session, Who, TheUser, TheReporter, report, is_live, is_there, lasts, drawn_on}
-use Rattle.wb_model.specs.Commands.{Need, Names, need}
+use Rattle.wb_model.specs.Commands.{Need, Names, need, effect_of}
 use Rattle.wb_model.specs.Requests.{outline, outcome, secret_of}
 use Rattle.wb_model.specs.Changes.{TurnContext, Change, Nothing, Draws, Begins, Notes, Deletes}
-use Rattle.wb_model.specs.Effects.{effect_of}
 use Rattle.wb_model.specs.OnReports.{change_on}
 use Rattle.wb_model.specs.Rules.{change_alone}
 use Rattle.wb_model.specs.Host.{Tables, Host, is_draw, registry_after, ends, made, remaining}

@@ -16,8 +16,7 @@ use Rattle.wb_model.specs.declared.registry.UserItem.{UserItem}
 use Rattle.wb_base.specs.declared.callers.Role.{Role}
 use Rattle.wb_model.specs.declared.registry.Lists.{Lists}
 use Rattle.wb_model.specs.Commands.{tenant_of}
-use Rattle.wb_model.specs.Tables.{Registry, Case, Session, Who, TheUser, TheReporter, user}
-use Rattle.wb_model.specs.Targets.{same_role}
+use Rattle.wb_model.specs.Tables.{Registry, Case, Session, Who, TheUser, TheReporter, user, same_role}
 use Rattle.wb_model.specs.Settings.{is_recipient}
 use Rattle.wb_model.specs.AnswerRanges.{are_answers}
 use Rattle.wb_model.specs.Fits.{has_bytes, is_settable}

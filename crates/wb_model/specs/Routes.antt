@@ -1,6 +1,6 @@
 -- The table of routes: each path with its methods, and what each method asks. The path's row, its numbers and the methods that a reply lists follow from it.
 use Rattle.std.specs.Prelude.{ℕ, ◌+◌, ◌-◌, ◌==◌, ◌&&◌, ◌||◌, not, Bool, true, if◌then◌else◌, List, [], ◌∷◌, map, drop, find, slice_get, slice_index, codes, Option, Some, None, Result, Ok, Err, is_some, option_map, unwrap_or}
-use Rattle.std.specs.List.{slice_split, join_by, list_any}
+use Rattle.std.specs.List.{slice_split, join_by}
 use Rattle.std.specs.Option.{option_map_or}
 use Rattle.std.specs.Str.{is_utf8}
 use Rattle.std.specs.Str.Parse.{digits_value}
@@ -75,50 +75,6 @@ paths =
     path (codes "/t/{t}/admin/forms/{f}") (puts routes.SetForm ∷ []) ∷
     path (codes "/t/{t}/reports/{n}/extension") (posts routes.Extend ∷ []) ∷
     []
-
--- ---- routes
-
--- the routes, numbered
-abbrev pub route_number : Route → ℕ
-route_number routes.Health = 1
-route_number routes.Public = 2
-route_number routes.ContextOf = 3
-route_number routes.Login = 4
-route_number routes.Logout = 5
-route_number routes.Submit = 6
-route_number routes.OwnReport = 7
-route_number routes.OwnComment = 8
-route_number routes.GiveIdentity = 9
-route_number routes.List = 10
-route_number routes.DueList = 11
-route_number routes.ReadReport = 12
-route_number routes.Comment = 13
-route_number routes.Label = 14
-route_number routes.SetStatus = 15
-route_number routes.Acknowledge = 16
-route_number routes.Feedback = 17
-route_number routes.Share = 18
-route_number routes.Unshare = 19
-route_number routes.Transfer = 20
-route_number routes.Postpone = 21
-route_number routes.Ask = 22
-route_number routes.ReadIdentity = 23
-route_number routes.Requests = 24
-route_number routes.Decide = 25
-route_number routes.Admin = 26
-route_number routes.SetSettings = 27
-route_number routes.SetUser = 28
-route_number routes.SetContext = 29
-route_number routes.SetForm = 30
-route_number routes.Extend = 31
-route_number routes.Delete = 32
-
-abbrev pub same_route : Route → Route → Bool
-same_route a b = route_number a == route_number b
-
--- the table of paths has GET for a route: it only reads
-abbrev pub only_reads : Route → Bool
-only_reads route = list_any (λ (p : Path). list_any (λ (m : Method). is_text m.name (codes "GET") && same_route m.route route) p.methods) paths
 
 -- ---- the row of a path
 

@@ -18,7 +18,8 @@ use Rattle.wb_model.specs.Settings.{proposal_refusal, proposal_told, setting_of}
 use Rattle.wb_model.specs.Changes.{TurnContext, Change, Nothing, Begins, LogsIn, LogsOut, Configures, Answer, Says, Verdict, Refused, judged}
 use Rattle.wb_model.specs.Submissions.{Drawing, drawing, submission_refusal, submission_entry}
 use Rattle.wb_model.specs.Logins.{new_session, welcome}
-use Rattle.wb_model.specs.Effects.{View, OfHealth, OfTenant, OfContext, OfReports, OfDues, OfRequests, OfConfiguration, Effect, Misses, Looks, Reads, Writes, Erases, Submits, Comes, Goes, Sets, caller, effect_of}
+use Rattle.wb_model.specs.Effects.{View, OfHealth, OfTenant, OfContext, OfReports, OfDues, OfRequests, OfConfiguration, Effect, Misses, Looks, Reads, Writes, Erases, Submits, Comes, Goes, Sets, caller}
+use Rattle.wb_model.specs.Commands.{effect_of}
 use Rattle.wb_model.specs.OnReports.{refusal_on, change_on, answer_on}
 
 -- ---- requests on no report: what refuses one

@@ -10,7 +10,7 @@ use Rattle.wb_model.specs.declared.registry.TenantItem.{TenantItem}
 use Rattle.wb_model.specs.declared.registry.UserItem.{UserItem}
 use Rattle.wb_model.specs.declared.registry.FormItem.{FormItem}
 use Rattle.wb_model.specs.declared.registry.ContextItem.{ContextItem}
-use Rattle.wb_model.specs.Targets.{same_role}
+use Rattle.wb_model.specs.Tables.{same_role}
 use Rattle.wb_model.specs.Fits.{is_between, has_bytes, is_staff_role}
 use Rattle.wb_model.specs.Ordered.{are_ordered}
 use Rattle.wb_model.specs.Settings.{form_key}

@@ -20,13 +20,12 @@ use Rattle.wb_model.specs.declared.registry.ContextItem.{ContextItem}
 use Rattle.wb_model.specs.declared.registry.FormItem.{FormItem}
 use Rattle.wb_model.specs.declared.registry.UserItem.{UserItem}
 use Rattle.wb_base.specs.Secrets.{digest}
-use Rattle.wb_model.specs.Tables.{Registry, user, newest_form}
+use Rattle.wb_model.specs.Tables.{Registry, user, newest_form, same_role}
 use Rattle.wb_model.specs.Json.{told}
 use Rattle.wb_model.specs.Refusals.{not_found, form_faulty}
 use Rattle.wb_model.specs.Refusing.{refuses_where}
 use Rattle.wb_model.specs.Faults.{admin_told}
 use Rattle.wb_model.specs.ShortViews.{done_view, version_view}
-use Rattle.wb_model.specs.Targets.{same_role}
 
 -- what an accepted setting puts into the registry
 pub data Setting : Type 0 where

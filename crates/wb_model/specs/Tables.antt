@@ -4,6 +4,7 @@ use Rattle.std.specs.Ordering.{int_eq}
 use Rattle.std.specs.List.{list_any}
 use Rattle.std.specs.Option.{option_map_or}
 use Rattle.wb_base.specs.declared.callers.Role.{Role}
+use Rattle.wb_base.specs.declared.callers.Role.TheVariants as roles
 use Rattle.wb_base.specs.declared.callers.Presented.{Presented}
 use Rattle.wb_base.specs.declared.callers.Presented.TheVariants as presented
 use Rattle.wb_base.specs.declared.words.Digest.{Digest}
@@ -39,6 +40,13 @@ context c contexts = find (λ x. x.id == c) contexts
 -- the newest version of a form: the last, since they stand in the order of their versions
 abbrev pub newest_form : ℕ → List FormItem → Option FormItem
 newest_form f forms = fold (λ before x. if x.id == f then Some x else before) None forms
+
+abbrev pub same_role : Role → Role → Bool
+same_role roles.Reporter roles.Reporter = true
+same_role roles.Recipient roles.Recipient = true
+same_role roles.Custodian roles.Custodian = true
+same_role roles.Admin roles.Admin = true
+same_role _ _ = false
 
 -- how often a user was disabled
 abbrev pub disablings : ℕ → List UserItem → ℕ

@@ -1,7 +1,7 @@
 -- Whom and what a request is about: session, role, right and thing, in this order.
-use Rattle.std.specs.Prelude.{ℕ, Bool, true, false, ◌&&◌, if◌then◌else◌, List, [], Option, Some, None}
+use Rattle.std.specs.Prelude.{ℕ, Bool, true, ◌&&◌, if◌then◌else◌, List, [], Option, Some, None}
 use Rattle.wb_base.specs.declared.callers.Role.{Role}
-use Rattle.wb_base.specs.declared.callers.Role.TheVariants.{Reporter, Recipient, Custodian, Admin}
+use Rattle.wb_base.specs.declared.callers.Role.TheVariants.{Custodian}
 use Rattle.wb_base.specs.declared.callers.Presented.{Presented}
 use Rattle.wb_model.specs.declared.body.Told.{Told}
 use Rattle.wb_model.specs.declared.entry.Entry.{Entry}
@@ -12,7 +12,7 @@ use Rattle.wb_base.specs.declared.words.Salt.{Salt}
 use Rattle.wb_base.specs.Secrets.{digest, same_digest}
 use Rattle.wb_model.specs.Commands.{Right, Free, has_right, Need, Anyone, Any_session, Own, Staff, Names, need}
 use Rattle.wb_model.specs.Trails.{reads}
-use Rattle.wb_model.specs.Tables.{Plain, Case, Session, Who, TheUser, TheReporter, user, user_named, report, session, with_receipt}
+use Rattle.wb_model.specs.Tables.{same_role, Plain, Case, Session, Who, TheUser, TheReporter, user, user_named, report, session, with_receipt}
 use Rattle.wb_model.specs.Refusals.{not_found, no_session, wrong_role, wrong_right, bad_login}
 
 -- ---- the target
@@ -24,13 +24,6 @@ pub data Target : Type 0 where
   Alone : Option Who → Target
   -- on a live report that the caller finds
   On : Who → Case → Target
-
-abbrev pub same_role : Role → Role → Bool
-same_role Reporter Reporter = true
-same_role Recipient Recipient = true
-same_role Custodian Custodian = true
-same_role Admin Admin = true
-same_role _ _ = false
 
 -- a recipient finds the reports that it reads, a custodian every live one
 abbrev pub finds : Role → ℕ → Case → Bool

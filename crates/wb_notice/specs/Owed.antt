@@ -10,8 +10,7 @@ use Rattle.wb_model.specs.declared.registry.UserItem.{UserItem}
 use Rattle.wb_model.specs.Access.{requests, state_now, is_waiting}
 use Rattle.wb_model.specs.Openings.{registry_of}
 use Rattle.wb_model.specs.SetUps.{tenant_ids}
-use Rattle.wb_model.specs.Tables.{Case, Registry, disablings, is_live}
-use Rattle.wb_model.specs.Targets.{same_role}
+use Rattle.wb_model.specs.Tables.{Case, Registry, disablings, is_live, same_role}
 use Rattle.wb_model.specs.Trails.{is_closed, acknowledged, ack_due, feedback_given, feedback_due, expires, reads}
 use Rattle.wb_rows.specs.Reports.{Report}
 use Rattle.wb_rows.specs.Held.{Held}

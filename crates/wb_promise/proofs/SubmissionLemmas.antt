@@ -21,7 +21,8 @@ use Rattle.wb_model.specs.Past.{Past, plain, tables}
 use Rattle.wb_model.specs.PastTurns.{at_frame, reply_at}
 use Rattle.wb_model.specs.Pasts.{AllOpened, part, reply_in}
 use Rattle.wb_model.specs.Readings.{Asks}
-use Rattle.wb_model.specs.Requests.{Frame, submission_outcome, asking_form, open_form, submission_fault}
+use Rattle.wb_model.specs.Requests.{Frame, submission_outcome, submission_fault}
+use Rattle.wb_model.specs.AskingForms.{asking_form, open_form}
 use Rattle.wb_model.specs.Rules.{refusal_alone, answer_alone}
 use Rattle.wb_model.specs.Scripts.{Loss, NotLost, ByKeeper, ByMemory, Unread, Place, frame_of, play_by, play_asked, play}
 use Rattle.wb_model.specs.ShortViews.{submission_view}

@@ -1,4 +1,1 @@
 pub mod Looks
-pub mod Needs
-pub mod Suited
-pub mod Targeted

@@ -1,31 +1,45 @@
--- What a turn stands for, and what a request that looks at something is shown.
-use Rattle.std.specs.Prelude.{◌≡◌, ℕ, Option, Some, List, [], Bool, unwrap_or}
+-- What a request that looks at something is shown.
+use Rattle.std.specs.Prelude.{◌≡◌, ℕ, Option, Some, List, [], Bool, true, false, unwrap_or}
 use Rattle.wb_model.specs.declared.body.Told.{Told}
 use Rattle.wb_model.specs.declared.registry.ContextItem.{ContextItem}
 use Rattle.wb_model.specs.declared.registry.FormItem.{FormItem}
 use Rattle.wb_model.specs.Changes.{TurnContext}
 use Rattle.wb_model.specs.Effects as effects
-use Rattle.wb_model.specs.Effects.{Effect, effect_of}
+use Rattle.wb_model.specs.Effects.{Effect}
+use Rattle.wb_model.specs.Commands.{effect_of}
 use Rattle.wb_model.specs.Json.{told}
 use Rattle.wb_model.specs.Refusals.{not_found}
 use Rattle.wb_model.specs.Rules.{shown}
-use Rattle.wb_model.specs.Tables.{Registry, Plain, Who, context, newest_form, TheUser}
+use Rattle.wb_model.specs.Tables.{Registry, Plain, Who, context, newest_form, TheUser, disablings as disablings_of}
 use Rattle.wb_model.specs.TenantViews.{context_view}
 use Rattle.wb_tables.specs.declared.tenancy.Report.{Report}
 use Rattle.wb_tables.specs.declared.tenancy.Tenancy.{Tenancy as KeptTenancy}
-use Rattle.wb_queries.specs.declared.turn.TurnContext.{TurnContext as KeptAt}
+use Rattle.wb_tables.specs.declared.turn_context.TurnContext.{TurnContext as KeptAt}
 use Rattle.wb_model.specs.Requests.{outline}
 use Rattle.wb_model.specs.Access.{in_force}
-use Rattle.wb_model.specs.Tables.{disablings as disablings_of}
 use Rattle.wb_model.specs.Views.{identity_view as identity_data}
 use Rattle.wb_model.specs.declared.command.Command.{Command}
+use Rattle.wb_model.specs.declared.command.Command.TheVariants as commands
 use Rattle.wb_base.specs.declared.callers.Presented.{Presented}
 use Rattle.wb_custody.specs.SealedAnswers.{answers_of}
 use Rattle.wb_custody.specs.declared.sealed.SealedItem.{SealedItem}
 use Rattle.wb_tables.specs.Kept.{live_plain, plain_of}
+use Rattle.wb_tables.specs.TurnContexts.{at_of}
 
-abbrev pub at_of : KeptAt → TurnContext
-at_of at = record { time = at.time; turn = at.turn; words = at.words }
+-- anyone is shown something
+abbrev pub is_shown_to_all : Command → Bool
+is_shown_to_all commands.Health = true
+is_shown_to_all (commands.Public t) = true
+is_shown_to_all (commands.ContextOf t c) = true
+is_shown_to_all _ = false
+
+-- a user is shown something that is no single report
+abbrev pub is_shown_to_users : Command → Bool
+is_shown_to_users (commands.List t) = true
+is_shown_to_users (commands.DueList t) = true
+is_shown_to_users (commands.Requests t) = true
+is_shown_to_users (commands.Admin t) = true
+is_shown_to_users _ = false
 
 -- the request looks at something, which may not be there
 abbrev pub IsLook : Effect → Type 0

@@ -2,10 +2,10 @@
 ghost use Rattle.std.specs.Prelude.{◌≡◌, Ok, IfOk};
 ghost use Rattle.wb_model.specs.Tenants.{healthy as healthy_told, without_tenant as told_without};
 
-use crate::refused::{Refusal, refuse};
 use std::alloc::Global;
 use wb_base::Memory;
 use wb_model::{Body, Told};
+use wb_views::{Refusal, refuse};
 
 /// The reply that tells that the host serves. It takes no memory.
 pub fn healthy() -> Told

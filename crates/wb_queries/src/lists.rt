@@ -3,31 +3,32 @@ ghost use Rattle.std.specs.Prelude.{◌≡◌, ◌≤◌, ◌++◌, ◌&&◌, []
 ghost use Rattle.wb_base.specs.Days.{day_of as day_at};
 ghost use Rattle.wb_base.specs.declared.callers.Presented.{Presented as Shown};
 ghost use Rattle.wb_model.specs.Access.{requests as asked_on};
-ghost use Rattle.wb_model.specs.Effects.{effect_of};
+ghost use Rattle.wb_model.specs.Commands.{effect_of};
 ghost use Rattle.wb_model.specs.Json.{told};
 ghost use Rattle.wb_model.specs.ListViews as lists;
-ghost use Rattle.wb_model.specs.Requests.{open_form, outline};
+ghost use Rattle.wb_model.specs.Requests.{outline};
+ghost use Rattle.wb_model.specs.AskingForms.{open_form};
 ghost use Rattle.wb_model.specs.Tables.{context as context_by};
 ghost use Rattle.wb_model.specs.TenantViews as tenants;
 ghost use Rattle.wb_model.specs.Trails.{reads as reads_by};
 ghost use Rattle.wb_model.specs.ViewRows as rows_of;
-ghost use Rattle.wb_queries.specs.Looks.{at_of, effect_for, seen_by};
-ghost use Rattle.wb_queries.specs.Looks.{IsLook, ShowsOpen, seen};
-ghost use Rattle.wb_queries.specs.Suited.{is_shown_to_all, is_shown_to_users};
+ghost use Rattle.wb_tables.specs.TurnContexts.{at_of};
+ghost use Rattle.wb_queries.specs.Looks.{effect_for, seen_by};
+ghost use Rattle.wb_queries.specs.Looks.{IsLook, ShowsOpen, is_shown_to_all, is_shown_to_users, seen};
 ghost use Rattle.wb_tables.specs.Indexed.{AreFewRequests};
 ghost use Rattle.wb_tables.specs.Kept.{case_of, plain_of, live_plain, lives_on};
 ghost use Rattle.wb_tables.specs.Places.{IsLookedUp};
 
 use crate::health::healthy;
-use crate::refused::{Refusal, refuse};
-use crate::turn::TurnContext;
 use std::alloc::Global;
 use wb_base::{Day, Memory, Text, UserId};
 use wb_model::{Body, Command, Custodied, Due, Listed, Told};
-use wb_tables::{BoxedReport, Cases, Configuration, Report, Tenancy, lives, reads, today_at};
+use wb_tables::{
+    BoxedReport, Cases, Configuration, Report, Tenancy, TurnContext, lives, reads, today_at,
+};
 use wb_views::{
-    admin_view, context_view, custody_view, due_view, list_view, listed, public_view,
-    push_custodied, push_dues, sort_dues,
+    Refusal, admin_view, context_view, custody_view, due_view, list_view, listed, public_view,
+    push_custodied, push_dues, refuse, sort_dues,
 };
 
 // The reply with a body.

@@ -8,14 +8,12 @@ ghost use Rattle.wb_model.specs.Views.{recipient_view as recipient_data, reporte
 ghost use Rattle.wb_tables.specs.Kept.{case_of};
 ghost use Rattle.wb_queries.specs.Looks.{is_granted, identity_told};
 
-use crate::refused::not_found;
-use crate::turn::TurnContext;
 use std::alloc::Global;
 use wb_base::{Answers, Memory, Tenant, UserId};
 use wb_custody::SealedTable;
 use wb_model::{Body, Told};
-use wb_tables::{Report, Tenancy};
-use wb_views::{identity_view, recipient_view, reporter_view};
+use wb_tables::{Report, Tenancy, TurnContext};
+use wb_views::{identity_view, not_found, recipient_view, reporter_view};
 
 /// The reply to a user's read of a report.
 pub fn read(

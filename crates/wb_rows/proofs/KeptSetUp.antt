@@ -19,7 +19,7 @@ use Rattle.wb_model.specs.Openings.{registry_of}
 use Rattle.wb_model.specs.Settings.{is_recipient, form_key as version_place}
 use Rattle.wb_model.specs.SetUps.{AreSetUp, are_apart, has_form, has_recipients, has_tenant, is_context_item, is_form_item, is_recipient_of, is_tenant_item, is_user_item, same_user_name}
 use Rattle.wb_model.specs.SetUps as set_ups
-use Rattle.wb_model.specs.Targets.{same_role}
+use Rattle.wb_model.specs.Tables.{same_role}
 use Rattle.wb_model.proofs.Found.{find_passing}
 use Rattle.wb_rows.specs.declared.items.ItemsByKind.{ItemsByKind}
 use Rattle.wb_rows.specs.Blame.{first_breaking, first_repeated}

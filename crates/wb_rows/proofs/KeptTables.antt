@@ -18,7 +18,7 @@ use Rattle.wb_model.specs.KeptRules.{AreKept, are_valid_after, has_public_answer
 use Rattle.wb_model.specs.Legal.{is_legal, last_at}
 use Rattle.wb_model.specs.Opened.{begun, entries_of, is_numbering}
 use Rattle.wb_model.specs.Openings.{registry_of}
-use Rattle.wb_model.specs.Requests.{form_of_trail}
+use Rattle.wb_model.specs.AskingForms.{form_of_trail}
 use Rattle.wb_model.specs.SetUps.{AreSetUp, are_apart}
 use Rattle.wb_model.specs.Tables.{report}
 use Rattle.wb_model.specs.Trails.{has_identity, is_marked, submission_in}

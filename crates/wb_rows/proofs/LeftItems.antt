@@ -37,12 +37,12 @@ use Rattle.wb_model.specs.Opened as model
 use Rattle.wb_base.specs.Calendars.{ascend, are_holidays}
 use Rattle.wb_model.specs.AnswerRanges.{are_answers}
 use Rattle.wb_model.specs.Readable.{are_bytes, is_stored_tenant, is_count, is_withheld, is_own_form, has_id_of, IsOwn, is_stored, is_entry_of, are_sealed, is_readable, AreReadable}
-use Rattle.wb_model.specs.Requests.{form_of_trail, submission_fault, mark}
+use Rattle.wb_model.specs.Requests.{submission_fault, mark}
+use Rattle.wb_model.specs.AskingForms.{form_of_trail}
 use Rattle.wb_model.specs.Reopened.{without_sessions}
 use Rattle.wb_model.specs.Settings.{is_recipient}
 use Rattle.wb_model.specs.SetUps.{is_offset, is_tenant_item, is_user_item, is_form_item, is_context_item}
-use Rattle.wb_model.specs.Tables.{Registry, Case, user, context}
-use Rattle.wb_model.specs.Targets.{same_role}
+use Rattle.wb_model.specs.Tables.{Registry, Case, user, context, same_role}
 use Rattle.wb_model.specs.Tenants.{Tenancy}
 use Rattle.wb_model.specs.Trails as trails
 use Rattle.wb_model.specs.Trails.{Submission, submission_in, context_in}

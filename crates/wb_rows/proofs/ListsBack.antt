@@ -18,7 +18,7 @@ use Rattle.wb_model.specs.Openings.{registry_of}
 use Rattle.wb_model.specs.Settings.{is_recipient}
 use Rattle.wb_model.specs.SetUps.{AreSetUp, are_apart, has_form, has_recipients, is_form_item, is_recipient_of, same_user_name}
 use Rattle.wb_model.specs.SetUps as set_ups
-use Rattle.wb_model.specs.Targets.{same_role}
+use Rattle.wb_model.specs.Tables.{same_role}
 use Rattle.wb_model.proofs.Found.{find_passing, Held as In}
 use Rattle.wb_rows.specs.Blame.{first_breaking, first_repeated, blamed}
 use Rattle.wb_rows.specs.ListRules.{follows, has_tenant_rows, has_version, is_right_context, list_fault}

@@ -11,7 +11,8 @@ use Rattle.wb_model.specs.declared.registry.FormItem.{FormItem}
 use Rattle.wb_model.specs.Access.{user_by}
 use Rattle.wb_model.specs.KeptRules.{has_public_answers, are_valid_after}
 use Rattle.wb_model.specs.Legal.{Reckoning, done, is_first, is_free, is_legal, is_next, legal_from, right_actor, right_values}
-use Rattle.wb_model.specs.Requests.{form_of_trail, late_fault, mark, submission_fault}
+use Rattle.wb_model.specs.Requests.{late_fault, mark, submission_fault}
+use Rattle.wb_model.specs.AskingForms.{form_of_trail}
 use Rattle.wb_model.specs.Trails.{Submission, answers, form, receipt, submission_in, submitted, version}
 
 -- none of them is a submission

@@ -14,7 +14,7 @@ use Rattle.wb_desk.specs.contracts.kept.Kept as Kept
 use Rattle.wb_desk.specs.contracts.pass.Pass as Pass
 use Rattle.wb_desk.proofs.kept.Kept.TheSendSync as kept
 use Rattle.wb_desk.proofs.pass.Pass.TheSendSync as pass
-use Rattle.wb_gate.specs.contracts.job.Turn as Turn
+use Rattle.wb_desk.specs.contracts.job.Turn as Turn
 use Rattle.wb_model.specs.contracts.body.Told as Told
 use Rattle.wb_ticket_lock.specs.contracts.deed.ByWork as ByWork
 use Rattle.wb_ticket_lock.specs.contracts.deed.ByWorkTransitionDeed.TheImpl as ByDeeds

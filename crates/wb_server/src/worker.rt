@@ -8,9 +8,8 @@ use std::sync::ledger::Ledger;
 use std::thread;
 use std::thread::Threads;
 use wb_base::Keeper;
-use wb_desk::Origin;
+use wb_desk::{Gate, Origin, Turn};
 use wb_front::{Station, Worked, work};
-use wb_gate::{Gate, Turn};
 use wb_transport::{Listener, Ticker};
 use wb_wire::Routes;
 

@@ -1,9 +1,9 @@
 //! A host whose turns are booked, and a gate through which two passes share it.
 ghost use Rattle.std.specs.Prelude.{◌≡◌, true, IfOk};
-ghost use Rattle.wb_model.specs.Fits.{fits};
+ghost use Rattle.wb_model.specs.Commands.{fits};
 ghost use Rattle.wb_model.specs.Rows.{rows_of};
 ghost use Rattle.wb_tables.specs.Standing.{hosts_of};
-ghost use Rattle.wb_gate.specs.Turns.{IsAsked};
+ghost use Rattle.wb_desk.specs.Jobs.{IsAsked};
 
 use crate::hosts::{moment, opened};
 use std::alloc::Global;
@@ -13,8 +13,8 @@ use std::sync::Wait;
 use std::sync::ledger::{Blank, Ledger};
 use std::test::Fail;
 use wb_base::{MemKeeper, Words};
-use wb_desk::{Desk, Kept, Origin, Pass, Tally};
-use wb_gate::{Gate, LockGate, Turn, close};
+use wb_desk::{Desk, Gate, Kept, Origin, Pass, Tally, Turn};
+use wb_gate::{LockGate, close};
 use wb_model::{Asked, Told};
 use wb_wire::{Routes, read_request};
 

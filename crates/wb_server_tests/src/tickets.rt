@@ -12,8 +12,7 @@ use std::sync::Wait;
 use std::sync::ledger::{Blank, Ledger};
 use std::test::Fail;
 use wb_base::MemKeeper;
-use wb_desk::{Desk, Kept, Origin};
-use wb_gate::Gate;
+use wb_desk::{Desk, Gate, Kept, Origin};
 use wb_ticket::{ClosingRoom, TicketGate, TicketSeat, Tickets, close_tickets};
 use wb_wire::Routes;
 

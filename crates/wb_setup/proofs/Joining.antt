@@ -12,7 +12,7 @@ use Rattle.wb_model.specs.declared.registry.TenantItem.{TenantItem}
 use Rattle.wb_model.specs.declared.registry.UserItem.{UserItem}
 use Rattle.wb_model.specs.Settings.{form_key}
 use Rattle.wb_model.specs.SetUps.{is_tenant_item, is_user_item, is_form_item, is_context_item, are_apart, are_owned, has_tenant, has_form, is_recipient_of, has_recipients, follows, same_user_name, tenant_ids, AreSetUp}
-use Rattle.wb_model.specs.Targets.{same_role}
+use Rattle.wb_model.specs.Tables.{same_role}
 use Rattle.wb_setup.specs.Joined.{lists_with}
 use Rattle.wb_setup.specs.Keys.{tenant_key}
 use Rattle.wb_setup.proofs.Groups.{all_pass, eq_back, key_ties}

@@ -9,7 +9,7 @@ use Rattle.wb_model.specs.declared.registry.FormItem.{FormItem}
 use Rattle.wb_model.specs.Bodies.{json, form}
 use Rattle.wb_model.specs.Fits.{are_distinct}
 use Rattle.wb_model.specs.SetUps.{are_apart}
-use Rattle.wb_model.specs.Targets.{same_role}
+use Rattle.wb_model.specs.Tables.{same_role}
 use Rattle.wb_setup.specs.declared.given.GivenUser.{GivenUser}
 use Rattle.wb_setup.specs.declared.given.GivenForm.{GivenForm}
 use Rattle.wb_setup.specs.declared.given.GivenContext.{GivenContext}

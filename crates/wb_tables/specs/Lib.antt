@@ -8,3 +8,4 @@ pub mod Noted
 pub mod Places
 pub mod Receipted
 pub mod Standing
+pub mod TurnContexts

@@ -15,6 +15,7 @@ mod reports;
 mod sessions;
 mod tenancy;
 mod tenants;
+mod turn_context;
 
 pub use boxed_report::{BoxedReport, UnnumberedReport};
 pub use cases::Cases;
@@ -28,3 +29,4 @@ pub use reports::{live_report, lives, reads, report_of_receipt, today_at};
 pub use sessions::{Sessions, live_session};
 pub use tenancy::{Login, Report, Tenancy, Who};
 pub use tenants::place_at;
+pub use turn_context::TurnContext;

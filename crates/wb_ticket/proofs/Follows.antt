@@ -15,7 +15,7 @@ use Rattle.wb_desk.specs.Hosted.{Hosted}
 use Rattle.wb_desk.specs.Turned.{CameTo}
 use Rattle.wb_ticket_lock.specs.Histories.{Leads}
 use Rattle.wb_model.specs.Tenants.{Hosts}
-use Rattle.wb_gate.specs.Turns.{IsAsked}
+use Rattle.wb_desk.specs.Jobs.{IsAsked}
 use Rattle.wb_ticket.specs.Owned.{AskedAndTold, TurnEntry, IsTurnOf, answered}
 use Rattle.wb_ticket.specs.Scripts.{AreAnswered, IsScript, IsSpent, place_of}
 

@@ -5,7 +5,7 @@ use Rattle.wb_model.specs.declared.body.Told.{Told}
 use Rattle.wb_model.specs.Requests.{Frame}
 use Rattle.wb_desk.specs.Hosted.{Hosted, Hand}
 use Rattle.wb_desk.specs.Turned.{Turned}
-use Rattle.wb_gate.specs.Turns.{IsAsked}
+use Rattle.wb_desk.specs.Jobs.{IsAsked}
 use Rattle.wb_ticket_lock.specs.declared.entry.Entry.{Entry}
 
 -- what was asked at a moment with random words, and what was told

@@ -9,8 +9,7 @@ use std::marker::Model;
 use std::sync::Wait;
 use std::sync::ledger::Ledger;
 use wb_base::Keeper;
-use wb_desk::Origin;
-use wb_gate::{Gate, Turn};
+use wb_desk::{Gate, Origin, Turn};
 use wb_model::Told;
 use wb_ticket_lock::enter;
 

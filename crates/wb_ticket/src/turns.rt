@@ -1,8 +1,7 @@
 //! Turns of a host, as what is done in the entries of its lock.
 use std::sync::ledger::Ledger;
 use wb_base::Keeper;
-use wb_desk::{Kept, Origin, Pass};
-use wb_gate::{Job, Turn};
+use wb_desk::{Job, Kept, Origin, Pass, Turn};
 use wb_model::Told;
 use wb_ticket_lock::{ByWork, Deed, LockSeat, TicketLock, Work};
 

@@ -1,3 +1,4 @@
 pub mod RefusalBodies
+pub mod Refused
 pub mod Seen
 pub mod Shown

@@ -4,7 +4,7 @@ use Rattle.serde_json.specs.Data.{Data}
 use Rattle.serde_json.specs.Written.{compact_text}
 use Rattle.wb_model.specs.declared.registry.ContextItem.{ContextItem}
 use Rattle.wb_model.specs.declared.registry.FormItem.{FormItem}
-use Rattle.wb_model.specs.Requests.{asking_form}
+use Rattle.wb_model.specs.AskingForms.{asking_form}
 use Rattle.wb_model.specs.Tables.{Registry, context, newest_form}
 use Rattle.wb_model.specs.TenantViews.{context_view, admin_form, newest_forms}
 

@@ -1,4 +1,4 @@
-//! The JSON bodies of replies, each of one definition, and the rows that lists show.
+//! The JSON bodies of replies, each of one definition, the rows that lists show, and how a request is refused.
 #![tactic(auto)]
 
 mod admin;
@@ -7,6 +7,7 @@ mod lists;
 mod parts;
 mod recipient;
 mod refusals;
+mod refused;
 mod remarks;
 mod reporter;
 mod rows;
@@ -19,7 +20,7 @@ pub use admin::admin_view;
 pub use asked::push_custodied;
 pub use lists::{custody_view, due_view, list_view};
 pub use recipient::recipient_view;
-pub use refusals::{Detail, refusal};
+pub use refused::{Refusal, not_found, refuse, refuse_answers, refuse_form};
 pub use reporter::{identity_view, reporter_view};
 pub use rows::{listed, push_dues, sort_dues};
 pub use short::{done_view, request_view, session_view, version_view};

@@ -5,7 +5,7 @@ use Rattle.std.specs.List.{list_all, flat_map}
 use Rattle.std.proofs.Math.Seq.{drop-cons}
 use Rattle.std.specs.Option.{option_map_or}
 use Rattle.std.proofs.lemmas.Bool.{and_parts, leb-true}
-use Rattle.wb_model.specs.declared.route.Route.{Route}
+use Rattle.wb_wire.specs.declared.paths.Allowed.{Allowed}
 use Rattle.wb_wire.specs.Paths.{name_of, method_of, methods_of, more_name}
 use Rattle.wb_model.specs.Routes.{Path, paths, methods, method_names}
 
@@ -25,11 +25,11 @@ pub short_methods : (number : ℕ) → length (method_names (methods number)) �
 short_methods number = short_at paths (number - 1) all_short
 
 -- a name that is left fits where all that are left do
-pub one_fits : (size n : ℕ) (ms : List Route) (d : Route) → n < length ms → size + length (flat_map more_name (methods_of (drop n ms))) ≤ 256 → size + (2 + length (name_of (get_or ms n d))) ≤ 256
+pub one_fits : (size n : ℕ) (ms : List Allowed) (d : Allowed) → n < length ms → size + length (flat_map more_name (methods_of (drop n ms))) ≤ 256 → size + (2 + length (name_of (get_or ms n d).verb)) ≤ 256
 one_fits size n ms d here room =
     let next = drop-cons ms n d here in
     let first = get_or ms n d in
     let rest = flat_map more_name (methods_of (drop (suc n) ms)) in
-    let all : length (flat_map more_name (methods_of (drop n ms))) ≡ length (more_name (method_of first) ++ rest) = ap (λ (l : List Route). length (flat_map more_name (methods_of l))) next in
-    let name : length (more_name (method_of first)) ≡ 2 + length (name_of first) = length-append (codes ", ") (name_of first) in
+    let all : length (flat_map more_name (methods_of (drop n ms))) ≡ length (more_name (method_of first) ++ rest) = ap (λ (l : List Allowed). length (flat_map more_name (methods_of l))) next in
+    let name : length (more_name (method_of first)) ≡ 2 + length (name_of first.verb) = length-append (codes ", ") (name_of first.verb) in
     omega (arith, room, all, name, length-append (more_name (method_of first)) rest)

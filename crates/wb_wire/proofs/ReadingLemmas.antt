@@ -17,11 +17,11 @@ use Rattle.wb_model.specs.declared.wire.WireFault.{WireFault}
 use Rattle.wb_model.specs.declared.wire.WireFault.TheVariants as faults
 use Rattle.wb_model.specs.Bodies.{json}
 use Rattle.wb_model.specs.RouteBodies.{Numbers, bare, shaped}
-use Rattle.wb_model.specs.Fits.{fits, fits_command, fits_session, is_path_number}
+use Rattle.wb_model.specs.Fits.{fits_session, is_path_number}
+use Rattle.wb_model.specs.Commands.{fits, fits_command, is_health}
 use Rattle.wb_model.specs.Heads.{Fields, BeginsWithHead, closes, closes_by, path, fields_of, values, is_number, is_token, token, presented_by, session}
 use Rattle.wb_model.specs.Readings.{Reading, Asks, Reads, Closes, and_then, sized, Located, located_by, located, located_or_fault, routed, body_by, command_by, command, asks, reading_by, reading_of}
 use Rattle.wb_model.specs.Routes.{Path, number_of_path, path_at, segments, path_number, are_numbers, number_under, route}
-use Rattle.wb_model.specs.Commands.{is_health}
 use Rattle.wb_wire.proofs.ShapeLemmas.{GoodForms, GoodAnswers, HasGoodAnswers, body_answers, AreNumbers, IsOfBody, shaped_of, bare_fits}
 
 -- ---- one head, one reading

@@ -1,5 +1,6 @@
 -- What the body of a route asks fits, and it never asks for the host's health.
-use Rattle.std.proofs.Common.{◌≡◌, ℕ, ◌==◌, not, nat_le, Bool, true, false, List, [], length, Option, Some, None, IfSome, option_map, option_and_then, refl, sym, ap, subst, ◌∙◌, codes, if◌then◌else◌, inl, inr}
+use Rattle.std.proofs.Common.{◌≡◌, ℕ, ◌==◌, not, nat_le, Bool, true, false, List, [], length, Option, Some, None, IfSome, option_map, option_and_then, refl, sym, ap, subst, ◌∙◌, codes, if◌then◌else◌, inl, inr, arith}
+use Rattle.std.specs.Option.{option_map_or}
 use Rattle.std.specs.Str.{is_utf8}
 use Rattle.std.proofs.lemmas.Bool.{cases_Bool, and_parts}
 use Rattle.serde_json.specs.Data.{Data}
@@ -25,11 +26,11 @@ use Rattle.wb_model.specs.declared.entry.Status.TheVariants as statuses
 use Rattle.wb_model.specs.declared.route.Route.{Route}
 use Rattle.wb_model.specs.declared.route.Route.TheVariants as routes
 use Rattle.wb_model.specs.AnswerRanges.{are_answers}
-use Rattle.wb_model.specs.Fits.{fits_command, are_distinct, is_between, has_bytes, is_path_number, is_settable, is_staff_role, fits_password, fits_withhold, fits_settings, fits_user, fits_context, fits_form}
+use Rattle.wb_model.specs.Fits.{are_distinct, is_between, has_bytes, is_path_number, is_settable, is_staff_role, fits_password, fits_withhold, fits_settings, fits_user, fits_context, fits_form}
+use Rattle.wb_model.specs.Commands.{fits_command, is_health}
 use Rattle.wb_model.specs.Bodies as bodies
 use Rattle.wb_model.specs.Bodies.{under, if_under, json, without_floats, answers, some_answers, form_by, form_if, form}
 use Rattle.wb_model.specs.RouteBodies.{Numbers, bare, shaped}
-use Rattle.wb_model.specs.Commands.{is_health}
 
 -- ---- options
 
@@ -199,6 +200,10 @@ IsOfBody c = (fits_command c ≡ true) × (is_health c ≡ false)
 abbrev pub IsRead : Option Command → Type 0
 IsRead o = Gives_only IsOfBody o
 
+-- a body of one value
+one_if : {X : Type 0} (make : X → Command) (test : Bool) (o : Option X) → ((x : X) → o ≡ Some x → IsOfBody (make x)) → IsRead (if test then option_map make o else None)
+one_if make test o made = test_if IsOfBody test _ (map_if IsOfBody make o made)
+
 login_of : (t : ℕ) (d : Data) → is_path_number t ≡ true → IsRead (bodies.login t d)
 login_of t d ht = elim (cases_Bool (size d == 1)) [
   | inl one ↦ rw one (map_if IsOfBody (λ r. commands.ReceiptLogin t r) _ (λ r e. (rw (ht, text_fits 1 64 (codes "receipt") d r e) refl, refl)))
@@ -208,9 +213,6 @@ login_of t d ht = elim (cases_Bool (size d == 1)) [
 submission_of : (t : ℕ) (d : Data) → HasGoodAnswers d → is_path_number t ≡ true → IsRead (bodies.submission t d)
 submission_of t d good ht = test_if IsOfBody _ _ (then_if IsOfBody _ _ (λ c e. map_if IsOfBody (λ a. commands.Submit t c a) _ (λ a f. (rw (ht, whole_fits 1 64 (codes "context") d c e, answers_fit d a good f) refl, refl))))
 
-own_comment_of : (t : ℕ) (d : Data) → is_path_number t ≡ true → IsRead (bodies.own_comment t d)
-own_comment_of t d ht = test_if IsOfBody _ _ (map_if IsOfBody (λ s. commands.OwnComment t s) _ (λ s e. (rw (ht, text_fits 1 4_096 (codes "text") d s e) refl, refl)))
-
 identity_of : (t : ℕ) (d : Data) → HasGoodAnswers d → is_path_number t ≡ true → IsRead (bodies.identity t d)
 identity_of t d good ht = test_if IsOfBody _ _ (map_if IsOfBody (λ a. commands.GiveIdentity t a) _ (λ a e.
     let both = some_fit d a good e in
@@ -218,27 +220,6 @@ identity_of t d good ht = test_if IsOfBody _ _ (map_if IsOfBody (λ a. commands.
 
 comment_of : (t n : ℕ) (d : Data) → is_path_number t ≡ true → is_path_number n ≡ true → IsRead (bodies.comment t n d)
 comment_of t n d ht hn = test_if IsOfBody _ _ (then_if IsOfBody _ _ (λ s e. map_if IsOfBody (λ i. commands.Comment t n s i) _ (λ i f. (rw (ht, hn, text_fits 1 4_096 (codes "text") d s e) refl, refl))))
-
-label_of : (t n : ℕ) (d : Data) → is_path_number t ≡ true → is_path_number n ≡ true → IsRead (bodies.label t n d)
-label_of t n d ht hn = test_if IsOfBody _ _ (map_if IsOfBody (λ l. commands.Label t n l) _ (λ l e. (rw (ht, hn, text_fits 0 64 (codes "label") d l e) refl, refl)))
-
-status_of : (t n : ℕ) (d : Data) → is_path_number t ≡ true → is_path_number n ≡ true → IsRead (bodies.new_status t n d)
-status_of t n d ht hn = test_if IsOfBody _ _ (map_if IsOfBody (λ s. commands.SetStatus t n s) _ (λ s e. (rw (ht, hn, under_kept is_settable bodies.status (codes "status") status_kept d s e) refl, refl)))
-
-feedback_of : (t n : ℕ) (d : Data) → is_path_number t ≡ true → is_path_number n ≡ true → IsRead (bodies.feedback t n d)
-feedback_of t n d ht hn = test_if IsOfBody _ _ (map_if IsOfBody (λ s. commands.Feedback t n s) _ (λ s e. (rw (ht, hn, text_fits 1 4_096 (codes "text") d s e) refl, refl)))
-
-share_of : (t n : ℕ) (d : Data) → is_path_number t ≡ true → is_path_number n ≡ true → IsRead (bodies.share t n d)
-share_of t n d ht hn = test_if IsOfBody _ _ (map_if IsOfBody (λ u. commands.Share t n u) _ (λ u e. (rw (ht, hn) refl, refl)))
-
-transfer_of : (t n : ℕ) (d : Data) → is_path_number t ≡ true → is_path_number n ≡ true → IsRead (bodies.transfer t n d)
-transfer_of t n d ht hn = test_if IsOfBody _ _ (map_if IsOfBody (λ c. commands.Transfer t n c) _ (λ c e. (rw (ht, hn, whole_fits 1 64 (codes "context") d c e) refl, refl)))
-
-extend_of : (t n : ℕ) (d : Data) → is_path_number t ≡ true → is_path_number n ≡ true → IsRead (bodies.extend t n d)
-extend_of t n d ht hn = test_if IsOfBody _ _ (map_if IsOfBody (λ r. commands.Extend t n r) _ (λ r e. (rw (ht, hn, text_fits 1 1_024 (codes "reason") d r e) refl, refl)))
-
-ask_of : (t n : ℕ) (d : Data) → is_path_number t ≡ true → is_path_number n ≡ true → IsRead (bodies.ask t n d)
-ask_of t n d ht hn = test_if IsOfBody _ _ (map_if IsOfBody (λ r. commands.Ask t n r) _ (λ r e. (rw (ht, hn, text_fits 1 1_024 (codes "reason") d r e) refl, refl)))
 
 decide_of : (t n k : ℕ) (d : Data) → is_path_number t ≡ true → is_path_number n ≡ true → is_path_number k ≡ true → IsRead (bodies.decide t n k d)
 decide_of t n k d ht hn hk = test_if IsOfBody _ _ (then_if IsOfBody _ _ (λ c e. then_if IsOfBody _ _ (λ r f. map_if IsOfBody (λ w. commands.Decide t n k c r w) _ (λ w g. (rw (ht, hn, hk, text_fits 1 1_024 (codes "reason") d r f, withheld_kept c d w g) refl, refl)))))
@@ -272,16 +253,16 @@ AreNumbers at = (name : List ℕ) → is_path_number (at name) ≡ true
 pub shaped_of : GoodForms → (r : Route) (at : Numbers) (d : Data) → HasGoodAnswers d → AreNumbers at → IsRead (shaped r at d)
 shaped_of good routes.Login at d ordered h = login_of _ d (h (codes "{t}"))
 shaped_of good routes.Submit at d ordered h = submission_of _ d ordered (h (codes "{t}"))
-shaped_of good routes.OwnComment at d ordered h = own_comment_of _ d (h (codes "{t}"))
+shaped_of good routes.OwnComment at d ordered h = one_if (λ s. commands.OwnComment (at (codes "{t}")) s) _ _ (λ s e. (rw (h (codes "{t}"), text_fits 1 4_096 (codes "text") d s e) refl, refl))
 shaped_of good routes.GiveIdentity at d ordered h = identity_of _ d ordered (h (codes "{t}"))
 shaped_of good routes.Comment at d ordered h = comment_of _ _ d (h (codes "{t}")) (h (codes "{n}"))
-shaped_of good routes.Label at d ordered h = label_of _ _ d (h (codes "{t}")) (h (codes "{n}"))
-shaped_of good routes.SetStatus at d ordered h = status_of _ _ d (h (codes "{t}")) (h (codes "{n}"))
-shaped_of good routes.Feedback at d ordered h = feedback_of _ _ d (h (codes "{t}")) (h (codes "{n}"))
-shaped_of good routes.Share at d ordered h = share_of _ _ d (h (codes "{t}")) (h (codes "{n}"))
-shaped_of good routes.Transfer at d ordered h = transfer_of _ _ d (h (codes "{t}")) (h (codes "{n}"))
-shaped_of good routes.Extend at d ordered h = extend_of _ _ d (h (codes "{t}")) (h (codes "{n}"))
-shaped_of good routes.Ask at d ordered h = ask_of _ _ d (h (codes "{t}")) (h (codes "{n}"))
+shaped_of good routes.Label at d ordered h = one_if (λ s. commands.Label (at (codes "{t}")) (at (codes "{n}")) s) _ _ (λ s e. (rw (h (codes "{t}"), h (codes "{n}"), text_fits 0 64 (codes "label") d s e) refl, refl))
+shaped_of good routes.SetStatus at d ordered h = one_if (λ s. commands.SetStatus (at (codes "{t}")) (at (codes "{n}")) s) _ _ (λ s e. (rw (h (codes "{t}"), h (codes "{n}"), under_kept is_settable bodies.status (codes "status") status_kept d s e) refl, refl))
+shaped_of good routes.Feedback at d ordered h = one_if (λ s. commands.Feedback (at (codes "{t}")) (at (codes "{n}")) s) _ _ (λ s e. (rw (h (codes "{t}"), h (codes "{n}"), text_fits 1 4_096 (codes "text") d s e) refl, refl))
+shaped_of good routes.Share at d ordered h = one_if (λ u. commands.Share (at (codes "{t}")) (at (codes "{n}")) u) _ _ (λ u e. (rw (h (codes "{t}"), h (codes "{n}")) refl, refl))
+shaped_of good routes.Transfer at d ordered h = one_if (λ c. commands.Transfer (at (codes "{t}")) (at (codes "{n}")) c) _ _ (λ c e. (rw (h (codes "{t}"), h (codes "{n}"), whole_fits 1 64 (codes "context") d c e) refl, refl))
+shaped_of good routes.Extend at d ordered h = one_if (λ r. commands.Extend (at (codes "{t}")) (at (codes "{n}")) r) _ _ (λ r e. (rw (h (codes "{t}"), h (codes "{n}"), text_fits 1 1_024 (codes "reason") d r e) refl, refl))
+shaped_of good routes.Ask at d ordered h = one_if (λ r. commands.Ask (at (codes "{t}")) (at (codes "{n}")) r) _ _ (λ r e. (rw (h (codes "{t}"), h (codes "{n}"), text_fits 1 1_024 (codes "reason") d r e) refl, refl))
 shaped_of good routes.Decide at d ordered h = decide_of _ _ _ d (h (codes "{t}")) (h (codes "{n}")) (h (codes "{k}"))
 shaped_of good routes.SetSettings at d ordered h = set_if fits_settings (λ s. commands.SetSettings (at (codes "{t}")) s) _ (settings_of d) (λ s e. (rw (h (codes "{t}"), e) refl, refl))
 shaped_of good routes.SetUser at d ordered h = set_if fits_user (λ u. commands.SetUser (at (codes "{t}")) (at (codes "{u}")) u) _ (user_of d) (λ u e. (rw (h (codes "{t}"), h (codes "{u}"), e) refl, refl))
@@ -290,20 +271,13 @@ shaped_of good routes.SetForm at d ordered h = form_of_body good _ _ d (h (codes
 shaped_of good _ at d ordered h = record { given = tt }
 
 -- the command of a route without a body fits
+if_there : (o : Option Command) → option_map_or fits_command o true ≡ true → IfSome o (λ c. fits_command c ≡ true)
+if_there None fits = tt
+if_there (Some c) fits = fits
+
 pub bare_fits : (r : Route) (at : Numbers) → AreNumbers at → IfSome (bare r at) (λ c. fits_command c ≡ true)
-bare_fits routes.Health at h = refl
-bare_fits routes.Public at h = rw (h (codes "{t}")) refl
-bare_fits routes.ContextOf at h = rw (h (codes "{t}"), h (codes "{c}")) refl
-bare_fits routes.Logout at h = rw (h (codes "{t}")) refl
-bare_fits routes.OwnReport at h = rw (h (codes "{t}")) refl
-bare_fits routes.List at h = rw (h (codes "{t}")) refl
-bare_fits routes.DueList at h = rw (h (codes "{t}")) refl
-bare_fits routes.ReadReport at h = rw (h (codes "{t}"), h (codes "{n}")) refl
-bare_fits routes.Acknowledge at h = rw (h (codes "{t}"), h (codes "{n}")) refl
-bare_fits routes.Unshare at h = rw (h (codes "{t}"), h (codes "{n}"), h (codes "{u}")) refl
-bare_fits routes.Postpone at h = rw (h (codes "{t}"), h (codes "{n}")) refl
-bare_fits routes.Delete at h = rw (h (codes "{t}"), h (codes "{n}")) refl
-bare_fits routes.ReadIdentity at h = rw (h (codes "{t}"), h (codes "{n}")) refl
-bare_fits routes.Requests at h = rw (h (codes "{t}")) refl
-bare_fits routes.Admin at h = rw (h (codes "{t}")) refl
-bare_fits _ at h = tt
+bare_fits r at h = if_there (bare r at) (by r)
+  where
+    by : (x : Route) → option_map_or fits_command (bare x at) true ≡ true
+    by routes.Health = refl
+    by _ = grind (arith, h (codes "{t}"), h (codes "{n}"), h (codes "{c}"), h (codes "{u}"))

@@ -3,7 +3,7 @@ ghost use Rattle.std.specs.Prelude.{◌≡◌, ◌++◌, ℕ, List, Bool, true};
 ghost use Rattle.wb_model.specs.declared.command.Asked.{Asked};
 ghost use Rattle.wb_model.specs.declared.wire.ScriptFrame.{ScriptFrame};
 ghost use Rattle.wb_model.specs.FrameTexts.{frame_text, IsFrame};
-ghost use Rattle.wb_model.specs.Fits.{fits};
+ghost use Rattle.wb_model.specs.Commands.{fits};
 ghost use Rattle.wb_model.specs.Readings.{Reading, Asks, Reads, Closes};
 ghost use Rattle.wb_wire.specs.SetupText.{setup_text, IsSetup};
 

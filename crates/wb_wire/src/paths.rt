@@ -6,87 +6,82 @@ ghost use Rattle.wb_wire.specs.Paths.{path_of, patterns_of, methods_of, name_of}
 use http::Method;
 use wb_model::{PathNo, Route};
 
-/// A path, in which a name in braces stands for a number, and what its methods ask, in the order of `Allow`.
+/// A method (RFC 9110, section 9).
+#[derive(Clone, Copy)]
+pub enum Verb {
+    Get,
+    Post,
+    Put,
+    Delete,
+}
+
+impl Verb {
+    /// The method with its name.
+    pub fn method(self) -> Method
+        ensures { result ≡ name_of self }
+    {
+        match self {
+            Verb::Get => Method::GET,
+            Verb::Post => Method::POST,
+            Verb::Put => Method::PUT,
+            Verb::Delete => Method::DELETE,
+        }
+    }
+}
+
+/// A method that a path allows, and what it asks.
+#[derive(Clone, Copy)]
+pub struct Allowed {
+    pub verb: Verb,
+    pub route: Route,
+}
+
+/// A path, in which a name in braces stands for a number, and the methods that it allows, in the order of `Allow`.
 pub struct Path {
     pub pattern: &'static str,
-    pub methods: &'static [Route],
+    pub methods: &'static [Allowed],
 }
 
 macro_rules! path {
-    ($pattern:literal, $($route:ident),+) => {
-        Path { pattern: $pattern, methods: &[$(Route::$route),+] }
+    ($pattern:literal, $($verb:ident $route:ident),+) => {
+        Path {
+            pattern: $pattern,
+            methods: &[$(Allowed { verb: Verb::$verb, route: Route::$route }),+],
+        }
     };
 }
 
 static PATHS: [Path; 29] = [
-    path!("/health", Health),
-    path!("/t/{t}", Public),
-    path!("/t/{t}/contexts/{c}", ContextOf),
-    path!("/t/{t}/sessions", Login, Logout),
-    path!("/t/{t}/reports", Submit, List),
-    path!("/t/{t}/report", OwnReport),
-    path!("/t/{t}/report/comments", OwnComment),
-    path!("/t/{t}/report/identity", GiveIdentity),
-    path!("/t/{t}/due", DueList),
-    path!("/t/{t}/reports/{n}", ReadReport, Delete),
-    path!("/t/{t}/reports/{n}/comments", Comment),
-    path!("/t/{t}/reports/{n}/label", Label),
-    path!("/t/{t}/reports/{n}/status", SetStatus),
-    path!("/t/{t}/reports/{n}/acknowledgement", Acknowledge),
-    path!("/t/{t}/reports/{n}/feedback", Feedback),
-    path!("/t/{t}/reports/{n}/readers", Share),
-    path!("/t/{t}/reports/{n}/readers/{u}", Unshare),
-    path!("/t/{t}/reports/{n}/transfer", Transfer),
-    path!("/t/{t}/reports/{n}/postponement", Postpone),
-    path!("/t/{t}/reports/{n}/access", Ask),
-    path!("/t/{t}/reports/{n}/identity", ReadIdentity),
-    path!("/t/{t}/access", Requests),
-    path!("/t/{t}/access/{n}/{k}", Decide),
-    path!("/t/{t}/admin", Admin),
-    path!("/t/{t}/admin/settings", SetSettings),
-    path!("/t/{t}/admin/users/{u}", SetUser),
-    path!("/t/{t}/admin/contexts/{c}", SetContext),
-    path!("/t/{t}/admin/forms/{f}", SetForm),
-    path!("/t/{t}/reports/{n}/extension", Extend),
+    path!("/health", Get Health),
+    path!("/t/{t}", Get Public),
+    path!("/t/{t}/contexts/{c}", Get ContextOf),
+    path!("/t/{t}/sessions", Post Login, Delete Logout),
+    path!("/t/{t}/reports", Post Submit, Get List),
+    path!("/t/{t}/report", Get OwnReport),
+    path!("/t/{t}/report/comments", Post OwnComment),
+    path!("/t/{t}/report/identity", Put GiveIdentity),
+    path!("/t/{t}/due", Get DueList),
+    path!("/t/{t}/reports/{n}", Get ReadReport, Delete Delete),
+    path!("/t/{t}/reports/{n}/comments", Post Comment),
+    path!("/t/{t}/reports/{n}/label", Put Label),
+    path!("/t/{t}/reports/{n}/status", Put SetStatus),
+    path!("/t/{t}/reports/{n}/acknowledgement", Post Acknowledge),
+    path!("/t/{t}/reports/{n}/feedback", Post Feedback),
+    path!("/t/{t}/reports/{n}/readers", Post Share),
+    path!("/t/{t}/reports/{n}/readers/{u}", Delete Unshare),
+    path!("/t/{t}/reports/{n}/transfer", Post Transfer),
+    path!("/t/{t}/reports/{n}/postponement", Post Postpone),
+    path!("/t/{t}/reports/{n}/access", Post Ask),
+    path!("/t/{t}/reports/{n}/identity", Get ReadIdentity),
+    path!("/t/{t}/access", Get Requests),
+    path!("/t/{t}/access/{n}/{k}", Post Decide),
+    path!("/t/{t}/admin", Get Admin),
+    path!("/t/{t}/admin/settings", Put SetSettings),
+    path!("/t/{t}/admin/users/{u}", Put SetUser),
+    path!("/t/{t}/admin/contexts/{c}", Put SetContext),
+    path!("/t/{t}/admin/forms/{f}", Put SetForm),
+    path!("/t/{t}/reports/{n}/extension", Post Extend),
 ];
-
-/// The method that asks this (RFC 9110, section 9).
-pub fn method_of(route: Route) -> Method
-    ensures { result ≡ name_of route }
-{
-    match route {
-        Route::Health
-        | Route::Public
-        | Route::ContextOf
-        | Route::List
-        | Route::OwnReport
-        | Route::DueList
-        | Route::ReadReport
-        | Route::ReadIdentity
-        | Route::Requests
-        | Route::Admin => Method::GET,
-        Route::Login
-        | Route::Submit
-        | Route::OwnComment
-        | Route::Comment
-        | Route::Acknowledge
-        | Route::Feedback
-        | Route::Share
-        | Route::Transfer
-        | Route::Postpone
-        | Route::Extend
-        | Route::Ask
-        | Route::Decide => Method::POST,
-        Route::GiveIdentity
-        | Route::Label
-        | Route::SetStatus
-        | Route::SetSettings
-        | Route::SetUser
-        | Route::SetContext
-        | Route::SetForm => Method::PUT,
-        Route::Logout | Route::Delete | Route::Unshare => Method::DELETE,
-    }
-}
 
 // All paths, in the order of their numbers.
 fn paths() -> &'static [Path]
@@ -111,12 +106,12 @@ pub fn row(number: PathNo) -> Option<&'static Path>
 }
 
 /// What a method of a path asks. It takes no memory, whatever the method.
-pub fn route(name: &[u8], methods: &[Route]) -> Option<Route>
+pub fn route(name: &[u8], methods: &[Allowed]) -> Option<Route>
     ensures { result ≡ route_of name.now (methods_of methods.now) }
 {
-    for route in methods {
-        if method_of(*route).as_str().as_bytes() == name {
-            return Some(*route);
+    for allowed in methods {
+        if allowed.verb.method().as_str().as_bytes() == name {
+            return Some(allowed.route);
         }
     }
     None

@@ -6,14 +6,13 @@ ghost use Rattle.wb_model.specs.Replies.{head_text, output_line, allow_line, clo
 ghost use Rattle.wb_model.specs.Routes.{methods as methods_by, method_names};
 ghost use Rattle.wb_wire.specs.Paths.{methods_of, more_name};
 
-use crate::paths::{method_of, row};
+use crate::paths::{Allowed, row};
 use crate::{Head, Line, PathNo};
 use http::StatusCode;
 use itoa::Buffer;
-use wb_model::Route;
 
-// What the methods of a path ask.
-fn methods(path: PathNo) -> &'static [Route]
+// The methods that a path allows.
+fn methods(path: PathNo) -> &'static [Allowed]
     ensures methods { methods_of result.now ≡ methods_by path }
     ensures short { length (method_names (methods_of result.now)) ≤ 12 }
 {
@@ -24,23 +23,23 @@ fn methods(path: PathNo) -> &'static [Route]
 }
 
 // The names of more methods, each after a comma and a space.
-fn put_more(head: &mut Head, methods: &[Route])
+fn put_more(head: &mut Head, methods: &[Allowed])
     requires { length head.old + length (flat_map more_name (methods_of methods.now)) ≤ 256 }
     ensures { head.new ≡ head.old ++ flat_map more_name (methods_of methods.now) }
 {
-    for route in methods {
+    for allowed in methods {
         head.put(b", ");
-        head.put(method_of(*route).as_str().as_bytes());
+        head.put(allowed.verb.method().as_str().as_bytes());
     }
 }
 
 // The names of methods, parted by a comma and a space.
-fn put_methods(head: &mut Head, methods: &[Route])
+fn put_methods(head: &mut Head, methods: &[Allowed])
     requires { length head.old + length (method_names (methods_of methods.now)) ≤ 256 }
     ensures { head.new ≡ head.old ++ method_names (methods_of methods.now) }
 {
     if let [first, more @ ..] = methods {
-        head.put(method_of(*first).as_str().as_bytes());
+        head.put(first.verb.method().as_str().as_bytes());
         put_more(head, more);
     }
 }

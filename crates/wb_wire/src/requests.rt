@@ -4,9 +4,8 @@ ghost use Rattle.httparse.specs.Spans.{header_bytes, IsHeaderWithin};
 ghost use Rattle.wb_model.specs.declared.command.Asked.{Asked as AskedOf};
 ghost use Rattle.wb_model.specs.declared.command.Command.{Command as CommandOf};
 ghost use Rattle.wb_model.specs.RouteBodies.{bare as bare_of};
-ghost use Rattle.wb_model.specs.Fits.{fits};
+ghost use Rattle.wb_model.specs.Commands.{fits, is_health};
 ghost use Rattle.wb_model.specs.Readings.{Reads, Closes, Asks, Refuses, sized as sized_of, located, body_by, command as command_of, closes_always as closes_always_of};
-ghost use Rattle.wb_model.specs.Commands.{is_health};
 ghost use Rattle.wb_wire.specs.Places.{place_value, at_place};
 ghost use Rattle.wb_wire.specs.RequestParts.{fields_in, asks_of, GivesOrWants, GivesBody};
 

@@ -1,6 +1,6 @@
 use Rattle.std.proofs.Common.{Some, sym, subst}
 use Rattle.wb_model.specs.Tables.{TheUser}
-use Rattle.wb_queries.specs.Looks.{at_of}
+use Rattle.wb_tables.specs.TurnContexts.{at_of}
 use Rattle.wb_commands.specs.Steps.{IsAskedOnReport}
 use Rattle.wb_commands.proofs.acts.acting.Goals as goal
 

@@ -1,5 +1,5 @@
 use Rattle.std.proofs.Common.{sym}
-use Rattle.wb_commands.proofs.Families.{trail_form_good}
+use Rattle.wb_commands.proofs.SetUps.{trail_form_good}
 use Rattle.wb_commands.proofs.identity.give_identity.Goals as goal
 
 pub give_after-requires : goal.give_after-requires

@@ -1,6 +1,6 @@
 use Rattle.std.proofs.lemmas.Result.{IfOk-weaker}
 use Rattle.wb_model.specs.Settings.{ToUser}
-use Rattle.wb_commands.proofs.Families.{no_user, told_proposed}
+use Rattle.wb_commands.proofs.Proposed.{no_user, told_proposed}
 use Rattle.wb_commands.proofs.settings.set_user.Goals as goal
 
 pub returns-in-None : goal.returns-in-None

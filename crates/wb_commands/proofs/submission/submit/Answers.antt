@@ -1,9 +1,9 @@
 use Rattle.std.proofs.Common.{◌∙◌}
 use Rattle.std.proofs.lemmas.Result.{IfOk-weaker}
 use Rattle.wb_model.specs.Requests.{submission_fault}
-use Rattle.wb_queries.specs.Looks.{at_of}
+use Rattle.wb_tables.specs.TurnContexts.{at_of}
 use Rattle.wb_tables.specs.Kept.{plain_of, live_plain}
-use Rattle.wb_commands.proofs.Steps.{refused_plan}
+use Rattle.wb_commands.proofs.Plans.{refused_plan}
 use Rattle.wb_commands.proofs.Submissions.{newest_good, faulted}
 use Rattle.wb_commands.proofs.submission.submit.Goals as goal
 

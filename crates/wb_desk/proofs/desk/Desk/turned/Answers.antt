@@ -1,7 +1,7 @@
 use Rattle.std.proofs.Common.{◌≡◌, ◌+◌, ◌++◌, ◌<◌, ◌≤◌, List, length, take, drop, map, refl, sym, ap, ◌∙◌, subst, arith}
 use Rattle.std.proofs.Math.Seq.{take-append_seam}
 use Rattle.wb_model.specs.Requests.{Frame}
-use Rattle.wb_queries.specs.declared.turn.TurnContext.{TurnContext as KeptAt}
+use Rattle.wb_tables.specs.declared.turn_context.TurnContext.{TurnContext as KeptAt}
 use Rattle.wb_tables.specs.Kept.{place_of}
 use Rattle.wb_tables.specs.Places.{ArePlaces}
 use Rattle.wb_tables.specs.Standing.{Standing}

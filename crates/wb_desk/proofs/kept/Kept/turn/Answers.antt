@@ -1,5 +1,5 @@
 use Rattle.std.proofs.Common.{◌≡◌, ◌+◌, true, ap, ◌∙◌, sym, subst, cond, nat_lt, arith}
-use Rattle.wb_model.specs.Fits.{fits_command}
+use Rattle.wb_model.specs.Commands.{fits_command}
 use Rattle.wb_model.specs.Requests.{Frame}
 use Rattle.wb_model.specs.Rows.{rows_of}
 use Rattle.wb_tables.specs.Standing.{hosts_of}
