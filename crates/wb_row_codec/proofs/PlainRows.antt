@@ -1,6 +1,8 @@
 -- No number in the JSON of a kept row is kept as a floating one.
-use Rattle.std.proofs.Common.{◌≡◌, ◌++◌, List, ◌∷◌, false, refl}
-use Rattle.std.specs.Prelude.{codes}
+use Rattle.std.proofs.Common.{◌≡◌, ◌++◌, Bool, true, List, [], ◌∷◌, false, refl, arith}
+use Rattle.std.specs.Prelude.{codes, not}
+use Rattle.std.specs.List.{list_all}
+use Rattle.std.proofs.lemmas.Bool.{and_parts}
 use Rattle.serde_json.specs.Data.{string}
 use Rattle.serde_json.specs.Written.{has_float}
 use Rattle.wb_json.proofs.NoFloats.{ArePlain, plain_append, in-object, in-list, in-or_null, in-answers}
@@ -30,24 +32,24 @@ between_plain (deeds.Acknowledged day feedback_due) = (refl, tt)
 between_plain (deeds.Transferred context readers) = (refl, tt)
 between_plain _ = tt
 
+-- what is seen by computing
+abbrev are_plain : List Member → Bool
+are_plain ms = list_all (λ m. not (has_float m.1)) ms
+
+plain_by : (ms : List Member) → are_plain ms ≡ true → ArePlain ms
+plain_by [] all = tt
+plain_by (m ∷ ms) all = let parts = and_parts (not (has_float m.1)) (are_plain ms) all in (by (has_float m.1) parts.0, plain_by ms parts.1)
+  where
+    by : (b : Bool) → not b ≡ true → b ≡ false
+    by true e = absurd (grind (arith, e))
+    by false e = refl
+
 last_plain : (d : Deed) → ArePlain (deed_keys d).last
 last_plain (deeds.Submitted ack_due answers context expires feedback_due form mark readers receipt received version) =
     (refl, (refl, (refl, (refl, (in-list whole (λ n. refl) readers, (refl, (refl, (refl, tt))))))))
-last_plain deeds.Identity = tt
-last_plain (deeds.Comment internal text) = (refl, (refl, tt))
-last_plain (deeds.Label text) = (refl, tt)
-last_plain (deeds.SetStatus status) = (refl, tt)
-last_plain (deeds.Acknowledged day feedback_due) = (refl, tt)
-last_plain (deeds.Feedback text) = (refl, tt)
-last_plain (deeds.Shared user) = (refl, tt)
-last_plain (deeds.Unshared user) = (refl, tt)
 last_plain (deeds.Transferred context readers) = (in-list whole (λ n. refl) readers, tt)
-last_plain (deeds.Postponed expires) = (refl, tt)
-last_plain (deeds.Extended feedback_due reason) = (refl, (refl, tt))
-last_plain (deeds.Asked reason stamp) = (refl, (refl, tt))
 last_plain (deeds.Granted effective reason request withheld) = (refl, (refl, (refl, (in-or_null string (λ text. refl) withheld, tt))))
-last_plain (deeds.Denied reason request) = (refl, (refl, tt))
-last_plain (deeds.Revoked reason request) = (refl, (refl, tt))
+last_plain d = plain_by (deed_keys d).last refl
 
 pub in-entry : (e : Entry) → has_float (entry_data e) ≡ false
 unfolding entry_data
