@@ -6,6 +6,7 @@ pub mod Moves
 pub mod Tables
 pub mod Json
 pub mod Names
+pub mod DeedFields
 pub mod Refusals
 pub mod Refusing
 pub mod Faults

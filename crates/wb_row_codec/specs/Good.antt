@@ -1,15 +1,16 @@
 -- Which items are good: each value is in its range. Their rows are those that are read.
-use Rattle.std.specs.Prelude.{ℕ, ◌&&◌, nat_le, Bool, true, List, ℤ, pos, neg_ℤ}
+use Rattle.std.specs.Prelude.{ℕ, ◌&&◌, nat_le, Bool, true, List, [], ◌∷◌, ℤ, pos, neg_ℤ}
 use Rattle.std.specs.List.{list_all}
+use Rattle.std.specs.Option.{option_map_or}
 use Rattle.wb_model.specs.declared.entry.Actor.{Actor}
 use Rattle.wb_model.specs.declared.entry.Actor.TheVariants as actors
 use Rattle.wb_model.specs.declared.entry.Deed.{Deed}
-use Rattle.wb_model.specs.declared.entry.Deed.TheVariants as deeds
 use Rattle.wb_model.specs.declared.entry.Entry.{Entry as EntryData}
 use Rattle.wb_model.specs.declared.numbering.Numbering.{Numbering as NumberingData}
 use Rattle.wb_model.specs.AnswerRanges.{are_answers}
+use Rattle.wb_model.specs.DeedFields.{Field, Value, Keyed, Values, said, Whole, Text, TextOrNull, Date, Flag, Hash, Users, Answers, StatusName}
 use Rattle.wb_model.specs.Fits.{is_between, has_bytes, is_settable}
-use Rattle.wb_model.specs.Readable.{are_bytes, is_count, is_stored_tenant, is_withheld}
+use Rattle.wb_model.specs.Readable.{are_bytes, is_count, is_stored_tenant}
 use Rattle.wb_model.specs.SetUps.{is_tenant_item, is_user_item, is_form_item, is_context_item}
 use Rattle.wb_row_codec.specs.declared.item.Item.{Item}
 use Rattle.wb_row_codec.specs.declared.item.Item.TheVariants.{Settings, Numbering, User, Form, Context, Entry, Sealed}
@@ -36,24 +37,24 @@ abbrev pub is_actor : Actor → Bool
 is_actor actors.Reporter = true
 is_actor (actors.User u) = is_between 1 256 u
 
+-- a value is in the range of its field
+abbrev pub is_in : (f : Field) → Value f → Bool
+is_in (Whole least most) n = is_between least most n
+is_in (Text least most) text = has_bytes least most text
+is_in (TextOrNull least most) text = option_map_or (has_bytes least most) text true
+is_in Date day = is_dated day
+is_in Flag flag = true
+is_in Hash digest = are_bytes 32 digest.0
+is_in Users users = are_users users
+is_in Answers answers = are_answers answers
+is_in StatusName status = is_settable status
+
+abbrev pub are_in : (fs : List Keyed) → Values fs → Bool
+are_in [] vs = true
+are_in (f ∷ fs) vs = is_in f.1 vs.0 && are_in fs vs.1
+
 abbrev pub is_deed : Deed → Bool
-is_deed (deeds.Submitted ack_due answers context expires feedback_due form mark readers receipt received version) =
-    is_dated ack_due && are_answers answers && is_between 1 64 context && is_dated expires && is_dated feedback_due && is_between 1 16 form && are_users readers && are_bytes 32 receipt.0 && is_dated received && is_between 1 99 version
-is_deed deeds.Identity = true
-is_deed (deeds.Comment internal text) = has_bytes 1 4_096 text
-is_deed (deeds.Label text) = has_bytes 0 64 text
-is_deed (deeds.SetStatus status) = is_settable status
-is_deed (deeds.Acknowledged day feedback_due) = is_dated day && is_dated feedback_due
-is_deed (deeds.Feedback text) = has_bytes 1 4_096 text
-is_deed (deeds.Shared user) = is_between 1 256 user
-is_deed (deeds.Unshared user) = is_between 1 256 user
-is_deed (deeds.Transferred context readers) = is_between 1 64 context && are_users readers
-is_deed (deeds.Postponed expires) = is_dated expires
-is_deed (deeds.Extended feedback_due reason) = is_dated feedback_due && has_bytes 1 1_024 reason
-is_deed (deeds.Asked reason stamp) = has_bytes 1 1_024 reason && nat_le stamp 10_000
-is_deed (deeds.Granted effective reason request withheld) = nat_le effective 100_002_591_999 && has_bytes 1 1_024 reason && is_count request && is_withheld withheld
-is_deed (deeds.Denied reason request) = has_bytes 1 1_024 reason && is_count request
-is_deed (deeds.Revoked reason request) = has_bytes 1 1_024 reason && is_count request
+is_deed d = are_in (said d).shape.fields (said d).values
 
 abbrev pub is_entry : EntryData → Bool
 is_entry e = is_moment e.at && is_actor e.by && is_deed e.deed

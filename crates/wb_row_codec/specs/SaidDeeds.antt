@@ -1,4 +1,4 @@
--- The entry of a trail that a JSON object stands for, deed by deed, each value in its range.
+-- The entry of a trail that a JSON object stands for, its deed by the table of deeds, each value in its range.
 use Rattle.std.specs.Prelude.{ℕ, ◌==◌, if◌then◌else◌, List, [], ◌∷◌, codes, Option, Some, None, option_map, option_and_then}
 use Rattle.serde_json.specs.Data.{Data, null, string}
 use Rattle.serde_json.specs.Find.{as_str, as_bool}
@@ -6,95 +6,57 @@ use Rattle.wb_base.specs.AnswerList.{is_text}
 use Rattle.wb_model.specs.declared.entry.Actor.{Actor}
 use Rattle.wb_model.specs.declared.entry.Actor.TheVariants as actors
 use Rattle.wb_model.specs.declared.entry.Deed.{Deed}
-use Rattle.wb_model.specs.declared.entry.Deed.TheVariants as deeds
 use Rattle.wb_model.specs.declared.entry.Entry.{Entry}
 use Rattle.wb_model.specs.Bodies.{under, text, whole, answers, status}
+use Rattle.wb_model.specs.DeedFields as table
+use Rattle.wb_model.specs.DeedFields.{Field, Value, Keyed, Maker, Shape, Whole, Text, TextOrNull, Date, Flag, Hash, Users, Answers, StatusName}
 use Rattle.wb_row_codec.specs.Shapes.{digest, day, users}
+
+-- ---- fields
+
+-- a text of so many bytes, or null
+abbrev pub text_or_null : ℕ → ℕ → Data → Option (Option (List ℕ))
+text_or_null least most null = Some None
+text_or_null least most (string s) = option_map Some (text least most (string s))
+text_or_null least most _ = None
+
+-- the value of a field
+abbrev pub value : (f : Field) → Data → Option (Value f)
+value (Whole least most) d = whole least most d
+value (Text least most) d = text least most d
+value (TextOrNull least most) d = text_or_null least most d
+value Date d = day d
+value Flag d = as_bool d
+value Hash d = digest d
+value Users d = users d
+value Answers d = answers d
+value StatusName d = status d
+
+-- what is made of the values under these keys
+abbrev pub made : (fs : List Keyed) → Maker fs → Data → Option Deed
+made [] deed d = Some deed
+made (f ∷ fs) make d = option_and_then (λ v. made fs (make v) d) (under f.0 (value f.1) d)
 
 -- ---- deeds by their names
 
--- a deed's name, and how its object is read
-abbrev pub Reader : Type 0
-Reader = List ℕ × (Data → Option Deed)
+abbrev pub of_shape : Shape → Data → Option Deed
+of_shape shape d = made shape.fields shape.make d
 
 -- the deed of a name, where one of these has it
-abbrev pub by_name : List Reader → List ℕ → Data → Option Deed
+abbrev pub by_name : List Shape → List ℕ → Data → Option Deed
 by_name [] name d = None
-by_name (r ∷ rs) name d = if is_text name r.0 then r.1 d else by_name rs name d
+by_name (s ∷ ss) name d = if is_text name s.name then of_shape s d else by_name ss name d
 
--- ---- deeds of requests for the identity
+-- those of requests for the identity
+abbrev pub request_deeds : List Shape
+request_deeds = table.asked ∷ table.granted ∷ table.denied ∷ table.revoked ∷ []
 
-abbrev pub asked : Data → Option Deed
-asked d = option_and_then (λ reason. option_map (λ stamp. deeds.Asked reason stamp) (under (codes "stamp") (whole 0 10_000) d)) (under (codes "reason") (text 1 1_024) d)
+-- those of a report's follow-up, and of requests
+abbrev pub follow_deeds : List Shape
+follow_deeds = table.acknowledged ∷ table.feedback ∷ table.shared ∷ table.unshared ∷ table.transferred ∷ table.postponed ∷ table.extended ∷ request_deeds
 
--- a text, or null
-abbrev pub withheld : Data → Option (Option (List ℕ))
-withheld null = Some None
-withheld (string s) = option_map Some (text 1 1_024 (string s))
-withheld _ = None
-
-abbrev pub granted : Data → Option Deed
-granted d = option_and_then (λ effective. option_and_then (λ reason. option_and_then (λ request. option_map (λ why. deeds.Granted effective reason request why)
-    (under (codes "withheld") withheld d)) (under (codes "request") (whole 0 4_294_967_295) d)) (under (codes "reason") (text 1 1_024) d)) (under (codes "effective") (whole 0 100_002_591_999) d)
-
-abbrev pub denied : Data → Option Deed
-denied d = option_and_then (λ reason. option_map (λ request. deeds.Denied reason request) (under (codes "request") (whole 0 4_294_967_295) d)) (under (codes "reason") (text 1 1_024) d)
-
-abbrev pub revoked : Data → Option Deed
-revoked d = option_and_then (λ reason. option_map (λ request. deeds.Revoked reason request) (under (codes "request") (whole 0 4_294_967_295) d)) (under (codes "reason") (text 1 1_024) d)
-
-abbrev pub request_deeds : List Reader
-request_deeds = (codes "asked", asked) ∷ (codes "granted", granted) ∷ (codes "denied", denied) ∷ (codes "revoked", revoked) ∷ []
-
--- ---- deeds of its follow-up
-
-abbrev pub acknowledged : Data → Option Deed
-acknowledged d = option_and_then (λ today. option_map (λ feedback_due. deeds.Acknowledged today feedback_due) (under (codes "feedback_due") day d)) (under (codes "day") day d)
-
-abbrev pub feedback : Data → Option Deed
-feedback d = option_map (λ said. deeds.Feedback said) (under (codes "text") (text 1 4_096) d)
-
-abbrev pub shared : Data → Option Deed
-shared d = option_map (λ user. deeds.Shared user) (under (codes "user") (whole 1 256) d)
-
-abbrev pub unshared : Data → Option Deed
-unshared d = option_map (λ user. deeds.Unshared user) (under (codes "user") (whole 1 256) d)
-
-abbrev pub transferred : Data → Option Deed
-transferred d = option_and_then (λ context. option_map (λ readers. deeds.Transferred context readers) (under (codes "readers") users d)) (under (codes "context") (whole 1 64) d)
-
-abbrev pub postponed : Data → Option Deed
-postponed d = option_map (λ expires. deeds.Postponed expires) (under (codes "expires") day d)
-
-abbrev pub extended : Data → Option Deed
-extended d = option_and_then (λ feedback_due. option_map (λ reason. deeds.Extended feedback_due reason) (under (codes "reason") (text 1 1_024) d)) (under (codes "feedback_due") day d)
-
-abbrev pub follow_deeds : List Reader
-follow_deeds =
-    (codes "acknowledged", acknowledged) ∷ (codes "feedback", feedback) ∷ (codes "shared", shared) ∷ (codes "unshared", unshared) ∷
-    (codes "transferred", transferred) ∷ (codes "postponed", postponed) ∷ (codes "extended", extended) ∷ request_deeds
-
--- ---- deeds of a report's life, and each deed by its name
-
-abbrev pub submitted : Data → Option Deed
-submitted d = option_and_then (λ ack_due. option_and_then (λ given. option_and_then (λ context. option_and_then (λ expires. option_and_then (λ feedback_due. option_and_then (λ form. option_and_then (λ mark. option_and_then (λ readers. option_and_then (λ receipt. option_and_then (λ received. option_map (λ version.
-    deeds.Submitted ack_due given context expires feedback_due form mark readers receipt received version)
-    (under (codes "version") (whole 1 99) d)) (under (codes "received") day d)) (under (codes "receipt") digest d)) (under (codes "readers") users d)) (under (codes "mark") as_bool d)) (under (codes "form") (whole 1 16) d)) (under (codes "feedback_due") day d)) (under (codes "expires") day d)) (under (codes "context") (whole 1 64) d)) (under (codes "answers") answers d)) (under (codes "ack_due") day d)
-
-abbrev pub comment : Data → Option Deed
-comment d = option_and_then (λ internal. option_map (λ said. deeds.Comment internal said) (under (codes "text") (text 1 4_096) d)) (under (codes "internal") as_bool d)
-
-abbrev pub label : Data → Option Deed
-label d = option_map (λ said. deeds.Label said) (under (codes "text") (text 0 64) d)
-
-abbrev pub set_status : Data → Option Deed
-set_status d = option_map (λ s. deeds.SetStatus s) (under (codes "status") status d)
-
-abbrev pub identity : Data → Option Deed
-identity d = Some deeds.Identity
-
-abbrev pub all_deeds : List Reader
-all_deeds = (codes "submitted", submitted) ∷ (codes "identity", identity) ∷ (codes "comment", comment) ∷ (codes "label", label) ∷ (codes "status", set_status) ∷ follow_deeds
+abbrev pub all_deeds : List Shape
+all_deeds = table.submitted ∷ table.identity ∷ table.comment ∷ table.label ∷ table.set_status ∷ follow_deeds
 
 -- ---- the entry
 

@@ -4,7 +4,7 @@ ghost use Rattle.serde_json.specs.View.{view};
 ghost use Rattle.wb_model.specs.Access.{user_by};
 ghost use Rattle.wb_model.specs.Rows.{entry_data};
 
-use crate::write_deed::{deed_name, put_between, put_first, put_last};
+use crate::write_deed::{deed_name, put_deed};
 use serde_json::{Map, Value};
 use std::alloc::Global;
 use wb_base::Memory;
@@ -26,11 +26,9 @@ pub fn entry_value(alloc: Global, entry: &Entry) -> Result<Value, Memory>
     ensures { IfOk result (λ value. view value ≡ entry_data entry.now) }
 {
     let mut map = Map::new(alloc);
-    put_last(&mut map, alloc, &entry.deed)?;
+    put_deed(&mut map, alloc, &entry.deed)?;
     put_text(&mut map, alloc, "deed", deed_name(&entry.deed))?;
-    put_between(&mut map, alloc, &entry.deed)?;
     put_whole(&mut map, alloc, "by", number_by(entry.by))?;
     put_whole(&mut map, alloc, "at", entry.at.seconds())?;
-    put_first(&mut map, alloc, &entry.deed)?;
     Ok(Value::Object(map))
 }

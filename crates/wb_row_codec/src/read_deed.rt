@@ -2,6 +2,7 @@
 ghost use Rattle.std.specs.Prelude.{◌≡◌, option_map};
 ghost use Rattle.serde_json.specs.View.{view};
 ghost use Rattle.wb_model.specs.Bodies.{under, whole};
+ghost use Rattle.wb_model.specs.DeedFields as table;
 ghost use Rattle.wb_row_codec.specs.SaidDeeds as said;
 ghost use Rattle.wb_json.specs.Gives.{Gives};
 
@@ -18,7 +19,7 @@ use wb_json::{
 use wb_model::{Actor, Deed, Entry};
 
 fn submitted(alloc: Global, value: &Value) -> Result<Deed, ReadError>
-    ensures { Gives (said.submitted (view value.now)) result }
+    ensures { Gives (said.of_shape table.submitted (view value.now)) result }
 {
     let ack_due = day_under(value, "ack_due")?;
     let answers = answers_under(alloc, value, "answers")?;
@@ -47,7 +48,7 @@ fn submitted(alloc: Global, value: &Value) -> Result<Deed, ReadError>
 }
 
 fn comment(alloc: Global, value: &Value) -> Result<Deed, ReadError>
-    ensures { Gives (said.comment (view value.now)) result }
+    ensures { Gives (said.of_shape table.comment (view value.now)) result }
 {
     let internal = flag_under(value, "internal")?;
     let text = text_under(alloc, value, "text", 1, limits::TEXT_BYTES)?;
@@ -55,14 +56,14 @@ fn comment(alloc: Global, value: &Value) -> Result<Deed, ReadError>
 }
 
 fn label(alloc: Global, value: &Value) -> Result<Deed, ReadError>
-    ensures { Gives (said.label (view value.now)) result }
+    ensures { Gives (said.of_shape table.label (view value.now)) result }
 {
     let text = text_under(alloc, value, "text", 0, limits::LABEL_BYTES)?;
     Ok(Deed::Label { text })
 }
 
 fn set_status(value: &Value) -> Result<Deed, ReadError>
-    ensures { Gives (said.set_status (view value.now)) result }
+    ensures { Gives (said.of_shape table.set_status (view value.now)) result }
 {
     let status = status_under(value, "status")?;
     Ok(Deed::SetStatus { status })

@@ -2,6 +2,7 @@
 ghost use Rattle.std.specs.Prelude.{◌≡◌};
 ghost use Rattle.serde_json.specs.View.{view};
 ghost use Rattle.wb_model.specs.Bodies.{under};
+ghost use Rattle.wb_model.specs.DeedFields as table;
 ghost use Rattle.wb_row_codec.specs.SaidDeeds as said;
 ghost use Rattle.wb_json.specs.Gives.{Gives};
 
@@ -13,7 +14,7 @@ use wb_json::{ReadError, list_under, long_under, read_text, text_under, user_und
 use wb_model::Deed;
 
 fn acknowledged(value: &Value) -> Result<Deed, ReadError>
-    ensures { Gives (said.acknowledged (view value.now)) result }
+    ensures { Gives (said.of_shape table.acknowledged (view value.now)) result }
 {
     let day = day_under(value, "day")?;
     let feedback_due = day_under(value, "feedback_due")?;
@@ -21,28 +22,28 @@ fn acknowledged(value: &Value) -> Result<Deed, ReadError>
 }
 
 fn feedback(alloc: Global, value: &Value) -> Result<Deed, ReadError>
-    ensures { Gives (said.feedback (view value.now)) result }
+    ensures { Gives (said.of_shape table.feedback (view value.now)) result }
 {
     let text = text_under(alloc, value, "text", 1, limits::TEXT_BYTES)?;
     Ok(Deed::Feedback { text })
 }
 
 fn shared(value: &Value) -> Result<Deed, ReadError>
-    ensures { Gives (said.shared (view value.now)) result }
+    ensures { Gives (said.of_shape table.shared (view value.now)) result }
 {
     let user = user_under(value, "user")?;
     Ok(Deed::Shared { user })
 }
 
 fn unshared(value: &Value) -> Result<Deed, ReadError>
-    ensures { Gives (said.unshared (view value.now)) result }
+    ensures { Gives (said.of_shape table.unshared (view value.now)) result }
 {
     let user = user_under(value, "user")?;
     Ok(Deed::Unshared { user })
 }
 
 fn transferred(alloc: Global, value: &Value) -> Result<Deed, ReadError>
-    ensures { Gives (said.transferred (view value.now)) result }
+    ensures { Gives (said.of_shape table.transferred (view value.now)) result }
 {
     let context = whole_under(value, "context", 1, limits::CONTEXTS)?;
     let readers = list_under(alloc, value, "readers")?;
@@ -50,14 +51,14 @@ fn transferred(alloc: Global, value: &Value) -> Result<Deed, ReadError>
 }
 
 fn postponed(value: &Value) -> Result<Deed, ReadError>
-    ensures { Gives (said.postponed (view value.now)) result }
+    ensures { Gives (said.of_shape table.postponed (view value.now)) result }
 {
     let expires = day_under(value, "expires")?;
     Ok(Deed::Postponed { expires })
 }
 
 fn extended(alloc: Global, value: &Value) -> Result<Deed, ReadError>
-    ensures { Gives (said.extended (view value.now)) result }
+    ensures { Gives (said.of_shape table.extended (view value.now)) result }
 {
     let feedback_due = day_under(value, "feedback_due")?;
     let reason = text_under(alloc, value, "reason", 1, limits::REASON_BYTES)?;
@@ -68,7 +69,7 @@ fn extended(alloc: Global, value: &Value) -> Result<Deed, ReadError>
 }
 
 fn asked(alloc: Global, value: &Value) -> Result<Deed, ReadError>
-    ensures { Gives (said.asked (view value.now)) result }
+    ensures { Gives (said.of_shape table.asked (view value.now)) result }
 {
     let reason = text_under(alloc, value, "reason", 1, limits::REASON_BYTES)?;
     let stamp = whole_under(value, "stamp", 0, limits::DISABLINGS)?;
@@ -77,7 +78,7 @@ fn asked(alloc: Global, value: &Value) -> Result<Deed, ReadError>
 
 // A text, or none for null.
 fn read_withheld(alloc: Global, value: &Value) -> Result<Option<Text>, ReadError>
-    ensures { Gives (said.withheld (view value.now)) result }
+    ensures { Gives (said.text_or_null 1 1_024 (view value.now)) result }
 {
     match value {
         Value::Null => Ok(None),
@@ -87,7 +88,7 @@ fn read_withheld(alloc: Global, value: &Value) -> Result<Option<Text>, ReadError
 }
 
 fn withheld_under(alloc: Global, value: &Value, key: &str) -> Result<Option<Text>, ReadError>
-    ensures { Gives (under key.now said.withheld (view value.now)) result }
+    ensures { Gives (under key.now (said.text_or_null 1 1_024) (view value.now)) result }
 {
     match value.get(key) {
         Some(found) => read_withheld(alloc, found),
@@ -96,7 +97,7 @@ fn withheld_under(alloc: Global, value: &Value, key: &str) -> Result<Option<Text
 }
 
 fn granted(alloc: Global, value: &Value) -> Result<Deed, ReadError>
-    ensures { Gives (said.granted (view value.now)) result }
+    ensures { Gives (said.of_shape table.granted (view value.now)) result }
 {
     let effective = long_under(value, "effective", 0, 100_002_591_999)?;
     let reason = text_under(alloc, value, "reason", 1, limits::REASON_BYTES)?;
@@ -111,7 +112,7 @@ fn granted(alloc: Global, value: &Value) -> Result<Deed, ReadError>
 }
 
 fn denied(alloc: Global, value: &Value) -> Result<Deed, ReadError>
-    ensures { Gives (said.denied (view value.now)) result }
+    ensures { Gives (said.of_shape table.denied (view value.now)) result }
 {
     let reason = text_under(alloc, value, "reason", 1, limits::REASON_BYTES)?;
     let request = whole_under(value, "request", 0, u32::MAX)?;
@@ -119,7 +120,7 @@ fn denied(alloc: Global, value: &Value) -> Result<Deed, ReadError>
 }
 
 fn revoked(alloc: Global, value: &Value) -> Result<Deed, ReadError>
-    ensures { Gives (said.revoked (view value.now)) result }
+    ensures { Gives (said.of_shape table.revoked (view value.now)) result }
 {
     let reason = text_under(alloc, value, "reason", 1, limits::REASON_BYTES)?;
     let request = whole_under(value, "request", 0, u32::MAX)?;

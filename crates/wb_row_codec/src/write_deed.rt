@@ -1,24 +1,25 @@
-//! The keys of a deed in the object of its entry, by where they stand in byte order.
+//! The name of a deed and its keys in the object of its entry.
 ghost use Rattle.std.specs.Prelude.{◌≡◌, OnOk, IfOk};
 ghost use Rattle.hex.specs.Hex.{encode_lower};
 ghost use Rattle.serde_json.specs.Data.{put, string};
 ghost use Rattle.serde_json.specs.View.{members_view};
-ghost use Rattle.wb_model.specs.Json.{or_null};
-ghost use Rattle.wb_model.specs.Rows.{deed_keys};
+ghost use Rattle.wb_model.specs.DeedFields as table;
+ghost use Rattle.wb_model.specs.Json.{answers_data, list_of, or_null, whole};
 ghost use Rattle.wb_row_codec.specs.Members.{puts};
 
 use serde_json::{Map, Value};
 use std::alloc::Global;
-use wb_base::{Digest, Memory, Text};
+use wb_base::{Answers, Digest, Memory, Text, UserId};
 use wb_json::{
     answers_value, list_value, put_date, put_flag, put_null, put_text, put_value, put_whole,
     status_name,
 };
+use wb_list::Items;
 use wb_model::Deed;
 
 /// The name of a deed.
 pub fn deed_name(deed: &Deed) -> &'static str
-    ensures { result.now ≡ (deed_keys deed.now).name }
+    ensures { result.now ≡ table.deed_name deed.now }
 {
     match deed {
         Deed::Submitted { .. } => "submitted",
@@ -70,59 +71,42 @@ fn put_text_or_null(
     }
 }
 
-/// Puts the keys that come before `at`.
-pub fn put_first(map: &mut Map<String, Value>, alloc: Global, deed: &Deed) -> Result<(), Memory>
+// Puts the ids of users.
+fn put_users(
+    map: &mut Map<String, Value>,
+    alloc: Global,
+    key: &str,
+    users: &Items<UserId>,
+) -> Result<(), Memory>
     ensures { OnOk result (members_view map.new.entries
-        ≡ puts (deed_keys deed.now).first (members_view map.old.entries)) }
+        ≡ put key.now (list_of whole users.now) (members_view map.old.entries)) }
+{
+    put_value(map, alloc, key, list_value(alloc, users.as_slice())?)
+}
+
+// Puts answers.
+fn put_answers(
+    map: &mut Map<String, Value>,
+    alloc: Global,
+    key: &str,
+    answers: &Answers,
+) -> Result<(), Memory>
+    ensures { OnOk result (members_view map.new.entries
+        ≡ put key.now (answers_data answers.now) (members_view map.old.entries)) }
+{
+    put_value(map, alloc, key, answers_value(alloc, answers.as_slice())?)
+}
+
+/// Puts the keys of a deed, the last in byte order first.
+pub fn put_deed(map: &mut Map<String, Value>, alloc: Global, deed: &Deed) -> Result<(), Memory>
+    ensures { OnOk result (members_view map.new.entries
+        ≡ puts (table.deed_members deed.now) (members_view map.old.entries)) }
 {
     match deed {
         Deed::Submitted {
             ack_due,
             answers,
-            ..
-        } => {
-            put_value(
-                map,
-                alloc,
-                "answers",
-                answers_value(alloc, answers.as_slice())?,
-            )?;
-            put_date(map, alloc, "ack_due", *ack_due)?;
-            Ok(())
-        }
-        _ => Ok(()),
-    }
-}
-
-/// Puts the keys that stand between `by` and `deed`.
-pub fn put_between(map: &mut Map<String, Value>, alloc: Global, deed: &Deed) -> Result<(), Memory>
-    ensures { OnOk result (members_view map.new.entries
-        ≡ puts (deed_keys deed.now).between (members_view map.old.entries)) }
-{
-    match deed {
-        Deed::Submitted { context, .. } => {
-            put_whole(map, alloc, "context", *context as u64)?;
-            Ok(())
-        }
-        Deed::Acknowledged { day, .. } => {
-            put_date(map, alloc, "day", *day)?;
-            Ok(())
-        }
-        Deed::Transferred { context, .. } => {
-            put_whole(map, alloc, "context", *context as u64)?;
-            Ok(())
-        }
-        _ => Ok(()),
-    }
-}
-
-/// Puts the keys that come after `deed`.
-pub fn put_last(map: &mut Map<String, Value>, alloc: Global, deed: &Deed) -> Result<(), Memory>
-    ensures { OnOk result (members_view map.new.entries
-        ≡ puts (deed_keys deed.now).last (members_view map.old.entries)) }
-{
-    match deed {
-        Deed::Submitted {
+            context,
             expires,
             feedback_due,
             form,
@@ -131,21 +115,18 @@ pub fn put_last(map: &mut Map<String, Value>, alloc: Global, deed: &Deed) -> Res
             receipt,
             received,
             version,
-            ..
         } => {
             put_whole(map, alloc, "version", *version as u64)?;
             put_date(map, alloc, "received", *received)?;
             put_digest(map, alloc, "receipt", receipt)?;
-            put_value(
-                map,
-                alloc,
-                "readers",
-                list_value(alloc, readers.as_slice())?,
-            )?;
+            put_users(map, alloc, "readers", readers)?;
             put_flag(map, alloc, "mark", *mark)?;
             put_whole(map, alloc, "form", *form as u64)?;
             put_date(map, alloc, "feedback_due", *feedback_due)?;
             put_date(map, alloc, "expires", *expires)?;
+            put_whole(map, alloc, "context", *context as u64)?;
+            put_answers(map, alloc, "answers", answers)?;
+            put_date(map, alloc, "ack_due", *ack_due)?;
             Ok(())
         }
         Deed::Identity => Ok(()),
@@ -154,7 +135,7 @@ pub fn put_last(map: &mut Map<String, Value>, alloc: Global, deed: &Deed) -> Res
             put_flag(map, alloc, "internal", *internal)?;
             Ok(())
         }
-        Deed::Label { text } => {
+        Deed::Label { text } | Deed::Feedback { text } => {
             put_text(map, alloc, "text", text.as_str())?;
             Ok(())
         }
@@ -162,29 +143,18 @@ pub fn put_last(map: &mut Map<String, Value>, alloc: Global, deed: &Deed) -> Res
             put_text(map, alloc, "status", status_name(*status))?;
             Ok(())
         }
-        Deed::Acknowledged { feedback_due, .. } => {
+        Deed::Acknowledged { day, feedback_due } => {
             put_date(map, alloc, "feedback_due", *feedback_due)?;
+            put_date(map, alloc, "day", *day)?;
             Ok(())
         }
-        Deed::Feedback { text } => {
-            put_text(map, alloc, "text", text.as_str())?;
-            Ok(())
-        }
-        Deed::Shared { user } => {
+        Deed::Shared { user } | Deed::Unshared { user } => {
             put_whole(map, alloc, "user", user.id() as u64)?;
             Ok(())
         }
-        Deed::Unshared { user } => {
-            put_whole(map, alloc, "user", user.id() as u64)?;
-            Ok(())
-        }
-        Deed::Transferred { readers, .. } => {
-            put_value(
-                map,
-                alloc,
-                "readers",
-                list_value(alloc, readers.as_slice())?,
-            )?;
+        Deed::Transferred { context, readers } => {
+            put_users(map, alloc, "readers", readers)?;
+            put_whole(map, alloc, "context", *context as u64)?;
             Ok(())
         }
         Deed::Postponed { expires } => {
@@ -216,12 +186,7 @@ pub fn put_last(map: &mut Map<String, Value>, alloc: Global, deed: &Deed) -> Res
             put_whole(map, alloc, "effective", *effective)?;
             Ok(())
         }
-        Deed::Denied { reason, request } => {
-            put_whole(map, alloc, "request", *request as u64)?;
-            put_text(map, alloc, "reason", reason.as_str())?;
-            Ok(())
-        }
-        Deed::Revoked { reason, request } => {
+        Deed::Denied { reason, request } | Deed::Revoked { reason, request } => {
             put_whole(map, alloc, "request", *request as u64)?;
             put_text(map, alloc, "reason", reason.as_str())?;
             Ok(())

@@ -1,9 +1,9 @@
 -- Each value that tenants hold is in its range.
-use Rattle.std.proofs.Common.{◌≡◌, inl, inr, ℕ, ◌+◌, ◌≤◌, ◌<◌, true, false, not, List, [], ◌∷◌, ◌++◌, Option, Some, None, refl, sym, ap, ◌∙◌, subst, arith}
+use Rattle.std.proofs.Common.{◌≡◌, inl, inr, ℕ, ◌+◌, ◌≤◌, ◌<◌, Bool, true, false, not, List, [], ◌∷◌, ◌++◌, Option, Some, None, refl, sym, ap, ◌∙◌, subst, arith}
 use Rattle.std.specs.Prelude.{map, is_some, is_none, nat_le, length, unwrap_or, option_map, ◌&&◌, ◌==◌}
 use Rattle.std.specs.List.{list_all, list_any}
 use Rattle.std.specs.Option.{option_map_or}
-use Rattle.std.proofs.lemmas.Bool.{and_parts, and_from}
+use Rattle.std.proofs.lemmas.Bool.{and_parts, and_from, le-leb}
 use Rattle.std.proofs.lemmas.Int.{ints}
 use Rattle.std.proofs.lemmas.Bool.Decides.{nat_tests}
 use Rattle.std.proofs.lemmas.List.Folds.{list_all-append, list_all-map}
@@ -17,7 +17,7 @@ use Rattle.wb_row_codec.specs.declared.item.EntryItem.{EntryItem}
 use Rattle.wb_row_codec.specs.declared.item.Item.{Item}
 use Rattle.wb_row_codec.specs.declared.item.Item.TheVariants as items
 use Rattle.wb_row_codec.specs.declared.item.NumberingItem.{NumberingItem}
-use Rattle.wb_row_codec.specs.Good.{is_tenant, is_moment, is_actor, is_deed, is_entry, is_numbering, is_dated, are_users, is_good}
+use Rattle.wb_row_codec.specs.Good.{is_tenant, is_moment, is_actor, is_deed, is_entry, is_numbering, is_dated, is_in, are_users, is_good}
 use Rattle.wb_model.specs.declared.entry.Actor.{Actor}
 use Rattle.wb_model.specs.declared.entry.Actor.TheVariants as actors
 use Rattle.wb_model.specs.declared.entry.Deed.{Deed}
@@ -28,6 +28,7 @@ use Rattle.wb_model.specs.declared.registry.ContextItem.{ContextItem}
 use Rattle.wb_model.specs.declared.registry.FormItem.{FormItem}
 use Rattle.wb_model.specs.declared.registry.TenantItem.{TenantItem}
 use Rattle.wb_model.specs.declared.registry.UserItem.{UserItem}
+use Rattle.wb_model.specs.DeedFields.{TextOrNull}
 use Rattle.wb_model.specs.Fits.{is_between, has_bytes, is_staff_role}
 use Rattle.wb_model.specs.KeptRules.{is_of_channel, role_of, is_doer, users_in, is_named, has_public_answers, are_valid_after}
 use Rattle.wb_model.specs.LeftLists.{of_each, lists_of}
@@ -110,6 +111,18 @@ actor_ranged t g d (actors.User u) is_own is = user_ranged t g u is_own (there (
 abbrev Formed : Deed → Type 0
 Formed d = (s : Submission) → submission_in d ≡ Some s → (is_between 1 16 s.form ≡ true) × (is_between 1 99 s.version ≡ true)
 
+-- the last of the fields that are in their ranges
+one : {b : Bool} → b ≡ true → b && true ≡ true
+one is = and_from _ _ is refl
+
+-- a number that is bounded above alone is from 0
+from_none : (most n : ℕ) → nat_le n most ≡ true → is_between 0 most n ≡ true
+from_none most n is = and_from _ _ (le-leb 0 n (omega arith)) is
+
+withheld_in : (text : Option (List ℕ)) → is_withheld text ≡ true → is_in (TextOrNull 1 1_024) text ≡ true
+withheld_in None is = refl
+withheld_in (Some text) is = is
+
 module _ (t : ℕ) (g : Registry) (is_own : IsOwn t g) where
   deed_good : (d : Deed) → list_all (λ u. is_some (user u g.users)) (users_in d) ≡ true → option_map_or (λ c. is_some (context c g.contexts)) (context_in d) true ≡ true → is_stored d ≡ true → is_dated_deed d ≡ true → Formed d → is_deed d ≡ true
   deed_good (deeds.Submitted ack_due answers c expires feedback_due form mark readers receipt received version) users in_context stored days formed =
@@ -118,25 +131,31 @@ module _ (t : ℕ) (g : Registry) (is_own : IsOwn t g) where
       let d2 = and_parts (is_dated ack_due && is_dated expires) (is_dated feedback_due) d1.0 in
       let d3 = and_parts (is_dated ack_due) (is_dated expires) d2.0 in
       let f = formed _ refl in
-      and_from _ _ (and_from _ _ (and_from _ _ (and_from _ _ (and_from _ _ (and_from _ _ (and_from _ _ (and_from _ _ (and_from _ _ d3.0 s.0) (context_ranged t g c is_own in_context)) d3.1) d2.1) f.0) (users_ranged t g readers is_own users)) s.1) (moment_dated received d1.1)) f.1
+      and_from _ _ d3.0 (and_from _ _ s.0 (and_from _ _ (context_ranged t g c is_own in_context) (and_from _ _ d3.1 (and_from _ _ d2.1 (and_from _ _ f.0 (and_from _ _ (users_ranged t g readers is_own users) (and_from _ _ s.1 (and_from _ _ (moment_dated received d1.1) (one f.1)))))))))
   deed_good deeds.Identity users in_context stored days formed = refl
-  deed_good (deeds.Comment internal text) users in_context stored days formed = stored
-  deed_good (deeds.Label text) users in_context stored days formed = stored
-  deed_good (deeds.SetStatus status) users in_context stored days formed = stored
-  deed_good (deeds.Acknowledged day feedback_due) users in_context stored days formed = let d = and_parts (is_of_moment day) (is_dated feedback_due) days in and_from _ _ (moment_dated day d.0) d.1
-  deed_good (deeds.Feedback text) users in_context stored days formed = stored
-  deed_good (deeds.Shared u) users in_context stored days formed = user_ranged t g u is_own (and_parts (is_some (user u g.users)) true users).0
-  deed_good (deeds.Unshared u) users in_context stored days formed = user_ranged t g u is_own (and_parts (is_some (user u g.users)) true users).0
-  deed_good (deeds.Transferred c readers) users in_context stored days formed = and_from _ _ (context_ranged t g c is_own in_context) (users_ranged t g readers is_own users)
-  deed_good (deeds.Postponed expires) users in_context stored days formed = days
-  deed_good (deeds.Extended feedback_due reason) users in_context stored days formed = and_from _ _ days stored
-  deed_good (deeds.Asked reason stamp) users in_context stored days formed = stored
+  deed_good (deeds.Comment internal text) users in_context stored days formed = one stored
+  deed_good (deeds.Label text) users in_context stored days formed = one stored
+  deed_good (deeds.SetStatus status) users in_context stored days formed = one stored
+  deed_good (deeds.Acknowledged day feedback_due) users in_context stored days formed = let d = and_parts (is_of_moment day) (is_dated feedback_due) days in and_from _ _ (moment_dated day d.0) (one d.1)
+  deed_good (deeds.Feedback text) users in_context stored days formed = one stored
+  deed_good (deeds.Shared u) users in_context stored days formed = one (user_ranged t g u is_own (and_parts (is_some (user u g.users)) true users).0)
+  deed_good (deeds.Unshared u) users in_context stored days formed = one (user_ranged t g u is_own (and_parts (is_some (user u g.users)) true users).0)
+  deed_good (deeds.Transferred c readers) users in_context stored days formed = and_from _ _ (context_ranged t g c is_own in_context) (one (users_ranged t g readers is_own users))
+  deed_good (deeds.Postponed expires) users in_context stored days formed = one days
+  deed_good (deeds.Extended feedback_due reason) users in_context stored days formed = and_from _ _ days (one stored)
+  deed_good (deeds.Asked reason stamp) users in_context stored days formed =
+      let a = and_parts (has_bytes 1 1_024 reason) (nat_le stamp 10_000) stored in
+      and_from _ _ a.0 (one (from_none 10_000 stamp a.1))
   deed_good (deeds.Granted effective reason request withheld) users in_context stored days formed =
       let a = and_parts (has_bytes 1 1_024 reason && is_count request) (is_withheld withheld) stored in
       let b = and_parts (has_bytes 1 1_024 reason) (is_count request) a.0 in
-      and_from _ _ (and_from _ _ (and_from _ _ days b.0) b.1) a.1
-  deed_good (deeds.Denied reason request) users in_context stored days formed = stored
-  deed_good (deeds.Revoked reason request) users in_context stored days formed = stored
+      and_from _ _ (from_none 100_002_591_999 effective days) (and_from _ _ b.0 (and_from _ _ (from_none 4_294_967_295 request b.1) (one (withheld_in withheld a.1))))
+  deed_good (deeds.Denied reason request) users in_context stored days formed =
+      let a = and_parts (has_bytes 1 1_024 reason) (is_count request) stored in
+      and_from _ _ a.0 (one (from_none 4_294_967_295 request a.1))
+  deed_good (deeds.Revoked reason request) users in_context stored days formed =
+      let a = and_parts (has_bytes 1 1_024 reason) (is_count request) stored in
+      and_from _ _ a.0 (one (from_none 4_294_967_295 request a.1))
 
   entry_good : (e : Entry) → is_entry_of g e ≡ true → is_timed e ≡ true → Formed e.deed → is_entry e ≡ true
   entry_good e is timed formed =
