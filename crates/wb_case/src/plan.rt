@@ -3,7 +3,6 @@ ghost use Rattle.std.specs.Prelude.{◌≡◌, ◌<◌, ◌≤◌, ℤ, true, On
 ghost use Rattle.wb_base.specs.Days.{IsEarlyDay};
 ghost use Rattle.wb_base.specs.Terms as terms;
 ghost use Rattle.wb_model.specs.Trails as trails;
-ghost use Rattle.std.specs.Int.{int_max};
 ghost use Rattle.wb_model.specs.Acts.{act_deed};
 ghost use Rattle.wb_model.specs.Doings.{Acts};
 ghost use Rattle.wb_model.specs.Legal.{last_at, AsksRightly, GoesOn, reckoning_by};
@@ -14,13 +13,6 @@ use crate::Case;
 use wb_base::{Calendar, Day, Moment};
 use wb_model::{Act, Actor, CaseFault, Deed, Entry, what_is_not_refused_is_legal};
 use wb_terms::{expiry, feedback_due};
-
-// The later of two days.
-fn later(day: Day, other: Day) -> Day
-    ensures { result ≡ int_max day other }
-{
-    if day < other { other } else { day }
-}
 
 impl Case {
     // The time for feedback was extended.
@@ -63,7 +55,7 @@ impl Case {
                 ..
             } => Deed::Transferred { context, readers },
             Act::Postpone { today, retention } => Deed::Postponed {
-                expires: later(self.summary().expires, expiry(today, retention)),
+                expires: self.summary().expires.max(expiry(today, retention)),
             },
             Act::Extend { reason, .. } => Deed::Extended {
                 feedback_due: self.extended_due(calendar),

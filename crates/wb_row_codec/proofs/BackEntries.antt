@@ -1,5 +1,5 @@
 -- An entry whose values are in their ranges is read of the object that shows it: each field by its kind, each deed by its shape.
-use Rattle.std.proofs.Common.{◌≡◌, ℕ, ◌<◌, ◌^◌, suc, Bool, true, List, [], ◌∷◌, Option, Some, None, ℤ, codes, refl, ap, ◌∙◌, arith}
+use Rattle.std.proofs.Common.{◌≡◌, ℕ, ◌<◌, ◌^◌, suc, Bool, true, List, [], ◌∷◌, Some, None, ℤ, codes, refl, ap, ◌∙◌, arith}
 use Rattle.std.proofs.lemmas.Bool.{and_parts, leb-true, ltb-true, ne_eqb}
 use Rattle.std.specs.Prelude.{⊤, ◌&&◌, nat_le, nat_lt, option_map, option_and_then}
 use Rattle.hex.specs.Hex.{encode_lower}
