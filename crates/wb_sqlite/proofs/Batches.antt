@@ -1,5 +1,5 @@
 -- What a batch of changes does to the told rows.
-use Rattle.std.proofs.Common.{◌≡◌, ◌≢◌, ◌⊎◌, ◌==◌, if◌then◌else◌, Some, List, [], ◌∷◌, ◌++◌, All, true, inl, inr, refl, sym, subst, ◌∙◌, arith}
+use Rattle.std.proofs.Common.{◌≡◌, ◌≢◌, ◌⊎◌, ◌==◌, if◌then◌else◌, Some, List, [], ◌∷◌, ◌++◌, All, IsTrue, true, inl, inr, refl, sym, subst, ap, ◌∙◌, arith}
 use Rattle.std.specs.List.{AllByRecursion}
 use Rattle.std.proofs.lemmas.Bool.{cases_Bool}
 use Rattle.std.proofs.lemmas.List.Elements.{All-head, All-tail}
@@ -13,10 +13,15 @@ use Rattle.wb_base.specs.declared.rows.Row.{Row}
 use Rattle.wb_base.specs.declared.rows.Change.{Change}
 use Rattle.wb_base.specs.declared.rows.Change.TheVariants.{Put, DropReport}
 use Rattle.wb_base.specs.KeptRows.{changed, all_changed, IsGoodChange}
-use Rattle.wb_stored.specs.Told.{Tells, HoldsRows, LeavesRows, IsOfRecord, IsOfSealed}
+use Rattle.wb_stored.specs.Told.{Tells, HoldsRows, IsOfRecord, IsOfSealed}
 use Rattle.wb_stored.specs.Texts as sql
 use Rattle.wb_stored.proofs.Stands.{TellsBoth, both_made, both_tells, both_put_record, both_put_sealed, both_insert_record, both_insert_sealed, both_drop}
-use Rattle.wb_sqlite.specs.Statements.{Statement, Ran, IsMade, Makes, make_tables, statements_of, all_statements, put_record, put_entry, put_sealed, CommitsAll, IsAsCommitted}
+use Rattle.wb_sqlite.specs.Statements.{Statement, Ran, IsMade, Makes, make_tables, statements_of, all_statements, put_record, put_entry, put_sealed, CommitsAll, IsAsCommitted, LeavesAsBefore, LeavesChanged}
+use Rattle.wb_sqlite.proofs.Making.{clean_before}
+
+or_none : (A : Type 0) → A ⊎ ⊥ → A
+or_none A (inl it) = it
+or_none A (inr none) = absurd none
 
 module _ {S : Type 0} (g : Ghosts S) where
   -- what was made of two lists was made of one after the other
@@ -71,15 +76,19 @@ module _ {S : Type 0} (g : Ghosts S) where
       let it = makes_split (statements_of change) (all_statements changes) a b made in
       all_told changes it.0 b (changed rows change) good.1 (change_told change a it.0 rows good.0 told it.1) it.2
 
-  -- what is committed is told so
-  pub commits_both : (changes : List Change) (old new : Held S) (rows : List Row) → AllByRecursion IsGoodChange changes → HoldsRows (state g old) rows → CommitsAll g changes old new → TellsBoth (state g new).now (all_changed rows changes)
-  commits_both changes old new rows good holds c =
+  -- a batch that is made tells the rows after its changes
+  batch_told : (changes : List Change) (old last : Held S) (rows : List Row) → AllByRecursion IsGoodChange changes → Tells (state g old).now rows → Makes g (make_tables ++ all_statements changes) (record old { in_transaction = true }) last → TellsBoth (state g last).now (all_changed rows changes)
+  batch_told changes old last rows good told made =
       let begun = record old { in_transaction = true } in
-      let it = makes_split make_tables (all_statements changes) begun c.last c.made in
+      let it = makes_split make_tables (all_statements changes) begun last made in
       let first = it.1 in
       let tables : TellsBoth (state g it.0).now rows =
-      subst (λ (h : Held S). TellsBoth (state g h).now rows) (sym first.2.2) (both_made (state g begun) (state g first.0) (state g first.2.0) first.1.0 first.2.1.0 rows holds.told first.1.1.0 first.2.1.1.0) in
-      subst (λ (d : Database). TellsBoth d (all_changed rows changes)) (sym c.now) (all_told changes it.0 c.last rows good tables it.2)
+      subst (λ (h : Held S). TellsBoth (state g h).now rows) (sym first.2.2) (both_made (state g begun) (state g first.0) (state g first.2.0) first.1.0 first.2.1.0 rows told first.1.1.0 first.2.1.1.0) in
+      all_told changes it.0 last rows good tables it.2
+
+  -- what is committed is told so
+  pub commits_both : (changes : List Change) (old new : Held S) (rows : List Row) → AllByRecursion IsGoodChange changes → HoldsRows (state g old) rows → CommitsAll g changes old new → TellsBoth (state g new).now (all_changed rows changes)
+  commits_both changes old new rows good holds c = subst (λ (d : Database). TellsBoth d (all_changed rows changes)) (sym c.now) (batch_told changes old c.last rows good holds.told c.made)
 
   pub commits_hold : (changes : List Change) (old new : Held S) (rows : List Row) → AllByRecursion IsGoodChange changes → HoldsRows (state g old) rows → CommitsAll g changes old new → HoldsRows (state g new) (all_changed rows changes)
   commits_hold changes old new rows good holds c = record {
@@ -95,31 +104,21 @@ module _ {S : Type 0} (g : Ghosts S) where
   }
 
   -- a crash on the way, before the commit
-  pub crash_before : (old start mid end : Held S) → start ≡ record old { in_transaction = true } → Survives (state g start) (state g mid) (λ _. ⊥) → Survives (state g mid) (state g end) (λ _. ⊥)
-      → HasCleanDisk (state g end) → (db : Trees) → (state g end).may_leave db → (state g old).may_leave db
+  pub crash_before : (old start mid end : Held S) → start ≡ record old { in_transaction = true } → LeavesAsBefore g start mid → LeavesAsBefore g mid end → HasCleanDisk (state g end) → (db : Trees) → (state g end).may_leave db → (state g old).may_leave db
   crash_before old start mid end begun one two clean db may =
-      let clean_mid : HasCleanDisk (state g mid) = omega (arith, two.clean) in
-      elim (two.crash clean db may) [
-        | inr none ↦ absurd none
-        | inl earlier ↦ elim (one.crash clean_mid db earlier) [
-          | inr none ↦ absurd none
-          | inl first ↦ subst (λ (h : Held S). (state g h).may_leave db) begun first
-        ]
-      ]
+      let clean_mid = clean_before (state g mid) (state g end) _ two clean in
+      subst (λ (h : Held S). (state g h).may_leave db) begun (or_none _ (one.crash clean_mid db (or_none _ (two.crash clean db may))))
 
   -- a crash once the commit has begun
-  pub crash_after : (changes : List Change) (old start mid last end : Held S) (rows : List Row) → start ≡ record old { in_transaction = true } → Survives (state g start) (state g mid) (λ _. ⊥) → Survives (state g mid) (state g last) (λ _. ⊥)
-      → Survives (state g last) (state g end) (λ db. db ≡ (state g last).now.trees) → Makes g make_tables start mid → Makes g (all_statements changes) mid last → AllByRecursion IsGoodChange changes → HoldsRows (state g old) rows
-      → HasCleanDisk (state g end) → (db : Trees) → (state g end).may_leave db → (state g old).may_leave db ⊎ LeavesRows db (all_changed rows changes)
-  crash_after changes old start mid last end rows begun one two three tables made good holds clean db may =
-      let clean_last : HasCleanDisk (state g last) = omega (arith, three.clean) in
-      elim (three.crash clean db may) [
-        | inl earlier ↦ inl (crash_before old start mid last begun one two clean_last db earlier)
+  pub crash_after : (changes : List Change) (old start last end : Held S) (rows : List Row) → start ≡ record old { in_transaction = true } → LeavesAsBefore g start last → Survives (state g last) (state g end) (λ db. db ≡ (state g last).now.trees)
+      → (HasCleanDisk (state g last) → IsTrue start.in_transaction → Makes g (make_tables ++ all_statements changes) start last) → AllByRecursion IsGoodChange changes → HoldsRows (state g old) rows → HasCleanDisk (state g end) → LeavesChanged g changes rows old end
+  crash_after changes old start last end rows begun one two makes good holds clean db may =
+      let clean_last = clean_before (state g last) (state g end) _ two clean in
+      elim (two.crash clean db may) [
+        | inl earlier ↦ inl (subst (λ (h : Held S). (state g h).may_leave db) begun (or_none _ (one.crash clean_last db earlier)))
         | inr is ↦
-            let at_start : Tells (state g start).now rows = subst (λ (h : Held S). Tells (state g h).now rows) (sym begun) holds.told in
-            let at_mid : TellsBoth (state g mid).now rows =
-            subst (λ (h : Held S). TellsBoth (state g h).now rows) (sym tables.2.2) (both_made (state g start) (state g tables.0) (state g tables.2.0) tables.1.0 tables.2.1.0 rows at_start tables.1.1.0 tables.2.1.1.0) in
-            let told : Tells (state g last).now (all_changed rows changes) = both_tells (state g last).now (all_changed rows changes) (all_told changes mid last rows good at_mid made) in
+            let made = subst (λ (h : Held S). Makes g (make_tables ++ all_statements changes) h last) begun (makes clean_last (ap (λ (h : Held S). h.in_transaction) begun)) in
+            let told : Tells (state g last).now (all_changed rows changes) = both_tells (state g last).now (all_changed rows changes) (batch_told changes old last rows good holds.told made) in
             inr (last.schema, subst (λ (t : Trees). Tells (record { schema = last.schema; trees = t }) (all_changed rows changes)) (sym is) told)
       ]
 

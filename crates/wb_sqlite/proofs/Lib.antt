@@ -1,5 +1,6 @@
 pub mod Above
 pub mod Batches
+pub mod Committing
 pub mod Loading
 pub mod Making
 pub mod NewFiles

@@ -4,11 +4,11 @@ use Rattle.std.proofs.lemmas.Bool.{cases_Bool}
 use Rattle.sqlite_value.specs.Order.{Row as SqlRow}
 use Rattle.sqlite_trees.specs.declared.store.Store.{Ghosts}
 use Rattle.sqlite.specs.Held.{Held, state}
-use Rattle.sqlite.specs.State.{State, Survives, KeepsCommit, IsUnchanged, ExecutesInside}
-use Rattle.sqlite.specs.Steps.{FailsToCommit}
+use Rattle.sqlite_trees.specs.Tree.{Trees}
+use Rattle.sqlite.specs.State.{State, Survives, HasCleanDisk, KeepsCommit, IsUnchanged, ExecutesInside}
 use Rattle.sqlite.specs.declared.error.Error.{Error}
 use Rattle.wb_base.specs.declared.rows.Change.{Change}
-use Rattle.wb_sqlite.specs.Statements.{Statement, IsMade, Makes, statements_of, all_statements}
+use Rattle.wb_sqlite.specs.Statements.{Statement, IsMade, Makes, OkMakes, LeavesAsBefore, statements_of, all_statements}
 
 -- what is made after what was made is made after both
 pub makes_then : {S : Type 0} (g : Ghosts S) (xs ys : List Statement) (a b c : Held S) → Makes g xs a b → Makes g ys b c → Makes g (xs ++ ys) a c
@@ -48,9 +48,19 @@ makes_keeps {S} g [] a b same = subst (λ (s : Held S). KeepsCommit (state g a) 
 makes_keeps g (x ∷ xs) a b (mid, made, rest) = keeps_then (state g a) (state g mid) (state g b) (made_keeps g x.tried x.text x.given a mid made) (makes_keeps g xs mid b rest)
 
 -- what is made after what was made, if it is
-pub makes_on : {S T E : Type 0} (g : Ghosts S) (xs ys : List Statement) (a b c : Held S) (r : Result T E) → Makes g xs a b → OnOk r (Makes g ys b c) → OnOk r (Makes g (xs ++ ys) a c)
+makes_on : {S T E : Type 0} (g : Ghosts S) (xs ys : List Statement) (a b c : Held S) (r : Result T E) → Makes g xs a b → OnOk r (Makes g ys b c) → OnOk r (Makes g (xs ++ ys) a c)
 makes_on g xs ys a b c (Ok value) first second = makes_then g xs ys a b c first second
 makes_on g xs ys a b c (Err e) first second = tt
+
+-- a clean disk was clean before
+pub clean_before : (a b : State) (Commits : Trees → Type 0) → Survives a b Commits → HasCleanDisk b → HasCleanDisk a
+clean_before a b Commits survives clean = omega (arith, survives.clean)
+
+-- a call after one that was Ok
+pub made_both : {S T E : Type 0} (g : Ghosts S) (xs ys : List Statement) (a b c : Held S) (r : Result T E) → (HasCleanDisk (state g b) → IsTrue a.in_transaction → Makes g xs a b) → LeavesAsBefore g b c → OkMakes g ys b c r → OkMakes g (xs ++ ys) a c r
+made_both g xs ys a b c r first survives second clean inside =
+    let made = first (clean_before (state g b) (state g c) _ survives clean) inside in
+    makes_on g xs ys a b c r made (second clean (makes_inside g xs a b made inside))
 
 pub survives_same : (s : State) → Survives s s (λ _. ⊥)
 survives_same s = record { clean = omega arith; shield = λ h. h; counts = omega arith; limit = refl; closes = λ _ up. inl up; crash = λ _ db may. inl may }
@@ -73,16 +83,6 @@ has_made g all rest change start mid now so made = record {
 pub on_err : {T E P : Type 0} (r : Result T E) → P → OnErr r P
 on_err (Ok value) p = tt
 on_err (Err e) p = p
-
--- what a commit that fails leaves
-pub record IsUndone (a b : State) : Type 0 where
-  pub was_open : IsTrue a.is_open
-  pub now : b.now ≡ a.committed
-  pub committed : b.committed ≡ a.committed
-
-pub commit_failed : (a b : State) (e : Error) → FailsToCommit a b e → IsTrue a.in_transaction → IsTrue b.is_open → IsUndone a b
-commit_failed a b e (inl (cause, is, why, back, told)) inside up = record { was_open = back.was_open up; now = (back.undone up).0; committed = (back.undone up).1 }
-commit_failed a b e (inr (is, outside, same)) inside up = absurd (let e : true ≡ false = sym inside ∙ outside in cc)
 
 -- in a transaction that is open still, a refused statement changed nothing
 refused_same : (sql : List ℕ) (params : SqlRow) (a b : State) (e : Error) → ExecutesInside 0 sql params a b (Err e) → IsTrue b.in_transaction → IsUnchanged a b

@@ -48,12 +48,15 @@ put_sealed row = record {
   given = Int (pos row.key.tenant) ∷ Int (pos row.key.a) ∷ Text row.text ∷ [];
 }
 
--- a report's trail, and its sealed answers
+-- a statement on a report: its trail, and its sealed answers
+abbrev pub on_report : List ℕ → ℕ → ℕ → Statement
+on_report text tenant number = record { tried = None; text = text; given = Int (pos tenant) ∷ Int (pos number) ∷ [] }
+
 abbrev pub drop_trail : ℕ → ℕ → Statement
-drop_trail tenant number = record { tried = None; text = sql.drop_trail; given = Int (pos tenant) ∷ Int (pos number) ∷ [] }
+drop_trail = on_report sql.drop_trail
 
 abbrev pub drop_sealed : ℕ → ℕ → Statement
-drop_sealed tenant number = record { tried = None; text = sql.drop_sealed; given = Int (pos tenant) ∷ Int (pos number) ∷ [] }
+drop_sealed = on_report sql.drop_sealed
 
 -- the statements of a change
 abbrev pub statements_of : Change → List Statement

@@ -13,7 +13,7 @@ ghost use Rattle.wb_sqlite.specs.Staying.{StaysAs};
 ghost use Rattle.wb_stored.specs.Told.{HoldsRows};
 
 use crate::refusal::Refusal;
-use crate::statements::{expect_all, make, make_all};
+use crate::statements::{expect_all, make, make_batch};
 use crate::stored::{add, add_all, parted};
 use crate::table::Table;
 use sqlite::{Alter, Connection};
@@ -35,8 +35,7 @@ pub(crate) fn apply_all<S: Alter>(
     ensures crash { HasCleanDisk (state S.Store conn.new) → All IsGoodChange changes.now → (rows : List KeptRow) → HoldsRows (state S.Store conn.old) rows → LeavesChanged S.Store changes.now rows conn.old conn.new }
 {
     let mut tx = conn.transaction();
-    make(&mut tx)?;
-    make_all(&mut tx, changes)?;
+    make_batch(&mut tx, changes)?;
     tx.commit()?;
     Ok(())
 }

@@ -1,10 +1,10 @@
 //! The statements over the two tables, and what is made of changes with them.
-ghost use Rattle.std.specs.Prelude.{◌≡◌, ◌∷◌, [], false, Some, None, OnOk, OnErr};
+ghost use Rattle.std.specs.Prelude.{◌≡◌, ◌==◌, ◌∷◌, ◌++◌, [], if◌then◌else◌, false, Some, None, OnOk, OnErr};
 ghost use Rattle.sqlite.specs.Held.{state};
 ghost use Rattle.sqlite.specs.State.{HasCleanDisk, IsUnchanged, KeepsCommit};
 ghost use Rattle.sqlite.specs.Values.{bound};
 ghost use Rattle.wb_base.specs.declared.rows.Change.TheVariants.{Put};
-ghost use Rattle.wb_sqlite.specs.Statements.{OkMakes, ErrKeeps, LeavesAsBefore, make_tables, statements_of, all_statements, drop_trail, drop_sealed, put_record, put_entry, put_sealed};
+ghost use Rattle.wb_sqlite.specs.Statements.{OkMakes, ErrKeeps, LeavesAsBefore, make_tables, statements_of, all_statements, on_report, drop_trail, drop_sealed, put_record, put_entry, put_sealed};
 
 use crate::refusal::Refusal;
 use sqlite::types::ValueRef;
@@ -121,39 +121,21 @@ pub(crate) fn expect_all<S: Alter>(tx: &mut Transaction<'_, S>) -> Result<(), Re
     Ok(())
 }
 
-// Sets the text under a key in `record`.
+// Sets the text under a key in `record`. An entry of a trail is new as a rule.
 fn write_record<S: Alter>(tx: &mut Transaction<'_, S>, row: &Row) -> Result<(), Refusal>
     ensures same_reference { tx.new.conn.ghost_name ≡ tx.old.conn.ghost_name }
-    ensures made { OkMakes S.Store (put_record row.now ∷ []) tx.old.conn.now tx.new.conn.now result }
+    ensures made { OkMakes S.Store ((if row.now.key.kind == 6 then put_entry row.now else put_record row.now) ∷ []) tx.old.conn.now tx.new.conn.now result }
     ensures kept { ErrKeeps S.Store tx.old.conn.now tx.new.conn.now result }
     ensures survives { LeavesAsBefore S.Store tx.old.conn.now tx.new.conn.now }
 {
     let key = row.key;
     let kind = u32::from(key.kind);
-    let text = row.text.as_str();
-    run(
-        tx,
-        PUT_RECORD,
-        params![kind, key.tenant, key.a, key.b, text],
-    )
-}
-
-// Sets the text of an entry of a trail in `record`.
-fn write_entry<S: Alter>(tx: &mut Transaction<'_, S>, row: &Row) -> Result<(), Refusal>
-    ensures same_reference { tx.new.conn.ghost_name ≡ tx.old.conn.ghost_name }
-    ensures made { OkMakes S.Store (put_entry row.now ∷ []) tx.old.conn.now tx.new.conn.now result }
-    ensures kept { ErrKeeps S.Store tx.old.conn.now tx.new.conn.now result }
-    ensures survives { LeavesAsBefore S.Store tx.old.conn.now tx.new.conn.now }
-{
-    let key = row.key;
-    let kind = u32::from(key.kind);
-    let text = row.text.as_str();
-    run_new(
-        tx,
-        INSERT_RECORD,
-        PUT_RECORD,
-        params![kind, key.tenant, key.a, key.b, text],
-    )
+    let given = params![kind, key.tenant, key.a, key.b, row.text.as_str()];
+    if key.kind == Key::ENTRY {
+        run_new(tx, INSERT_RECORD, PUT_RECORD, given)
+    } else {
+        run(tx, PUT_RECORD, given)
+    }
 }
 
 // Sets the text under a key in `sealed`.
@@ -182,39 +164,24 @@ fn put<S: Alter>(tx: &mut Transaction<'_, S>, row: &Row) -> Result<(), Refusal>
 {
     if is_sealed(row.key.kind) {
         write_sealed(tx, row)
-    } else if row.key.kind == Key::ENTRY {
-        write_entry(tx, row)
     } else {
         write_record(tx, row)
     }
 }
 
-// Removes the trail of a report.
-fn clear_trail<S: Alter>(
+// Makes a statement on a report.
+fn run_on<S: Alter>(
     tx: &mut Transaction<'_, S>,
+    text: &str,
     tenant: u32,
     number: u32,
 ) -> Result<(), Refusal>
     ensures same_reference { tx.new.conn.ghost_name ≡ tx.old.conn.ghost_name }
-    ensures made { OkMakes S.Store (drop_trail tenant number ∷ []) tx.old.conn.now tx.new.conn.now result }
+    ensures made { OkMakes S.Store (on_report text.now tenant number ∷ []) tx.old.conn.now tx.new.conn.now result }
     ensures kept { ErrKeeps S.Store tx.old.conn.now tx.new.conn.now result }
     ensures survives { LeavesAsBefore S.Store tx.old.conn.now tx.new.conn.now }
 {
-    run(tx, DROP_TRAIL, params![tenant, number])
-}
-
-// Removes the sealed answers of a report.
-fn clear_sealed<S: Alter>(
-    tx: &mut Transaction<'_, S>,
-    tenant: u32,
-    number: u32,
-) -> Result<(), Refusal>
-    ensures same_reference { tx.new.conn.ghost_name ≡ tx.old.conn.ghost_name }
-    ensures made { OkMakes S.Store (drop_sealed tenant number ∷ []) tx.old.conn.now tx.new.conn.now result }
-    ensures kept { ErrKeeps S.Store tx.old.conn.now tx.new.conn.now result }
-    ensures survives { LeavesAsBefore S.Store tx.old.conn.now tx.new.conn.now }
-{
-    run(tx, DROP_SEALED, params![tenant, number])
+    run(tx, text, params![tenant, number])
 }
 
 // Removes the trail and the sealed answers of a report.
@@ -228,8 +195,8 @@ fn drop_report<S: Alter>(
     ensures kept { ErrKeeps S.Store tx.old.conn.now tx.new.conn.now result }
     ensures survives { LeavesAsBefore S.Store tx.old.conn.now tx.new.conn.now }
 {
-    clear_trail(tx, tenant, number)?;
-    clear_sealed(tx, tenant, number)
+    run_on(tx, DROP_TRAIL, tenant, number)?;
+    run_on(tx, DROP_SEALED, tenant, number)
 }
 
 // Makes a change.
@@ -245,11 +212,8 @@ fn make_change<S: Alter>(tx: &mut Transaction<'_, S>, change: &Change) -> Result
     }
 }
 
-/// Makes all changes in turn, up to one that is refused.
-pub(crate) fn make_all<S: Alter>(
-    tx: &mut Transaction<'_, S>,
-    changes: &[Change],
-) -> Result<(), Refusal>
+// Makes all changes in turn, up to one that is refused.
+fn make_all<S: Alter>(tx: &mut Transaction<'_, S>, changes: &[Change]) -> Result<(), Refusal>
     ensures same_reference { tx.new.conn.ghost_name ≡ tx.old.conn.ghost_name }
     ensures made { OkMakes S.Store (all_statements changes.now) tx.old.conn.now tx.new.conn.now result }
     ensures kept { ErrKeeps S.Store tx.old.conn.now tx.new.conn.now result }
@@ -259,4 +223,18 @@ pub(crate) fn make_all<S: Alter>(
         make_change(tx, change)?;
     }
     Ok(())
+}
+
+/// Makes the tables that are not there, and then all changes in turn, up to one that is refused.
+pub(crate) fn make_batch<S: Alter>(
+    tx: &mut Transaction<'_, S>,
+    changes: &[Change],
+) -> Result<(), Refusal>
+    ensures same_reference { tx.new.conn.ghost_name ≡ tx.old.conn.ghost_name }
+    ensures made { OkMakes S.Store (make_tables ++ all_statements changes.now) tx.old.conn.now tx.new.conn.now result }
+    ensures kept { ErrKeeps S.Store tx.old.conn.now tx.new.conn.now result }
+    ensures survives { LeavesAsBefore S.Store tx.old.conn.now tx.new.conn.now }
+{
+    make(tx)?;
+    make_all(tx, changes)
 }
