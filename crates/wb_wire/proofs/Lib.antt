@@ -1,5 +1,6 @@
 pub mod NumberLemmas
 pub mod LineLemmas
+pub mod TextLemmas
 pub mod FrameLemmas
 pub mod OneFrameLemmas
 pub mod RoomLemmas

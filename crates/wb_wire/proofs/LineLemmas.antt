@@ -8,7 +8,8 @@ use Rattle.hex.specs.Hex.{encode_with, lower_digits}
 use Rattle.hex.proofs.HexLemmas.{length-encode_with}
 use Rattle.wb_model.specs.declared.wire.ScriptFrame.{ScriptFrame}
 use Rattle.wb_model.specs.FrameTexts.{word_text, frame_line, line_of, IsFrame}
-use Rattle.wb_wire.specs.FrameReading.{Lacks, LineFits}
+use Rattle.wb_wire.specs.FrameReading.{LineFits}
+use Rattle.wb_wire.specs.TextReading.{Lacks}
 
 word_below : (words : List ℕ) (i : ℕ) → AllByRecursion (λ w. w < 2 ^ 64) words → slice_index words i < 2 ^ 64
 word_below [] i all = omega arith

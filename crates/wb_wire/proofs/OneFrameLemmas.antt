@@ -7,10 +7,12 @@ use Rattle.std.proofs.lemmas.Nat.{from_be_bytes-to_be_bytes_8}
 use Rattle.std.specs.Str.Parse.{digits_value}
 use Rattle.wb_model.specs.declared.wire.ScriptFrame.{ScriptFrame}
 use Rattle.wb_model.specs.FrameTexts.{word_text, frame_line, line_of, frame_text, IsFrame}
-use Rattle.wb_wire.specs.FrameReading.{Lacks, LineFits}
+use Rattle.wb_wire.specs.FrameReading.{LineFits}
+use Rattle.wb_wire.specs.TextReading.{Lacks}
 use Rattle.wb_wire.proofs.NumberLemmas.{word_decodes}
 use Rattle.wb_wire.proofs.LineLemmas.{line_fits, line_lacks, decimal_lacks, word_lacks}
-use Rattle.wb_wire.proofs.FrameLemmas.{one_way, text_parts}
+use Rattle.wb_wire.proofs.FrameLemmas.{text_parts}
+use Rattle.wb_wire.proofs.TextLemmas.{both_seam, one_way}
 
 pub same_decimal : (m n : ℕ) → m < 2 ^ 64 → n < 2 ^ 64 → decimal m ≡ decimal n → m ≡ n
 same_decimal m n hm hn e = sym ((decimal_is_IsNumeral m hm).1) ∙ ap (digits_value 10) e ∙ (decimal_is_IsNumeral n hn).1
@@ -21,16 +23,6 @@ same_word w v hw hv e =
     let second = word_decodes v (word_text w) e in
     let bytes : to_be_bytes w64 w ≡ to_be_bytes w64 v = cc in
     sym (from_be_bytes-to_be_bytes_8 w hw) ∙ ap (from_be_bytes w64) bytes ∙ from_be_bytes-to_be_bytes_8 v hv
-
-pub both_seam : (xs ys a b : List ℕ) → length xs ≡ length ys → xs ++ a ≡ ys ++ b → (xs ≡ ys) × (a ≡ b)
-both_seam [] [] a b same e = (refl, e)
-both_seam [] (y ∷ ys) a b same e = absurd (omega (arith, same))
-both_seam (x ∷ xs) [] a b same e = absurd (omega (arith, same))
-both_seam (x ∷ xs) (y ∷ ys) a b same e =
-    let head : x ≡ y = cc in
-    let tails : xs ++ a ≡ ys ++ b = cc in
-    let inner = both_seam xs ys a b (omega (arith, same)) tails in
-    ((let rest = inner.0 in cc), inner.1)
 
 list_four : (ws : List ℕ) → length ws ≡ 4 → ws ≡ slice_index ws 0 ∷ slice_index ws 1 ∷ slice_index ws 2 ∷ slice_index ws 3 ∷ []
 list_four [] four = absurd (omega (arith, four))

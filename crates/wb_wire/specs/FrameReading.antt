@@ -1,15 +1,18 @@
 -- What a reader of frames takes and answers.
-use Rattle.std.specs.Prelude.{ℕ, ◌≡◌, ◌≢◌, ◌+◌, ◌<◌, ◌≤◌, ◌^◌, List, [], ◌∷◌, ◌++◌, length, take, slice_index, EachIndex, Option, None, Some, IfSome}
+use Rattle.std.specs.Prelude.{ℕ, ◌≡◌, ◌≢◌, ◌+◌, ◌<◌, ◌≤◌, ◌^◌, List, [], ◌∷◌, ◌++◌, length, take, slice_index, Option, None, Some, IfSome}
 use Rattle.std.specs.Io.KnownBytes.{Consumes, IsAtEnd}
 use Rattle.wb_base.specs.Outside.{Rose}
 use Rattle.wb_model.specs.declared.wire.ScriptFrame.{ScriptFrame}
 use Rattle.wb_model.specs.FrameTexts.{frame_line, frame_text, IsFrame, IsBroken, NoFrame}
+use Rattle.wb_wire.specs.declared.frame_line.FrameLine.{FrameLine}
 use Rattle.wb_wire.specs.declared.frames.FrameNo.{FrameNo}
 use Rattle.wb_wire.specs.declared.frames.FrameNo.TheVariants.{Read, Bad, TooLong, Memory}
 use Rattle.wb_wire.specs.declared.read_frame.LineEnd.{LineEnd}
 use Rattle.wb_wire.specs.declared.read_frame.LineEnd.TheVariants as ends
 use Rattle.wb_wire.specs.declared.read_frame.Part.{Part}
 use Rattle.wb_wire.specs.declared.read_frame.Part.TheVariants as parts
+use Rattle.wb_wire.specs.declared.read_text.Text.{Text}
+use Rattle.wb_wire.specs.TextReading.{Lacks, Stops}
 
 -- how far a reader has come: how many frames it gave, how many bytes these have, and why it stopped, if it did
 pub record Progress : Type 0 where
@@ -22,31 +25,36 @@ abbrev pub after_next : Progress → Option ScriptFrame → Progress
 after_next p None = p
 after_next p (Some frame) = record p { given = p.given + 1; taken = p.taken + length (frame_text frame) }
 
+-- after a text was taken, or none
+abbrev pub after_text : {H : Type 0} → Progress → Option (Text H) → Progress
+after_text p None = p
+after_text p (Some text) = record p { taken = p.taken + text.size }
+
 -- the frame was taken, or the input had ended
 abbrev pub TookNext : Option (List ℕ) → Option (List ℕ) → Option ScriptFrame → Type 0
 TookNext old new (Some frame) = IsFrame frame × Consumes old new (frame_text frame)
 TookNext old new None = Consumes old new [] × IsAtEnd new
 
--- after so many bytes, bytes within the limit were taken that no whole frame begins
-abbrev pub TookPart : ℕ → Option (List ℕ) → Option (List ℕ) → Type 0
-TookPart taken old new = (part : List ℕ) × Consumes old new part × NoFrame part × (taken + length part ≤ 2 ^ 40)
-
--- all bytes up to the limit were taken, which no whole frame begins, and one more was there
-abbrev pub TookAll : ℕ → Option (List ℕ) → Option (List ℕ) → Type 0
-TookAll taken old new = (part : List ℕ) × (next : ℕ) × Consumes old new (part ++ next ∷ []) × NoFrame part × (taken + length part ≡ 2 ^ 40)
-
 -- why a reader stops: by how far it has come, what was left and is left, and the source's count before and now
 abbrev pub HasCause : Progress → Option (List ℕ) → Option (List ℕ) → ℕ → ℕ → FrameNo → Type 0
-HasCause p old new before now Read = Rose before now × TookPart p.taken old new
-HasCause p old new before now (Bad n) = (n ≡ p.given + 1) × IfSome old IsBroken × TookPart p.taken old new
-HasCause p old new before now TooLong = TookAll p.taken old new
-HasCause p old new before now Memory = TookPart p.taken old new
+HasCause p = Stops NoFrame IsBroken p.taken (p.given + 1)
+
+-- what the parts of a line may be
+pub record LineFits (m w0 w1 w2 w3 n : ℕ) : Type 0 where
+  pub moment : m ≤ 99_999_999_999
+  pub first : w0 < 2 ^ 64
+  pub second : w1 < 2 ^ 64
+  pub third : w2 < 2 ^ 64
+  pub fourth : w3 < 2 ^ 64
+  pub size : n ≤ 300_000
+
+-- this is a frame's line, of this moment and these words, after which so many bytes follow
+abbrev pub IsFrameLine : FrameLine → ℕ → List ℕ → Type 0
+IsFrameLine said size line =
+    (length said.words.0 ≡ 4) × LineFits said.moment (slice_index said.words.0 0) (slice_index said.words.0 1) (slice_index said.words.0 2) (slice_index said.words.0 3) size
+    × (line ≡ frame_line said.moment (slice_index said.words.0 0) (slice_index said.words.0 1) (slice_index said.words.0 2) (slice_index said.words.0 3) size)
 
 -- ---- the parts of a frame, of which at most so many bytes may be taken
-
--- the byte stands nowhere in the text
-abbrev pub Lacks : ℕ → List ℕ → Type 0
-Lacks c text = EachIndex text (λ i. slice_index text i ≢ c)
 
 -- this part was taken, and then a call failed, or as many bytes were taken as may be and one more was there
 abbrev pub Stopped : ℕ → Option (List ℕ) → Option (List ℕ) → ℕ → ℕ → List ℕ → FrameNo → Type 0
@@ -64,19 +72,6 @@ TookLine most old new room ends.Broken = (n : ℕ) × (0 < n) × (n ≤ 96) × (
 -- the reading stopped within a line
 abbrev pub StoppedInLine : ℕ → Option (List ℕ) → Option (List ℕ) → ℕ → ℕ → FrameNo → Type 0
 StoppedInLine most old new before now fault = (part : List ℕ) × Lacks 10 part × Stopped most old new before now part fault
-
--- what the parts of a line may be
-pub record LineFits (m w0 w1 w2 w3 n : ℕ) : Type 0 where
-  pub moment : m ≤ 99_999_999_999
-  pub first : w0 < 2 ^ 64
-  pub second : w1 < 2 ^ 64
-  pub third : w2 < 2 ^ 64
-  pub fourth : w3 < 2 ^ 64
-  pub size : n ≤ 300_000
-
--- wherever the line is the text of some parts, this holds of the size
-abbrev pub SaysSize : List ℕ → (ℕ → Type 0) → Type 0
-SaysSize line P = (m w0 w1 w2 w3 size : ℕ) → LineFits m w0 w1 w2 w3 size → line ≡ frame_line m w0 w1 w2 w3 size → P size
 
 -- how the reading of so many bytes ended: with them, at the end of the input, or for want of memory
 abbrev pub TookBytes : ℕ → ℕ → Option (List ℕ) → Option (List ℕ) → Part → Type 0

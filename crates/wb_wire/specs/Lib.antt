@@ -8,4 +8,5 @@ pub mod HeadReading
 pub mod RequestParts
 pub mod SetupText
 pub mod SetupReading
+pub mod TextReading
 pub mod Responses

@@ -1,21 +1,36 @@
 //! The first line of a frame, and of a setup's.
 ghost use Rattle.std.specs.Prelude.{◌≡◌, ◌<◌, ◌≤◌, ◌^◌, ◌++◌, ◌∷◌, ℕ, List, decimal, length, slice_index, IfSome, IfNone, IsSomeAnd};
-ghost use Rattle.wb_model.specs.FrameTexts.{word_text, frame_line};
-ghost use Rattle.wb_wire.specs.FrameReading.{Lacks, LineFits, SaysSize};
-ghost use Rattle.wb_wire.specs.SetupReading.{SaysSetup};
-ghost use Rattle.wb_wire.specs.SetupText.{setup_line};
+ghost use Rattle.wb_model.specs.FrameTexts.{word_text};
+ghost use Rattle.wb_wire.specs.FrameReading.{IsFrameLine};
+ghost use Rattle.wb_wire.specs.SetupReading.{IsSetupLine};
+ghost use Rattle.wb_wire.specs.TextReading.{Lacks};
 
 use crate::numbers::{is_same, number_of, word_of};
 use wb_base::{Moment, Words, limits};
 
-/// What the line says of its frame.
+/// What the first line of a frame, or of a setup's, says beside how many bytes follow.
+pub trait FirstLine: Drop {
+    /// This is its line, after which so many bytes follow.
+    ghost is_line: { Self → ℕ → List ℕ → Type 0 };
+
+    /// Reads the line, without its line feed: what it says, and how many bytes follow.
+    fn read(line: &[u8]) -> Option<(Self, usize)>
+    where
+        Self: Sized,
+        ensures found { IfSome result (λ said. is_line said.0 said.1 line.now) }
+        ensures only { (head : Self) (size : ℕ) → is_line head size line.now → IsSomeAnd result (λ said. said.1 ≡ size) };
+}
+
+/// What a frame's line says: its moment and its words.
 #[derive(Clone, Copy)]
-pub struct FrameHead {
+pub struct FrameLine {
     pub moment: Moment,
     pub words: Words,
-    /// How many bytes follow.
-    pub size: usize,
 }
+
+/// A setup's line says nothing else.
+#[derive(Clone, Copy)]
+pub struct SetupLine;
 
 // The parts before and after the first space.
 fn at_space(bytes: &[u8]) -> Option<(&[u8], &[u8])>
@@ -61,73 +76,67 @@ fn word_item(bytes: &[u8]) -> Option<(u64, &[u8])>
     }
 }
 
-/// Reads the line, without its line feed.
-pub fn read_line(line: &[u8]) -> Option<FrameHead>
-    ensures fits { IfSome result (λ h. LineFits h.moment (slice_index h.words.0 0) (slice_index h.words.0 1) (slice_index h.words.0 2) (slice_index h.words.0 3) h.size) }
-    ensures four { IfSome result (λ h. length h.words.0 ≡ 4) }
-    ensures found { IfSome result (λ h. line.now ≡ frame_line h.moment (slice_index h.words.0 0) (slice_index h.words.0 1) (slice_index h.words.0 2) (slice_index h.words.0 3) h.size) }
-    ensures only { SaysSize line.now (λ n. IsSomeAnd result (λ h. h.size ≡ n)) }
-{
-    if line.is_empty() || line[0] != b'@' {
-        return None;
+impl FirstLine for FrameLine {
+    ghost is_line = { IsFrameLine };
+
+    fn read(line: &[u8]) -> Option<(FrameLine, usize)> {
+        if line.is_empty() || line[0] != b'@' {
+            return None;
+        }
+        let (seconds, rest) = match number_item(&line[1..]) {
+            Some(item) => item,
+            None => return None,
+        };
+        let (first, rest) = match word_item(rest) {
+            Some(item) => item,
+            None => return None,
+        };
+        let (second, rest) = match word_item(rest) {
+            Some(item) => item,
+            None => return None,
+        };
+        let (third, rest) = match word_item(rest) {
+            Some(item) => item,
+            None => return None,
+        };
+        let (fourth, rest) = match word_item(rest) {
+            Some(item) => item,
+            None => return None,
+        };
+        let size = match number_of(rest) {
+            Some(size) => size,
+            None => return None,
+        };
+        let moment = match Moment::try_new(seconds) {
+            Some(moment) => moment,
+            None => return None,
+        };
+        if size > limits::FRAME_BYTES as u64 {
+            return None;
+        }
+        let words = Words([first, second, third, fourth]);
+        Some((FrameLine { moment, words }, size as usize))
     }
-    let (seconds, rest) = match number_item(&line[1..]) {
-        Some(item) => item,
-        None => return None,
-    };
-    let (first, rest) = match word_item(rest) {
-        Some(item) => item,
-        None => return None,
-    };
-    let (second, rest) = match word_item(rest) {
-        Some(item) => item,
-        None => return None,
-    };
-    let (third, rest) = match word_item(rest) {
-        Some(item) => item,
-        None => return None,
-    };
-    let (fourth, rest) = match word_item(rest) {
-        Some(item) => item,
-        None => return None,
-    };
-    let size = match number_of(rest) {
-        Some(size) => size,
-        None => return None,
-    };
-    let moment = match Moment::try_new(seconds) {
-        Some(moment) => moment,
-        None => return None,
-    };
-    if size > limits::FRAME_BYTES as u64 {
-        return None;
-    }
-    Some(FrameHead {
-        moment,
-        words: Words([first, second, third, fourth]),
-        size: size as usize,
-    })
 }
 
-/// Reads the line of a setup's frame, without its line feed: how many bytes follow.
-pub fn read_setup_line(line: &[u8]) -> Option<usize>
-    ensures small { IfSome result (λ n. n ≤ 1_048_576) }
-    ensures found { IfSome result (λ n. line.now ≡ setup_line n) }
-    ensures only { SaysSetup line.now (λ n. IsSomeAnd result (λ size. size ≡ n)) }
-{
-    let (mark, rest) = match at_space(line) {
-        Some(parts) => parts,
-        None => return None,
-    };
-    if !is_same(mark, b"@setup") {
-        return None;
+impl FirstLine for SetupLine {
+    ghost is_line = { λ _ size line. IsSetupLine size line };
+
+    fn read(line: &[u8]) -> Option<(SetupLine, usize)> {
+        let (mark, rest) = match at_space(line) {
+            Some(parts) => parts,
+            None => return None,
+        };
+        if !is_same(mark, b"@setup") {
+            return None;
+        }
+        let size = match number_of(rest) {
+            Some(size) => size,
+            None => return None,
+        };
+        if size > limits::SETUP_BYTES as u64 {
+            return None;
+        }
+        Some((SetupLine, size as usize))
     }
-    let size = match number_of(rest) {
-        Some(size) => size,
-        None => return None,
-    };
-    if size > limits::SETUP_BYTES as u64 {
-        return None;
-    }
-    Some(size as usize)
 }

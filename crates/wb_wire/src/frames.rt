@@ -1,11 +1,12 @@
 //! A reader of a script's setup and frames.
 ghost use Rattle.std.specs.Prelude.{◌≡◌, ◌≢◌, ◌≤◌, ◌^◌, Some, None, Err, IfOk, IfErr, IfSome};
 ghost use Rattle.std.specs.Io.KnownBytes.{Keeps};
-ghost use Rattle.wb_wire.specs.FrameReading.{TookNext, HasCause, after_next};
+ghost use Rattle.wb_wire.specs.FrameReading.{TookNext, HasCause, after_next, after_text};
 ghost use Rattle.wb_wire.specs.SetupReading.{TookSetup, LacksSetup, after_setup};
+ghost use Rattle.wb_wire.specs.TextReading.{BeginsNone, GoesOnOtherwise, Stops, TookText};
 
-use crate::frame_line::{read_line, read_setup_line};
-use crate::read_frame::{LINE_ROOM, LineEnd, Part, take_body, take_line};
+use crate::frame_line::{FirstLine, FrameLine, SetupLine};
+use crate::read_text::{Text, take_text};
 use std::alloc::Global;
 use std::marker::Model;
 use wb_base::Source;
@@ -23,9 +24,6 @@ pub enum FrameNo {
     /// There was no memory.
     Memory,
 }
-
-// How many bytes may be taken in all.
-const LIMIT: u64 = 1 << 40;
 
 // An error, which is why the reader stopped.
 fn stop(stopped: &mut Option<FrameNo>, no: FrameNo) -> FrameNo
@@ -85,12 +83,19 @@ impl FrameReader {
         ensures later { (S.end source.old).count ≤ (S.end source.new).count }
         ensures stayed { result ≢ Err FrameNo.Read → (S.end source.new).count ≡ (S.end source.old).count }
     {
-        if let Some(no) = self.stopped {
-            return Err(no);
-        }
-        match self.take_frame(alloc, source) {
-            Ok(next) => Ok(next),
-            Err(no) => Err(stop(&mut self.stopped, no)),
+        let number = self.given + 1;
+        match self.take(alloc, source, number) {
+            Ok(Some(text)) => {
+                let FrameLine { moment, words } = text.head;
+                self.given += 1;
+                Ok(Some(ScriptFrame {
+                    moment,
+                    words,
+                    bytes: text.bytes,
+                }))
+            }
+            Ok(None) => Ok(None),
+            Err(no) => Err(no),
         }
     }
 
@@ -106,84 +111,38 @@ impl FrameReader {
         ensures later { (S.end source.old).count ≤ (S.end source.new).count }
         ensures stayed { result ≢ Err FrameNo.Read → (S.end source.new).count ≡ (S.end source.old).count }
     {
-        if let Some(no) = self.stopped {
-            return Err(no);
-        }
-        match self.take_setup(alloc, source) {
-            Ok(bytes) => Ok(bytes),
-            Err(no) => Err(stop(&mut self.stopped, no)),
+        match self.take::<SetupLine, S>(alloc, source, 0) {
+            Ok(Some(text)) => Ok(text.bytes.into_vec()),
+            Ok(None) => Err(stop(&mut self.stopped, FrameNo::Bad(0))),
+            Err(no) => Err(no),
         }
     }
 
-    // The bytes of the setup of a reader that has not stopped.
-    fn take_setup<S: Source>(&mut self, alloc: Global, source: &mut S) -> Result<Vec<u8>, FrameNo>
-        ensures ok { IfOk result (λ bytes. TookSetup (S.end source.old).left (S.end source.new).left bytes.items) }
-        ensures goes_on { IfOk result (λ bytes. self.new ≡ after_setup self.old bytes.items) }
-        ensures cause { IfErr result (λ no. LacksSetup self.old (S.end source.old).left (S.end source.new).left (S.end source.old).count (S.end source.new).count no) }
-        ensures same { IfErr result (λ no. self.new ≡ self.old) }
-        ensures later { (S.end source.old).count ≤ (S.end source.new).count }
-        ensures stayed { result ≢ Err FrameNo.Read → (S.end source.new).count ≡ (S.end source.old).count }
-    {
-        let most = LIMIT - self.taken;
-        let mut room = [0u8; LINE_ROOM];
-        let used = match take_line(source, most, &mut room) {
-            Ok(LineEnd::Whole(used)) => used,
-            Ok(LineEnd::End) => return Err(FrameNo::Bad(0)),
-            Ok(LineEnd::Broken) => return Err(FrameNo::Bad(0)),
-            Err(no) => return Err(no),
-        };
-        let size = match read_setup_line(&room[..used]) {
-            Some(size) => size,
-            None => return Err(FrameNo::Bad(0)),
-        };
-        let bytes = match take_body(alloc, source, most - used as u64 - 1, size) {
-            Ok(Part::Whole(bytes)) => bytes,
-            Ok(Part::Broken) => return Err(FrameNo::Bad(0)),
-            Ok(Part::NoMemory) => return Err(FrameNo::Memory),
-            Err(no) => return Err(no),
-        };
-        self.taken += (used + size + 2) as u64;
-        Ok(bytes.into_vec())
-    }
-
-    // The next frame of a reader that has not stopped.
-    fn take_frame<S: Source>(
+    // The next text, None at the end of the input, or why the reader stopped: a text that is not of the form is bad under this number.
+    fn take<H: FirstLine, S: Source>(
         &mut self,
         alloc: Global,
         source: &mut S,
-    ) -> Result<Option<ScriptFrame>, FrameNo>
-        ensures ok { IfOk result (λ next. TookNext (S.end source.old).left (S.end source.new).left next) }
-        ensures goes_on { IfOk result (λ next. self.new ≡ after_next self.old next) }
-        ensures cause { IfErr result (λ no. HasCause self.old (S.end source.old).left (S.end source.new).left (S.end source.old).count (S.end source.new).count no) }
-        ensures same { IfErr result (λ no. self.new ≡ self.old) }
+        number: u64,
+    ) -> Result<Option<Text<H>>, FrameNo>
+        ensures ok { IfOk result (λ text. TookText H.is_line self.old.taken (S.end source.old).left (S.end source.new).left text) }
+        ensures goes_on { IfOk result (λ text. self.new ≡ after_text self.old text) }
+        ensures cause { self.old.stopped ≡ None → IfErr result (λ no. Stops (BeginsNone H.is_line) (GoesOnOtherwise H.is_line) self.old.taken number (S.end source.old).left (S.end source.new).left (S.end source.old).count (S.end source.new).count no) }
+        ensures stops { IfErr result (λ no. self.new ≡ record self.old { stopped = Some no }) }
+        ensures again { IfSome self.old.stopped (λ no. (result ≡ Err no) × Keeps (S.end source.old).left (S.end source.new).left × ((S.end source.new).count ≡ (S.end source.old).count)) }
         ensures later { (S.end source.old).count ≤ (S.end source.new).count }
         ensures stayed { result ≢ Err FrameNo.Read → (S.end source.new).count ≡ (S.end source.old).count }
     {
-        let bad = FrameNo::Bad(self.given + 1);
-        let most = LIMIT - self.taken;
-        let mut room = [0u8; LINE_ROOM];
-        let used = match take_line(source, most, &mut room) {
-            Ok(LineEnd::End) => return Ok(None),
-            Ok(LineEnd::Whole(used)) => used,
-            Ok(LineEnd::Broken) => return Err(bad),
-            Err(no) => return Err(no),
-        };
-        let head = match read_line(&room[..used]) {
-            Some(head) => head,
-            None => return Err(bad),
-        };
-        let bytes = match take_body(alloc, source, most - used as u64 - 1, head.size) {
-            Ok(Part::Whole(bytes)) => bytes,
-            Ok(Part::Broken) => return Err(bad),
-            Ok(Part::NoMemory) => return Err(FrameNo::Memory),
-            Err(no) => return Err(no),
-        };
-        self.given += 1;
-        self.taken += (used + head.size + 2) as u64;
-        Ok(Some(ScriptFrame {
-            moment: head.moment,
-            words: head.words,
-            bytes,
-        }))
+        if let Some(no) = self.stopped {
+            return Err(no);
+        }
+        match take_text(alloc, source, self.taken, number) {
+            Ok(Some(text)) => {
+                self.taken += text.size;
+                Ok(Some(text))
+            }
+            Ok(None) => Ok(None),
+            Err(no) => Err(stop(&mut self.stopped, no)),
+        }
     }
 }

@@ -13,6 +13,7 @@ mod laws;
 mod numbers;
 mod paths;
 mod read_frame;
+mod read_text;
 mod replies;
 mod requests;
 mod responses;

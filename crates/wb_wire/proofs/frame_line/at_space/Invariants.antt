@@ -1,5 +1,5 @@
 use Rattle.std.proofs.Common.{take}
-use Rattle.wb_wire.specs.FrameReading.{Lacks}
+use Rattle.wb_wire.specs.TextReading.{Lacks}
 use Rattle.wb_wire.proofs.frame_line.at_space.Given as goal
 
 abbrev pub invariant-loop-at : goal.invariant-loop-at

@@ -1,7 +1,7 @@
 use Rattle.std.proofs.Common.{◌∙◌, sym, arith, decimal, subst}
-use Rattle.wb_wire.specs.FrameReading.{Lacks}
+use Rattle.wb_wire.specs.TextReading.{Lacks}
 use Rattle.wb_wire.proofs.LineLemmas.{decimal_lacks}
-use Rattle.wb_wire.proofs.FrameLemmas.{one_way, stands_there}
+use Rattle.wb_wire.proofs.TextLemmas.{one_way, stands_there}
 use Rattle.wb_wire.proofs.frame_line.number_item.Goals as goal
 
 pub returns-in-None-clause-again : goal.returns-in-None-clause-again

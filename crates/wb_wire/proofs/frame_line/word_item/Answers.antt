@@ -1,8 +1,8 @@
 use Rattle.std.proofs.Common.{◌∙◌, sym, arith, subst}
-use Rattle.wb_wire.specs.FrameReading.{Lacks}
+use Rattle.wb_wire.specs.TextReading.{Lacks}
 use Rattle.wb_model.specs.FrameTexts.{word_text}
 use Rattle.wb_wire.proofs.LineLemmas.{word_lacks}
-use Rattle.wb_wire.proofs.FrameLemmas.{one_way, stands_there}
+use Rattle.wb_wire.proofs.TextLemmas.{one_way, stands_there}
 use Rattle.wb_wire.proofs.frame_line.word_item.Goals as goal
 
 pub returns-in-None-clause-again : goal.returns-in-None-clause-again

@@ -1,6 +1,6 @@
 use Rattle.std.proofs.Common.{[], ◌∷◌, ◌++◌, arith, length-append}
 use Rattle.std.proofs.KnownBytes.{Consumes-trans}
-use Rattle.wb_wire.proofs.FrameLemmas.{other_end}
+use Rattle.wb_wire.proofs.TextLemmas.{other_end}
 use Rattle.wb_wire.proofs.TakingLemmas.{wrong_end}
 use Rattle.wb_wire.proofs.read_frame.take_body.Goals as goal
 

@@ -1,6 +1,6 @@
 use Rattle.std.proofs.Common.{◌≡◌, ◌≤◌, ◌-◌, length, take}
 use Rattle.std.specs.Io.KnownBytes.{Consumes}
-use Rattle.wb_wire.specs.FrameReading.{Lacks}
+use Rattle.wb_wire.specs.TextReading.{Lacks}
 use Rattle.wb_wire.proofs.read_frame.take_line.Given as goal
 
 abbrev pub invariant-loop-used : goal.invariant-loop-used
