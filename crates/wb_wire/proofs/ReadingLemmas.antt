@@ -174,15 +174,11 @@ reads_fit good ordered bytes asked (inl x) =
 reads_fit good ordered bytes asked (inr x) = absurd (cc (x.1))
 
 -- what the body of a route asks is not the host's health
-pub body_not_health : GoodForms → GoodAnswers → (method text : List ℕ) (fields : Fields) (rest : List ℕ) (place : Located) (r : Route) (c : Command) → located text ≡ Some place → route method place.methods ≡ Some r → bare r place.at ≡ None
-    → asks method text fields rest ≡ Ok c → is_health c ≡ false
-body_not_health good ordered method text fields rest place r c found routes none is =
-    let a = asking method text fields rest c is in
-    let same_place : a.place ≡ place = (let t : Some a.place ≡ Some place = sym a.found ∙ found in cc) in
-    let same_route : a.asked ≡ r = (let t : Some a.asked ≡ Some r = sym a.routes ∙ ap (λ (p : Located). route method p.methods) same_place ∙ routes in cc) in
-    let made : command place.at rest a.said r ≡ Ok c = ap (λ (p : Located). command p.at rest a.said r) (sym same_place) ∙ ap (command a.place.at rest a.said) (sym same_route) ∙ a.commands in
-    let of_body : and_then (λ d. ok_or (shaped r place.at d) faults.BadShape) (body_by rest a.said) ≡ Ok c = rw none at made in
-    (body_command good ordered place.at rest a.said r c (place_fits text place found) of_body).1
+pub body_not_health : GoodForms → GoodAnswers → (text rest : List ℕ) (said : Option ℕ) (place : Located) (r : Route) (c : Command) → located text ≡ Some place → bare r place.at ≡ None
+    → command place.at rest said r ≡ Ok c → is_health c ≡ false
+body_not_health good ordered text rest said place r c found none made =
+    let of_body : and_then (λ d. ok_or (shaped r place.at d) faults.BadShape) (body_by rest said) ≡ Ok c = rw none at made in
+    (body_command good ordered place.at rest said r c (place_fits text place found) of_body).1
 
 -- ---- from the parts
 

@@ -110,17 +110,20 @@ fn body(alloc: Global, said: Option<u64>, rest: &[u8]) -> Result<Value, WireFaul
     }
 }
 
-// The command of a route with a body.
-fn with_body(
+// What a route asks. Only one with a body wants memory.
+fn route_command(
     alloc: Global,
-    numbers: &Numbers,
     route: Route,
+    numbers: &Numbers,
     said: Option<u64>,
     rest: &[u8],
 ) -> Result<Command, WireFault>
-    requires { bare_of route (at_place numbers.now) ≡ None }
-    ensures { GivesOrWants (command_of (at_place numbers.now) rest.now said route) result }
+    ensures asked { GivesOrWants (command_of (at_place numbers.now) rest.now said route) result }
+    ensures memory { result ≡ Err WireFault.Memory → bare_of route (at_place numbers.now) ≡ None }
 {
+    if let Some(command) = bare(route, numbers) {
+        return Ok(command);
+    }
     let value = body(alloc, said, rest)?;
     match shaped(alloc, route, numbers, &value) {
         Ok(command) => Ok(command),
@@ -129,7 +132,7 @@ fn with_body(
     }
 }
 
-// What the parts ask. Only a route with a body wants memory.
+// What the parts ask. A request for the host's health takes no memory.
 fn read_command(alloc: Global, routes: &Routes, parts: &Parts) -> Result<Command, WireFault>
     requires { All (IsHeaderWithin (length parts.now.bytes.now)) parts.now.fields.now }
     ensures asked { GivesOrWants (asks_of parts.now) result }
@@ -144,14 +147,7 @@ fn read_command(alloc: Global, routes: &Routes, parts: &Parts) -> Result<Command
     };
     good_forms_are_those_that_are_read();
     answers_that_are_read_stand_in_order();
-    let numbers = place.numbers();
-    if let Some(command) = bare(route, &numbers) {
-        return Ok(command);
-    }
-    match with_body(alloc, &numbers, route, said, parts.rest) {
-        Ok(command) => Ok(command),
-        Err(fault) => Err(fault),
-    }
+    route_command(alloc, route, &place.numbers(), said, parts.rest)
 }
 
 // The refusal for a fault, of a request whose head asks for this closing.
