@@ -1,17 +1,17 @@
 -- Links that are attended one after another.
-use Rattle.std.proofs.Common.{◌≡◌, ◌≤◌, ◌<◌, ◌+◌, ◌-◌, ◌^◌, inl, inr, ℕ, nat_le, Bool, true, false, List, [], ◌∷◌, ◌++◌, Option, Some, None, refl, sym, ap, ◌∙◌, subst, arith}
+use Rattle.std.proofs.Common.{◌≡◌, ◌≢◌, ◌≤◌, ◌<◌, ◌+◌, ◌-◌, ◌^◌, inl, inr, ℕ, nat_le, Bool, true, false, List, [], ◌∷◌, ◌++◌, Option, Some, None, refl, sym, ap, ◌∙◌, subst, arith}
 use Rattle.std.proofs.lemmas.List.{append_assoc, append-nil}
 use Rattle.std.proofs.lemmas.Bool.Decides.{nat_tests}
 use Rattle.std.specs.Io.KnownBytes.{Appends}
 use Rattle.wb_base.specs.Outside.{Rose}
 use Rattle.wb_model.specs.declared.body.Told.{Told}
 use Rattle.wb_model.specs.Requests.{Frame}
-use Rattle.wb_transport.specs.Lines.{Clock, Line, Lines, Tick}
+use Rattle.wb_transport.specs.Lines.{Clock, HasGiven, IsLine, Line, Lines, LinkEnd, ListenerEnd}
 use Rattle.wb_front.specs.declared.connection.Ended.{Ended}
 use Rattle.wb_front.specs.declared.connection.Ended.TheVariants as ended
 use Rattle.wb_front.specs.Attended.{sides_of, IsAttended, AreAttended, HasWorked, RoseOften}
 use Rattle.wb_front.specs.Endings.{EndsSo, IsEnded}
-use Rattle.wb_front.specs.Served.{Exchange, Sides, HasExchanged}
+use Rattle.wb_front.specs.Served.{Exchange, Sides, HasExchanged, sides_at}
 
 -- a link that tells goes on telling
 grown : (old new : Option (List ℕ)) (g : List ℕ) (bytes : List ℕ) → old ≡ Some g → Appends old new bytes → (g' : List ℕ) × (new ≡ Some g')
@@ -40,8 +40,37 @@ tells_so Ran a b xs held l g (ended.Refused fault) left got (inl h) = tells_by R
 tells_so Ran a b xs held l g (ended.Refused fault) left got (inr h) = tells_by Ran a b xs held l g _ left got h.0.served h.0.sent
 tells_so Ran a b xs held l g ended.Memory left got h = (l, g, ap (λ (s : Sides _). s.left) h ∙ left, ap (λ (s : Sides _). s.got) h ∙ got)
 
-pub still_tells : {O : Type 0} (Ran : O → Frame → Told → O → Type 0) (a b : Sides O) (l g : List ℕ) (how : Ended) → a.left ≡ Some l → a.got ≡ Some g → IsEnded Ran a b how → StillTells b
+still_tells : {O : Type 0} (Ran : O → Frame → Told → O → Type 0) (a b : Sides O) (l g : List ℕ) (how : Ended) → a.left ≡ Some l → a.got ≡ Some g → IsEnded Ran a b how → StillTells b
 still_tells Ran a b l g how left got h = tells_so Ran a b h.0 h.1 l g how left got h.2
+
+-- a connection over links that are seen as lines ended so over the lines
+ended_at : {O : Type 0} (Ran : O → Frame → Told → O → Type 0) (link link' : LinkEnd) (a b : Line) (clock clock' : Clock) (own own' : O) (how : Ended) → IsLine link a → IsLine link' b
+    → IsEnded Ran (sides_at link clock own) (sides_at link' clock' own') how → IsEnded Ran (sides_of a clock.left own) (sides_of b clock'.left own') how
+ended_at Ran link link' a b clock clock' own own' how is is' h =
+    subst (λ (s : Sides _). IsEnded Ran s (sides_of b clock'.left own') how) (λ i. record { left = is.has_left i; got = is.has_got i; moments = clock.left; own = own })
+    (subst (λ (s : Sides _). IsEnded Ran (sides_at link clock own) s how) (λ i. record { left = is'.has_left i; got = is'.has_got i; moments = clock'.left; own = own' }) h)
+
+-- after a connection a link that was seen as a line is seen as one still, and the line was attended
+pub line_attended : {O : Type 0} (Ran : O → Frame → Told → O → Type 0) (link link' : LinkEnd) (a : Line) (clock clock' : Clock) (own own' : O) (how : Ended) → IsLine link a → IsEnded Ran (sides_at link clock own) (sides_at link' clock' own') how
+    → (how ≡ ended.ReadFault → Rose link.count link'.count) → (how ≡ ended.WriteFault → Rose link.count link'.count) → (how ≡ ended.ClockFault → Rose clock.count clock'.count)
+    → (how ≢ ended.ReadFault → how ≢ ended.WriteFault → link'.count ≡ link.count) → (how ≢ ended.ClockFault → clock'.count ≡ clock.count)
+    → (b : Line) × IsLine link' b × IsAttended Ran a b own own' clock clock'
+line_attended Ran link link' a clock clock' own own' how line h read write ticked stayed kept =
+    let still = still_tells Ran (sides_at link clock own) (sides_at link' clock' own') a.left a.got how line.has_left line.has_got h in
+    let b : Line = record { left = still.0; got = still.1; count = link'.count } in
+    let line' : IsLine link' b = record { has_left = still.2; has_got = still.3; counts = refl } in (
+      b,
+      line',
+      record {
+        how = how;
+        ended = ended_at Ran link link' a b clock clock' own own' how line line' h;
+        read_failed = λ e. subst (λ n. Rose n b.count) line.counts (read e);
+        write_failed = λ e. subst (λ n. Rose n b.count) line.counts (write e);
+        clock_failed = ticked;
+        link_stayed = λ r w. stayed r w ∙ line.counts;
+        clock_stayed = kept;
+      },
+    )
 
 -- one more link was attended
 attended_more : {O : Type 0} (Ran : O → Frame → Told → O → Type 0) (gave came : List Line) (a b : Line) (own o own' : O) (clock c clock' : Clock) → AreAttended Ran gave came own o clock c → IsAttended Ran a b o own' c clock' →
@@ -66,21 +95,18 @@ worked_more Ran x y a b rest own o own' clock c clock' h left one = record {
 pub nothing_worked : {O : Type 0} (Ran : O → Frame → Told → O → Type 0) (x : Lines) (own : O) (clock : Clock) → HasWorked Ran x x own own clock clock
 nothing_worked Ran x own clock = record { gave = []; came = []; left_is = refl; came_is = sym (append-nil x.came); out_is = refl; attended = (refl, refl) }
 
-pub ended_at : {O : Type 0} (Ran : O → Frame → Told → O → Type 0) (left got left' got' : Option (List ℕ)) (a b : Line) (moments moments' : Option (List Tick)) (own own' : O) (how : Ended) → left ≡ Some a.left → got ≡ Some a.got → left' ≡ Some b.left → got' ≡ Some b.got →
-    IsEnded Ran (record { left = left; got = got; moments = moments; own = own }) (record { left = left'; got = got'; moments = moments'; own = own' }) how → IsEnded Ran (sides_of a moments own) (sides_of b moments' own') how
-ended_at Ran left got left' got' a b moments moments' own own' how l g l' g' h =
-    subst (λ (s : Sides _). IsEnded Ran s (sides_of b moments' own') how) (λ i. record { left = l i; got = g i; moments = moments; own = own })
-    (subst (λ (s : Sides _). IsEnded Ran (record { left = left; got = got; moments = moments; own = own }) s how) (λ i. record { left = l' i; got = g' i; moments = moments'; own = own' }) h)
-
 -- ---- a listener's calls
 
 -- a link that was given is out
-pub out_given : (o o' : Option Lines) (A : Lines → Line → List Line → Type 0) (B : Line → Type 0) → (o ≡ None → o' ≡ None) → ((x : Lines) → o ≡ Some x → (line : Line) × (rest : List Line) × A x line rest × B line × (o' ≡ Some (record x { left = rest; out = x.out + 1 }))) → (z : Lines) → o' ≡ Some z → 0 < z.out
-out_given None o' A B untold given z is = absurd (let none : o' ≡ None = untold refl in let both : Some z ≡ None = sym is ∙ none in grind (arith, both))
-out_given (Some x) o' A B untold given z is =
-    let one = given x refl in
-    let same : record x { left = one.1; out = x.out + 1 } ≡ z = (let both : Some (record x { left = one.1; out = x.out + 1 }) ≡ Some z = sym one.4 ∙ is in cc) in
-    subst (λ (y : Lines). 0 < y.out) same (omega arith)
+pub out_given : (listener listener' : ListenerEnd) (link : LinkEnd) → (listener.told ≡ None → listener'.told ≡ None) → ((x : Lines) → listener.told ≡ Some x → HasGiven x link listener') → (z : Lines) → listener'.told ≡ Some z → 0 < z.out
+out_given listener listener' link untold given z is = by listener.told refl
+  where
+    by : (o : Option Lines) → listener.told ≡ o → 0 < z.out
+    by None e = absurd (let none : listener'.told ≡ None = untold e in let both : Some z ≡ None = sym is ∙ none in grind (arith, both))
+    by (Some x) e =
+        let one = given x e in
+        let same : record x { left = one.1; out = x.out + 1 } ≡ z = (let both : Some (record x { left = one.1; out = x.out + 1 }) ≡ Some z = sym one.4 ∙ is in cc) in
+        subst (λ (y : Lines). 0 < y.out) same (omega arith)
 
 pub rose_more : (times before old now : ℕ) → RoseOften times before old → old ≤ now → Rose old now → RoseOften (times + 1) before now
 rose_more times before old now often later rose = by often (nat_le (old + 1) (2 ^ 64 - 1)) refl

@@ -3,7 +3,7 @@ use Rattle.std.specs.Prelude.{◌≡◌, ◌≢◌, ◌⊎◌, ◌+◌, ◌-◌,
 use Rattle.wb_base.specs.Outside.{Rose}
 use Rattle.wb_model.specs.declared.body.Told.{Told}
 use Rattle.wb_model.specs.Requests.{Frame}
-use Rattle.wb_transport.specs.Lines.{Clock, IsLine, Line, Lines, LinkEnd, ListenerEnd, Tick}
+use Rattle.wb_transport.specs.Lines.{Clock, Line, Lines, ListenerEnd, Tick}
 use Rattle.wb_front.specs.Endings.{IsEnded}
 use Rattle.wb_front.specs.Served.{Sides}
 use Rattle.wb_front.specs.declared.connection.Ended.{Ended}
@@ -45,12 +45,7 @@ RoseOften times before now = (before + times ≤ now) ⊎ (2 ^ 64 - 1 ≤ now)
 
 -- ---- by what the ends tell
 
--- a link that the listener gave came back to it, attended
-abbrev pub AttendsLink : {O : Type 0} → (O → Frame → Told → O → Type 0) → ListenerEnd → LinkEnd → ListenerEnd → O → O → Clock → Clock → Type 0
-AttendsLink Ran listener link listener' own own' clock clock' =
-    (x : Lines) (a : Line) → listener.told ≡ Some x → IsLine link a → (b : Line) × IsAttended Ran a b own own' clock clock' × (listener'.told ≡ Some (record x { out = x.out - 1; came = x.came ++ b ∷ [] }))
-
--- so did each of the links that it gave
+-- each link that the listener gave came back to it, attended
 abbrev pub AttendsLinks : {O : Type 0} → (O → Frame → Told → O → Type 0) → ListenerEnd → ListenerEnd → O → O → Clock → Clock → Type 0
 AttendsLinks Ran listener listener' own own' clock clock' = (x : Lines) → listener.told ≡ Some x → (y : Lines) × (listener'.told ≡ Some y) × HasWorked Ran x y own own' clock clock'
 

@@ -1,7 +1,6 @@
 //! A worker: it attends link after link, until its listener has none.
-ghost use Rattle.std.specs.Prelude.{◌≡◌, ◌≤◌, ◌<◌, ◌-◌, Some};
-ghost use Rattle.wb_transport.specs.Lines.{Lines};
-ghost use Rattle.wb_front.specs.Attended.{RoseOften, AttendsLink, AttendsLinks, HasNone};
+ghost use Rattle.std.specs.Prelude.{◌≡◌};
+ghost use Rattle.wb_front.specs.Attended.{RoseOften, AttendsLinks, HasNone};
 
 use crate::connection::serve_connection;
 use std::alloc::Global;
@@ -26,37 +25,6 @@ pub enum Worked {
     End,
     /// Its listener failed at 16 calls.
     ListenFault,
-}
-
-// Attends a link that the listener gave, and hands it back.
-fn attend<
-    R: Wait,
-    K: Keeper,
-    A: Origin,
-    B: Ledger,
-    G: Gate<K, A, B, Turn>,
-    Li: Listener,
-    T: Ticker,
->(
-    rt: &R,
-    alloc: Global,
-    gate: &G,
-    routes: &Routes,
-    own: &mut G::Own,
-    station: &mut Station<Li, T>,
-    link: Li::End,
-)
-    requires of { G.of gate.now own.old }
-    requires out { (x : Lines) → (Li.end station.old.listener).told ≡ Some x → 0 < x.out }
-    ensures of { G.of gate.now own.new }
-    ensures attended { AttendsLink (λ own frame told own'. G.ran own frame told own') (Li.end station.old.listener) (Li.End.end link) (Li.end station.new.listener) own.old own.new (T.end station.old.ticker) (T.end station.new.ticker) }
-    ensures count { (Li.end station.new.listener).count ≡ (Li.end station.old.listener).count }
-    ensures parts { G.parts own.new ≡ G.parts own.old }
-    ensures later { (T.end station.old.ticker).count ≤ (T.end station.new.ticker).count }
-{
-    let mut link = link;
-    serve_connection(rt, alloc, gate, routes, own, &mut link, &mut station.ticker);
-    station.listener.back(link);
 }
 
 /// Attends link after link, and hands each back to its listener as it is then. It ends where the listener has no more, or failed often.
@@ -93,7 +61,11 @@ pub fn work<
                 }
             }
             Ok(None) => return Worked::End,
-            Ok(Some(link)) => attend(rt, alloc, gate, routes, own, station, link),
+            Ok(Some(link)) => {
+                let mut link = link;
+                serve_connection(rt, alloc, gate, routes, own, &mut link, &mut station.ticker);
+                station.listener.back(link);
+            }
         }
     }
     unreachable!()

@@ -1,7 +1,6 @@
 use Rattle.std.proofs.Common.{◌≡◌, ◌+◌, ◌-◌, inl, [], ◌∷◌, ◌++◌, Some, refl, ap, ◌∙◌, subst, arith}
-use Rattle.wb_transport.specs.Lines.{IsLine}
 use Rattle.wb_front.specs.Attended.{RoseOften}
-use Rattle.wb_front.proofs.Working.{nothing_worked, worked_more, out_given, none_left, rose_more, rose_stays}
+use Rattle.wb_front.proofs.Working.{line_attended, nothing_worked, worked_more, out_given, none_left, rose_more, rose_stays}
 use Rattle.wb_front.proofs.worker.work.Goals as goal
 
 pub loop-init : goal.loop-init
@@ -33,24 +32,24 @@ returns-in-Ok-None-clause-attended g c = λ x is. let y = c.loop.invariant.0 x i
 pub returns-in-Ok-None-clause-ended : goal.returns-in-Ok-None-clause-ended
 returns-in-Ok-None-clause-ended g c = λ e z is. none_left (g.Li.Listener.end c.loop.station.listener).told (g.Li.Listener.end c.next-in-loop.new.self).told c.in-Ok-None.ensures.untold (λ x told. rw c.in-Ok-None.field-0-is at (c.in-Ok-None.ensures.none x told)) z is
 
-pub attend-requires-clause-out : goal.attend-requires-clause-out
-attend-requires-clause-out g c =
-    out_given (g.Li.Listener.end c.loop.station.listener).told (g.Li.Listener.end c.next-in-loop.new.self).told (λ x line rest. x.left ≡ line ∷ rest)
-    (λ line. IsLine (g.Li.End.Link.end c.in-Ok-Some.link) line) c.in-Ok-Some.ensures.untold (λ x told. rw c.in-Ok-Some.field-0-is at (c.in-Ok-Some.ensures.given x told))
+pub back-requires : goal.back-requires
+back-requires g c = out_given (g.Li.Listener.end c.loop.station.listener) (g.Li.Listener.end c.next-in-loop.new.self) (g.Li.End.Link.end c.in-Ok-Some.link) c.in-Ok-Some.ensures.untold (λ x told. rw c.in-Ok-Some.field-0-is at (c.in-Ok-Some.ensures.given x told))
 
 pub loop-preserved : goal.loop-preserved
-loop-preserved g c = (
-  (λ x is.
-      let y = c.loop.invariant.0 x is in
-      let gave = rw c.in-Ok-Some.field-0-is at (c.in-Ok-Some.ensures.given y.0 y.1) in
-      let one = c.attend.ensures.attended (record y.0 { left = gave.1; out = y.0.out + 1 }) gave.0 gave.4 gave.3 in
-      let back : y.0.out + 1 - 1 ≡ y.0.out = omega arith in (
-        record { left = gave.1; out = y.0.out; came = y.0.came ++ one.0 ∷ [] },
-        one.2 ∙ ap (λ n. Some (record { left = gave.1; out = n; came = y.0.came ++ one.0 ∷ [] })) back,
-        worked_more (λ own frame told own'. g.G.Gate.ran own frame told own') x y.0 gave.0 one.0 gave.1 c.args.own.now c.loop.own c.attend.new.own (g.T.Ticker.end c.args.station.now.ticker) (g.T.Ticker.end c.loop.station.ticker) (g.T.Ticker.end c.attend.new.station.ticker) y.2 gave.2 one.1,
-      )),
-  rose_stays c.loop.failed (g.Li.Listener.end c.args.station.now.listener).count (g.Li.Listener.end c.loop.station.listener).count (g.Li.Listener.end c.attend.new.station.listener).count c.loop.invariant.1 (omega (arith, c.attend.ensures.count, c.in-Ok-Some.ensures.cause.later)),
-  c.loop.invariant.2,
-  c.attend.ensures.parts ∙ c.loop.invariant.3,
-  c.attend.ensures.of,
-)
+loop-preserved g c =
+    let served = c.serve_connection.ensures in (
+      (λ x is.
+          let y = c.loop.invariant.0 x is in
+          let gave = rw c.in-Ok-Some.field-0-is at (c.in-Ok-Some.ensures.given y.0 y.1) in
+          let one = line_attended (λ own frame told own'. g.G.Gate.ran own frame told own') (g.Li.End.Link.end c.in-Ok-Some.link) (g.Li.End.Link.end c.serve_connection.new.link) gave.0 (g.T.Ticker.end c.loop.station.ticker) (g.T.Ticker.end c.serve_connection.new.ticker) c.loop.own c.serve_connection.new.own
+          c.serve_connection.result gave.3 served.ended served.read_fault served.write_fault served.clock_fault served.link_stayed served.clock_stayed in
+          let back : y.0.out + 1 - 1 ≡ y.0.out = omega arith in (
+            record { left = gave.1; out = y.0.out; came = y.0.came ++ one.0 ∷ [] },
+            c.back.ensures.came (record y.0 { left = gave.1; out = y.0.out + 1 }) one.0 gave.4 one.1 ∙ ap (λ n. Some (record { left = gave.1; out = n; came = y.0.came ++ one.0 ∷ [] })) back,
+            worked_more (λ own frame told own'. g.G.Gate.ran own frame told own') x y.0 gave.0 one.0 gave.1 c.args.own.now c.loop.own c.serve_connection.new.own (g.T.Ticker.end c.args.station.now.ticker) (g.T.Ticker.end c.loop.station.ticker) (g.T.Ticker.end c.serve_connection.new.ticker) y.2 gave.2 one.2,
+          )),
+      rose_stays c.loop.failed (g.Li.Listener.end c.args.station.now.listener).count (g.Li.Listener.end c.loop.station.listener).count (g.Li.Listener.end c.back.new.self).count c.loop.invariant.1 (omega (arith, c.back.ensures.count, c.in-Ok-Some.ensures.cause.later)),
+      c.loop.invariant.2,
+      served.parts ∙ c.loop.invariant.3,
+      served.of,
+    )
