@@ -1,5 +1,5 @@
 -- What a reader takes of a text that is a line and the bytes that it says, each with a line feed after it.
-use Rattle.std.specs.Prelude.{ℕ, ◌≡◌, ◌≢◌, ◌+◌, ◌≤◌, ◌^◌, List, [], ◌∷◌, ◌++◌, length, slice_index, EachIndex, Option, None, Some, IfSome}
+use Rattle.std.specs.Prelude.{ℕ, ◌≡◌, ◌≢◌, ◌+◌, ◌≤◌, ◌^◌, List, [], ◌∷◌, ◌++◌, length, slice_index, EachIndex, Option, None, Some, IfSome, Result, Err}
 use Rattle.std.specs.Io.KnownBytes.{Consumes, IsAtEnd}
 use Rattle.wb_base.specs.Outside.{Rose}
 use Rattle.wb_wire.specs.declared.frames.FrameNo.{FrameNo}
@@ -28,6 +28,11 @@ TookText IsLine taken old new (Some text) =
 TookText IsLine taken old new None = Consumes old new [] × IsAtEnd new
 
 -- ---- why a reader stops
+
+-- the source's count did not fall, and it stayed where no reading of the source failed
+pub record HasCounted {T : Type 0} (before now : ℕ) (result : Result T FrameNo) : Type 0 where
+  pub later : before ≤ now
+  pub stayed : result ≢ Err Read → now ≡ before
 
 -- after so many bytes, bytes within the limit were taken, of which this is so
 abbrev pub TookSome : (List ℕ → Type 0) → ℕ → Option (List ℕ) → Option (List ℕ) → Type 0

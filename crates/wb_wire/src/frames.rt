@@ -3,7 +3,7 @@ ghost use Rattle.std.specs.Prelude.{◌≡◌, ◌≢◌, ◌≤◌, ◌^◌, So
 ghost use Rattle.std.specs.Io.KnownBytes.{Keeps};
 ghost use Rattle.wb_wire.specs.FrameReading.{TookNext, HasCause, after_next, after_text};
 ghost use Rattle.wb_wire.specs.SetupReading.{TookSetup, LacksSetup, after_setup};
-ghost use Rattle.wb_wire.specs.TextReading.{BeginsNone, GoesOnOtherwise, Stops, TookText};
+ghost use Rattle.wb_wire.specs.TextReading.{BeginsNone, GoesOnOtherwise, HasCounted, Stops, TookText};
 
 use crate::frame_line::{FirstLine, FrameLine, SetupLine};
 use crate::read_text::{Text, take_text};
@@ -130,8 +130,7 @@ impl FrameReader {
         ensures cause { self.old.stopped ≡ None → IfErr result (λ no. Stops (BeginsNone H.is_line) (GoesOnOtherwise H.is_line) self.old.taken number (S.end source.old).left (S.end source.new).left (S.end source.old).count (S.end source.new).count no) }
         ensures stops { IfErr result (λ no. self.new ≡ record self.old { stopped = Some no }) }
         ensures again { IfSome self.old.stopped (λ no. (result ≡ Err no) × Keeps (S.end source.old).left (S.end source.new).left × ((S.end source.new).count ≡ (S.end source.old).count)) }
-        ensures later { (S.end source.old).count ≤ (S.end source.new).count }
-        ensures stayed { result ≢ Err FrameNo.Read → (S.end source.new).count ≡ (S.end source.old).count }
+        ensures counts { HasCounted (S.end source.old).count (S.end source.new).count result }
     {
         if let Some(no) = self.stopped {
             return Err(no);

@@ -1,7 +1,8 @@
 //! Taking the parts of a frame from a source, of which at most so many bytes may be taken.
-ghost use Rattle.std.specs.Prelude.{◌≡◌, ◌≢◌, ◌<◌, ◌≤◌, length, take, [], Err, IfOk, IfErr};
+ghost use Rattle.std.specs.Prelude.{◌≡◌, ◌<◌, ◌≤◌, length, take, [], IfOk, IfErr};
 ghost use Rattle.std.specs.Io.KnownBytes.{Consumes, IsAtEnd};
 ghost use Rattle.wb_wire.specs.FrameReading.{Stopped, TookLine, StoppedInLine, TookBytes, StoppedInBytes, TookByte, TookBody, StoppedInBody};
+ghost use Rattle.wb_wire.specs.TextReading.{HasCounted};
 
 use crate::FrameNo;
 use std::alloc::{AllocError, Global};
@@ -37,8 +38,7 @@ fn take_some<S: Source>(source: &mut S, most: u64, into: &mut [u8]) -> Result<us
     ensures ok { IfOk result (λ n. Consumes (S.end source.old).left (S.end source.new).left (take n into.new)) }
     ensures end { IfOk result (λ n. n ≡ 0 → IsAtEnd (S.end source.new).left) }
     ensures err { IfErr result (λ no. Stopped most (S.end source.old).left (S.end source.new).left (S.end source.old).count (S.end source.new).count [] no) }
-    ensures later { (S.end source.old).count ≤ (S.end source.new).count }
-    ensures stayed { result ≢ Err FrameNo.Read → (S.end source.new).count ≡ (S.end source.old).count }
+    ensures counts { HasCounted (S.end source.old).count (S.end source.new).count result }
 {
     if most == 0 {
         let mut probe = [0u8; 1];
@@ -63,8 +63,7 @@ pub fn take_line<S: Source>(
 ) -> Result<LineEnd, FrameNo>
     ensures ok { IfOk result (λ line. TookLine most (S.end source.old).left (S.end source.new).left room.new line) }
     ensures err { IfErr result (λ no. StoppedInLine most (S.end source.old).left (S.end source.new).left (S.end source.old).count (S.end source.new).count no) }
-    ensures later { (S.end source.old).count ≤ (S.end source.new).count }
-    ensures stayed { result ≢ Err FrameNo.Read → (S.end source.new).count ≡ (S.end source.old).count }
+    ensures counts { HasCounted (S.end source.old).count (S.end source.new).count result }
 {
     let mut used = 0;
     let mut byte = [0u8; 1];
@@ -95,8 +94,7 @@ fn fill<S: Source>(source: &mut S, most: u64, room: &mut [u8]) -> Result<usize, 
     ensures ok { IfOk result (λ n. Consumes (S.end source.old).left (S.end source.new).left (take n room.new)) }
     ensures end { IfOk result (λ n. n < length room.new → IsAtEnd (S.end source.new).left) }
     ensures err { IfErr result (λ no. StoppedInBytes (length room.new) most (S.end source.old).left (S.end source.new).left (S.end source.old).count (S.end source.new).count no) }
-    ensures later { (S.end source.old).count ≤ (S.end source.new).count }
-    ensures stayed { result ≢ Err FrameNo.Read → (S.end source.new).count ≡ (S.end source.old).count }
+    ensures counts { HasCounted (S.end source.old).count (S.end source.new).count result }
 {
     let mut at = 0;
     while at < room.len() {
@@ -125,8 +123,7 @@ fn take_bytes<S: Source>(
 ) -> Result<Part, FrameNo>
     ensures ok { IfOk result (λ part. TookBytes size most (S.end source.old).left (S.end source.new).left part) }
     ensures err { IfErr result (λ no. StoppedInBytes size most (S.end source.old).left (S.end source.new).left (S.end source.old).count (S.end source.new).count no) }
-    ensures later { (S.end source.old).count ≤ (S.end source.new).count }
-    ensures stayed { result ≢ Err FrameNo.Read → (S.end source.new).count ≡ (S.end source.old).count }
+    ensures counts { HasCounted (S.end source.old).count (S.end source.new).count result }
 {
     let mut bytes = match zeros(alloc, size) {
         Ok(bytes) => bytes,
@@ -147,8 +144,7 @@ fn take_bytes<S: Source>(
 fn take_byte<S: Source>(source: &mut S, most: u64) -> Result<Option<u8>, FrameNo>
     ensures ok { IfOk result (λ byte. TookByte most (S.end source.old).left (S.end source.new).left byte) }
     ensures err { IfErr result (λ no. Stopped most (S.end source.old).left (S.end source.new).left (S.end source.old).count (S.end source.new).count [] no) }
-    ensures later { (S.end source.old).count ≤ (S.end source.new).count }
-    ensures stayed { result ≢ Err FrameNo.Read → (S.end source.new).count ≡ (S.end source.old).count }
+    ensures counts { HasCounted (S.end source.old).count (S.end source.new).count result }
 {
     let mut byte = [0u8; 1];
     match take_some(source, most, &mut byte) {
@@ -167,8 +163,7 @@ pub fn take_body<S: Source>(
 ) -> Result<Part, FrameNo>
     ensures ok { IfOk result (λ part. TookBody size most (S.end source.old).left (S.end source.new).left part) }
     ensures err { IfErr result (λ no. StoppedInBody size most (S.end source.old).left (S.end source.new).left (S.end source.old).count (S.end source.new).count no) }
-    ensures later { (S.end source.old).count ≤ (S.end source.new).count }
-    ensures stayed { result ≢ Err FrameNo.Read → (S.end source.new).count ≡ (S.end source.old).count }
+    ensures counts { HasCounted (S.end source.old).count (S.end source.new).count result }
 {
     let bytes = match take_bytes(alloc, source, most, size) {
         Ok(Part::Whole(bytes)) => bytes,

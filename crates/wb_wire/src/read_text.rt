@@ -1,6 +1,6 @@
 //! Taking a text from a source: a first line and the bytes that it says, each with a line feed after it.
-ghost use Rattle.std.specs.Prelude.{◌≡◌, ◌≢◌, ◌≤◌, ◌^◌, Err, IfOk, IfErr};
-ghost use Rattle.wb_wire.specs.TextReading.{BeginsNone, GoesOnOtherwise, Stops, TookText};
+ghost use Rattle.std.specs.Prelude.{◌≤◌, ◌^◌, IfOk, IfErr};
+ghost use Rattle.wb_wire.specs.TextReading.{BeginsNone, GoesOnOtherwise, HasCounted, Stops, TookText};
 
 use crate::FrameNo;
 use crate::frame_line::FirstLine;
@@ -30,8 +30,7 @@ pub fn take_text<H: FirstLine, S: Source>(
     requires { taken ≤ 2 ^ 40 }
     ensures ok { IfOk result (λ text. TookText H.is_line taken (S.end source.old).left (S.end source.new).left text) }
     ensures cause { IfErr result (λ no. Stops (BeginsNone H.is_line) (GoesOnOtherwise H.is_line) taken number (S.end source.old).left (S.end source.new).left (S.end source.old).count (S.end source.new).count no) }
-    ensures later { (S.end source.old).count ≤ (S.end source.new).count }
-    ensures stayed { result ≢ Err FrameNo.Read → (S.end source.new).count ≡ (S.end source.old).count }
+    ensures counts { HasCounted (S.end source.old).count (S.end source.new).count result }
 {
     let most = LIMIT - taken;
     let mut room = [0u8; LINE_ROOM];

@@ -12,7 +12,7 @@ loop-at-preserved g c =
       fits = search rules;
       most = omega (arith, c.loop-at.invariant.most, c.in-Ok.ensures.most);
       taken = rw grown (Consumes-trans _ _ _ _ _ c.loop-at.invariant.taken c.in-Ok.ensures.ok);
-      stayed = grind (arith, c.in-Ok.ensures.stayed, c.loop-at.invariant.stayed);
+      stayed = grind (arith, c.in-Ok.ensures.counts.stayed, c.loop-at.invariant.stayed);
     }
 
 pub returns-in-Err-clause-err : goal.returns-in-Err-clause-err

@@ -66,4 +66,4 @@ returns-in-Err-take_body-clause-cause g c =
     let body = c.in-Err-take_body.ensures.err in
     stops (BeginsNone g.H.FirstLine.is_line) (GoesOnOtherwise g.H.FirstLine.is_line) c.args.taken c.args.number (2 ^ 40 - c.args.taken) _ _ _ _ (line ++ 10 ∷ body.0) c.in-Err-take_body.no (omega (arith, c.requires))
     (no_body g.H.FirstLine.is_line line body.0 c.in-Some.said.1 took.3 c.in-Some.ensures.only body.1)
-    (stopped_after (2 ^ 40 - c.args.taken) c.in-Ok-Whole.used _ _ _ _ _ _ line body.0 c.in-Err-take_body.no c.take_line.ensures.later whole took.1 took.2 body.2)
+    (stopped_after (2 ^ 40 - c.args.taken) c.in-Ok-Whole.used _ _ _ _ _ _ line body.0 c.in-Err-take_body.no c.take_line.ensures.counts.later whole took.1 took.2 body.2)
