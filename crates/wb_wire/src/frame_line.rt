@@ -1,5 +1,5 @@
 //! The first line of a frame, and of a setup's.
-ghost use Rattle.std.specs.Prelude.{◌≡◌, ◌<◌, ◌≤◌, ◌^◌, ◌++◌, ◌∷◌, ℕ, List, decimal, length, slice_index, IfSome, IfNone, IsSomeAnd};
+ghost use Rattle.std.specs.Prelude.{◌≡◌, ◌<◌, ◌^◌, ◌++◌, ◌∷◌, ℕ, List, decimal, IfSome, IfNone, IsSomeAnd};
 ghost use Rattle.wb_model.specs.FrameTexts.{word_text};
 ghost use Rattle.wb_wire.specs.FrameReading.{IsFrameLine};
 ghost use Rattle.wb_wire.specs.SetupReading.{IsSetupLine};
