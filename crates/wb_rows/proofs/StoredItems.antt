@@ -24,9 +24,10 @@ use Rattle.wb_row_codec.specs.declared.item.Item.{Item}
 use Rattle.wb_row_codec.specs.declared.item.Item.TheVariants as items
 use Rattle.wb_row_codec.specs.Items.{item_row, where_in, of_kind, shaped, is_row, item_of}
 use Rattle.wb_row_codec.specs.SaidDeeds as said
+use Rattle.wb_model.specs.DeedFields as table
+use Rattle.wb_model.specs.DeedFields.{Field, Value, Keyed, Values, Maker, Shape, Whole, Text, TextOrNull, Date, Flag, Hash, Users, Answers, StatusName}
 use Rattle.wb_json.specs.Dates.{date as date_read}
 use Rattle.wb_row_codec.specs.Shapes as shapes
-use Rattle.wb_model.specs.declared.entry.Deed.TheVariants as deeds
 use Rattle.wb_model.specs.declared.entry.Entry.{Entry}
 use Rattle.wb_model.specs.declared.entry.Status.{Status}
 use Rattle.wb_model.specs.declared.entry.Status.TheVariants as statuses
@@ -181,13 +182,29 @@ user_only : (t id : ℕ) (d : Data) → Only long_secret (shapes.user t id d)
 user_only t id d = then_only long_secret _ (under (codes "disabled") (whole 0 10_000) d) (λ disabled e. then_only long_secret _ (under (codes "enabled") as_bool d) (λ enabled f. then_only long_secret _ (under (codes "may") rights d) (λ may g. then_only long_secret _ (under (codes "name") (text 1 64) d) (λ name h. then_only long_secret _ (under (codes "role") role d) (λ of_user i.
     map_only long_secret (λ (secret : Digest). record { tenant = t; id = id; disabled = disabled; enabled = enabled; may = may; name = name; role = of_user; secret = secret }) (under (codes "secret") shapes.digest d) (λ secret j. under_some (λ (x : Digest). are_bytes 32 x.0 ≡ true) shapes.digest (codes "secret") digest_in d secret j))))))
 
-withheld_only : (v : Data) (w : Option (List ℕ)) → said.withheld v ≡ Some w → is_withheld w ≡ true
-withheld_only null w e = let same : None ≡ w = cc in ap is_withheld (sym same)
-withheld_only (string s) w e = let k = map_some Some (text 1 1_024 (string s)) w e in let j = then_some (keep (has_bytes 1 1_024)) (as_str (string s)) k.0 k.1 in subst (λ x. is_withheld x ≡ true) k.2 (kept (has_bytes 1 1_024) j.0 k.0 j.2).0
-withheld_only (boolean b) w e = absurd cc
-withheld_only (number n) w e = absurd cc
-withheld_only (array ds) w e = absurd cc
-withheld_only (object ms) w e = absurd cc
+-- ---- fields of deeds
+
+-- what is stored of a value is in its range: a number has its bound above, a text and a list of bytes their lengths
+abbrev is_kept : (f : Field) → Value f → Bool
+is_kept (Whole least most) n = nat_le n most
+is_kept (Text least most) text = has_bytes least most text
+is_kept (TextOrNull least most) None = true
+is_kept (TextOrNull least most) (Some text) = has_bytes least most text
+is_kept Hash digest = are_bytes 32 digest.0
+is_kept Answers given = are_answers given
+is_kept StatusName set = is_settable set
+is_kept _ value = true
+
+null_or_text : (least most : ℕ) (v : Data) (t : Option (List ℕ)) → said.text_or_null least most v ≡ Some t → is_kept (TextOrNull least most) t ≡ true
+null_or_text least most null t e = let same : None ≡ t = cc in ap (is_kept (TextOrNull least most)) (sym same)
+null_or_text least most (string s) t e =
+    let k = map_some Some (text least most (string s)) t e in
+    let j = then_some (keep (has_bytes least most)) (as_str (string s)) k.0 k.1 in
+    subst (λ x. is_kept (TextOrNull least most) x ≡ true) k.2 (kept (has_bytes least most) j.0 k.0 j.2).0
+null_or_text least most (boolean b) t e = absurd cc
+null_or_text least most (number n) t e = absurd cc
+null_or_text least most (array ds) t e = absurd cc
+null_or_text least most (object ms) t e = absurd cc
 
 status_only : (v : Data) (s : Status) → status v ≡ Some s → is_settable s ≡ true
 status_only v s e = let k = then_some status_named (as_str v) s e in by (is_text k.0 (codes "opened")) (is_text k.0 (codes "closed")) k.2
@@ -197,78 +214,99 @@ status_only v s e = let k = then_some status_named (as_str v) s e in by (is_text
     by false true f = (let same : statuses.Closed ≡ s = cc in ap is_settable (sym same))
     by false false f = absurd cc
 
-count_in : (k : List ℕ) (d : Data) (n : ℕ) → under k (whole 0 4_294_967_295) d ≡ Some n → is_count n ≡ true
-count_in k d n e = most_in 4_294_967_295 n (whole_in 0 4_294_967_295 k d n e)
+-- the values are so
+abbrev AreKept : (fs : List Keyed) → Values fs → Type 0
+AreKept [] vs = ⊤
+AreKept (f ∷ fs) vs = (is_kept f.1 vs.0 ≡ true) × AreKept fs vs.1
+
+-- the deed that is made of values
+abbrev deed_of : (fs : List Keyed) → Maker fs → Values fs → Deed
+deed_of [] deed vs = deed
+deed_of (f ∷ fs) make vs = deed_of fs (make vs.0) vs.1
+
+withheld_kept : (why : Option (List ℕ)) → is_kept (TextOrNull 1 1_024) why ≡ true → is_withheld why ≡ true
+withheld_kept None is = refl
+withheld_kept (Some text) is = is
 
 abbrev stored_entry : Entry → Bool
 stored_entry e = is_stored e.deed
 
 module _ (source : List ℕ) (d : Data) (is_read : read source ≡ Some d) where
-  asked_only : Only is_stored (said.asked d)
-  asked_only = then_only is_stored _ (under (codes "reason") (text 1 1_024) d) (λ reason e. map_only is_stored (λ (stamp : ℕ). deeds.Asked reason stamp) (under (codes "stamp") (whole 0 10_000) d) (λ stamp f. and_from _ _ (text_in 1 1_024 (codes "reason") d reason e) (most_in 10_000 stamp (whole_in 0 10_000 (codes "stamp") d stamp f))))
+  value_kept : (key : List ℕ) (f : Field) (v : Value f) → under key (said.value f) d ≡ Some v → is_kept f v ≡ true
+  value_kept key (Whole least most) n e = (and_parts (nat_le least n) (nat_le n most) (whole_in least most key d n e)).1
+  value_kept key (Text least most) t e = text_in least most key d t e
+  value_kept key (TextOrNull least most) t e = under_some (λ (x : Option (List ℕ)). is_kept (TextOrNull least most) x ≡ true) (said.text_or_null least most) key (null_or_text least most) d t e
+  value_kept key Hash x e = under_some (λ (y : Digest). are_bytes 32 y.0 ≡ true) shapes.digest key digest_in d x e
+  value_kept key Answers a e = let k = then_some answers (get key d) a e in answers_fit k.0 a (got_read key d k.0 (text_read source d is_read) k.1) k.2
+  value_kept key StatusName s e = under_some (λ (x : Status). is_settable x ≡ true) status key status_only d s e
+  value_kept key Date day e = refl
+  value_kept key Flag flag e = refl
+  value_kept key Users us e = refl
 
-  granted_only : Only is_stored (said.granted d)
-  granted_only = then_only is_stored _ (under (codes "effective") (whole 0 100_002_591_999) d) (λ effective e. then_only is_stored _ (under (codes "reason") (text 1 1_024) d) (λ reason f. then_only is_stored _ (under (codes "request") (whole 0 4_294_967_295) d) (λ request g.
-      map_only is_stored (λ (why : Option (List ℕ)). deeds.Granted effective reason request why) (under (codes "withheld") said.withheld d) (λ why h.
-      and_from _ _ (and_from _ _ (text_in 1 1_024 (codes "reason") d reason f) (count_in (codes "request") d request g)) (under_some (λ (w : Option (List ℕ)). is_withheld w ≡ true) said.withheld (codes "withheld") withheld_only d why h)))))
+  -- what is read under the keys of a deed makes one that is stored as it may be, where values that are so make such a one
+  made_only : (fs : List Keyed) (make : Maker fs) → ((vs : Values fs) → AreKept fs vs → is_stored (deed_of fs make vs) ≡ true) → Only is_stored (said.made fs make d)
+  made_only [] deed h = record { given = h tt tt }
+  made_only (f ∷ fs) make h =
+      then_only is_stored (λ v. said.made fs (make v) d) (under f.0 (said.value f.1) d) (λ v e. made_only fs (make v) (λ vs are. h (v, vs) (value_kept f.0 f.1 v e, are)))
 
-  denied_only : Only is_stored (said.denied d)
-  denied_only = then_only is_stored _ (under (codes "reason") (text 1 1_024) d) (λ reason e. map_only is_stored (λ (request : ℕ). deeds.Denied reason request) (under (codes "request") (whole 0 4_294_967_295) d) (λ request f. and_from _ _ (text_in 1 1_024 (codes "reason") d reason e) (count_in (codes "request") d request f)))
-
-  revoked_only : Only is_stored (said.revoked d)
-  revoked_only = then_only is_stored _ (under (codes "reason") (text 1 1_024) d) (λ reason e. map_only is_stored (λ (request : ℕ). deeds.Revoked reason request) (under (codes "request") (whole 0 4_294_967_295) d) (λ request f. and_from _ _ (text_in 1 1_024 (codes "reason") d reason e) (count_in (codes "request") d request f)))
-
-  extended_only : Only is_stored (said.extended d)
-  extended_only = then_only is_stored _ (under (codes "feedback_due") shapes.day d) (λ due e. map_only is_stored (λ (reason : List ℕ). deeds.Extended due reason) (under (codes "reason") (text 1 1_024) d) (λ reason f. text_in 1 1_024 (codes "reason") d reason f))
-
-  acknowledged_only : Only is_stored (said.acknowledged d)
-  acknowledged_only = then_only is_stored _ (under (codes "day") shapes.day d) (λ today e. map_only is_stored (λ (due : ℤ). deeds.Acknowledged today due) (under (codes "feedback_due") shapes.day d) (λ due f. refl))
-
-  transferred_only : Only is_stored (said.transferred d)
-  transferred_only = then_only is_stored _ (under (codes "context") (whole 1 64) d) (λ c e. map_only is_stored (λ (rs : List ℕ). deeds.Transferred c rs) (under (codes "readers") shapes.users d) (λ rs f. refl))
-
-  feedback_only : Only is_stored (said.feedback d)
-  feedback_only = map_only is_stored (λ (t : List ℕ). deeds.Feedback t) (under (codes "text") (text 1 4_096) d) (λ t e. text_in 1 4_096 (codes "text") d t e)
-
-  shared_only : Only is_stored (said.shared d)
-  shared_only = map_only is_stored (λ (u : ℕ). deeds.Shared u) (under (codes "user") (whole 1 256) d) (λ u e. refl)
-
-  unshared_only : Only is_stored (said.unshared d)
-  unshared_only = map_only is_stored (λ (u : ℕ). deeds.Unshared u) (under (codes "user") (whole 1 256) d) (λ u e. refl)
-
-  postponed_only : Only is_stored (said.postponed d)
-  postponed_only = map_only is_stored (λ (x : ℤ). deeds.Postponed x) (under (codes "expires") shapes.day d) (λ x e. refl)
-
-  submitted_only : Only is_stored (said.submitted d)
-  submitted_only = then_only is_stored _ (under (codes "ack_due") shapes.day d) (λ ack e1. then_only is_stored _ (under (codes "answers") answers d) (λ a e2. then_only is_stored _ (under (codes "context") (whole 1 64) d) (λ c e3. then_only is_stored _ (under (codes "expires") shapes.day d) (λ x e4. then_only is_stored _ (under (codes "feedback_due") shapes.day d) (λ f e5. then_only is_stored _ (under (codes "form") (whole 1 16) d) (λ form e6. then_only is_stored _ (under (codes "mark") as_bool d) (λ m e7. then_only is_stored _ (under (codes "readers") shapes.users d) (λ rs e8. then_only is_stored _ (under (codes "receipt") shapes.digest d) (λ receipt e9. then_only is_stored _ (under (codes "received") shapes.day d) (λ r e10.
-      map_only is_stored (λ (v : ℕ). deeds.Submitted ack a c x f form m rs receipt r v) (under (codes "version") (whole 1 99) d) (λ v e11.
-      and_from _ _ (let k = then_some answers (get (codes "answers") d) a e2 in answers_fit k.0 a (got_read (codes "answers") d k.0 (text_read source d is_read) k.1) k.2) (under_some (λ (y : Digest). are_bytes 32 y.0 ≡ true) shapes.digest (codes "receipt") digest_in d receipt e9))))))))))))
-
-  comment_only : Only is_stored (said.comment d)
-  comment_only = then_only is_stored _ (under (codes "internal") as_bool d) (λ internal e. map_only is_stored (λ (t : List ℕ). deeds.Comment internal t) (under (codes "text") (text 1 4_096) d) (λ t f. text_in 1 4_096 (codes "text") d t f))
-
-  label_only : Only is_stored (said.label d)
-  label_only = map_only is_stored (λ (t : List ℕ). deeds.Label t) (under (codes "text") (text 0 64) d) (λ t e. text_in 0 64 (codes "text") d t e)
-
-  settable_only : Only is_stored (said.set_status d)
-  settable_only = map_only is_stored (λ (s : Status). deeds.SetStatus s) (under (codes "status") status d) (λ s e. under_some (λ (x : Status). is_settable x ≡ true) status (codes "status") status_only d s e)
-
-  abbrev Each : List said.Reader → Type 0
+  abbrev Each : List Shape → Type 0
   Each [] = ⊤
-  Each (r ∷ rs) = Only is_stored (r.1 d) × Each rs
+  Each (s ∷ ss) = Only is_stored (said.of_shape s d) × Each ss
 
-  of_name : (rs : List said.Reader) (name : List ℕ) → Each rs → Only is_stored (said.by_name rs name d)
+  of_name : (ss : List Shape) (name : List ℕ) → Each ss → Only is_stored (said.by_name ss name d)
   of_name [] name each = none_only is_stored
-  of_name (r ∷ rs) name each = if_only is_stored (is_text name r.0) (r.1 d) (said.by_name rs name d) each.0 (of_name rs name each.1)
+  of_name (s ∷ ss) name each = if_only is_stored (is_text name s.name) (said.of_shape s d) (said.by_name ss name d) each.0 (of_name ss name each.1)
+
+  by_shape : (s : Shape) → ((vs : Values s.fields) → AreKept s.fields vs → is_stored (deed_of s.fields s.make vs) ≡ true) → Only is_stored (said.of_shape s d)
+  by_shape s h = made_only s.fields s.make h
 
   requests_only : Each said.request_deeds
-  requests_only = (asked_only, (granted_only, (denied_only, (revoked_only, tt))))
+  requests_only = (
+    by_shape table.asked (λ vs are. and_from _ _ are.0 are.1.0),
+    (
+      by_shape table.granted (λ vs are. and_from _ _ (and_from _ _ are.1.0 are.1.1.0) (withheld_kept vs.1.1.1.0 are.1.1.1.0)),
+      (
+        by_shape table.denied (λ vs are. and_from _ _ are.0 are.1.0),
+        (by_shape table.revoked (λ vs are. and_from _ _ are.0 are.1.0), tt),
+      ),
+    ),
+  )
 
   follow_only : Each said.follow_deeds
-  follow_only = (acknowledged_only, (feedback_only, (shared_only, (unshared_only, (transferred_only, (postponed_only, (extended_only, requests_only)))))))
+  follow_only = (
+    by_shape table.acknowledged (λ vs are. refl),
+    (
+      by_shape table.feedback (λ vs are. are.0),
+      (
+        by_shape table.shared (λ vs are. refl),
+        (
+          by_shape table.unshared (λ vs are. refl),
+          (
+            by_shape table.transferred (λ vs are. refl),
+            (
+              by_shape table.postponed (λ vs are. refl),
+              (by_shape table.extended (λ vs are. are.1.0), requests_only),
+            ),
+          ),
+        ),
+      ),
+    ),
+  )
 
   deeds_only : Each said.all_deeds
-  deeds_only = (submitted_only, (record { given = refl }, (comment_only, (label_only, (settable_only, follow_only)))))
+  deeds_only = (
+    by_shape table.submitted (λ vs are. and_from _ _ are.1.0 are.1.1.1.1.1.1.1.1.0),
+    (
+      by_shape table.identity (λ vs are. refl),
+      (
+        by_shape table.comment (λ vs are. are.1.0),
+        (
+          by_shape table.label (λ vs are. are.0),
+          (by_shape table.set_status (λ vs are. are.0), follow_only),
+        ),
+      ),
+    ),
+  )
 
   named_only : Only is_stored (said.deed d)
   named_only = then_only is_stored (λ (name : List ℕ). said.by_name said.all_deeds name d) (under (codes "deed") as_str d) (λ name e. of_name said.all_deeds name deeds_only)
