@@ -63,11 +63,18 @@ all_given own P n (w ∷ ws) os many same order all =
     All-from_get_or (λ v. P (own v)) (w ∷ ws) w
     (λ k within. subst P (sym (order k w (own w) (omega (arith, within, many)))) (All-get_or P os (n - 1 - k) (own w) (omega (arith, within, many, same)) all))
 
--- and the other way round
-pub all_back : {W O : Type 0} (own : W → O) (P : O → Type 0) (n : ℕ) (ws : List W) (os : List O) → length ws ≡ n → length os ≡ n
-    → ((k : ℕ) (d : W) (e : O) → k < n → slice_index_or os k e ≡ own (slice_index_or ws (n - 1 - k) d)) → All (λ w. P (own w)) ws → All P os
-all_back own P n ws [] many same order all = All-nil P
-all_back own P n [] (o ∷ os) many same order all = absurd (omega (arith, many, same))
-all_back own P n (w ∷ ws) (o ∷ os) many same order all =
+-- and the other way round, where these came back of m workers
+pub all_back : {W O : Type 0} (own : W → O) (P : O → Type 0) (n m : ℕ) (written ws : List W) (os : List O) → length ws ≡ n → length os ≡ n → m ≡ n
+    → ((k : ℕ) (d : W) (e : O) → k < m → slice_index_or os k e ≡ own (slice_index_or written (m - 1 - k) d)) → written ≡ ws → All (λ w. P (own w)) ws → All P os
+all_back own P n m written ws [] many same full back is all = All-nil P
+all_back own P n m written [] (o ∷ os) many same full back is all = absurd (omega (arith, many, same))
+all_back own P n m written (w ∷ ws) (o ∷ os) many same full back is all =
     All-from_get_or P (o ∷ os) o
-    (λ k within. subst P (sym (order k w o (omega (arith, within, same)))) (All-get_or (λ v. P (own v)) (w ∷ ws) (n - 1 - k) w (omega (arith, within, many, same)) all))
+    (λ k within.
+    let inside : k < n = omega (arith, within, same) in
+    subst P (sym (back_in_place own n m k o w (o ∷ os) written (w ∷ ws) full inside back is)) (All-get_or (λ v. P (own v)) (w ∷ ws) (n - 1 - k) w (omega (arith, inside, many)) all))
+
+-- what follows from any one of a list holds where it has one
+pub by_any : {X : Type 0} (P : Type 0) (xs : List X) → 0 < length xs → (X → P) → P
+by_any P [] some each = absurd (omega (arith, some))
+by_any P (x ∷ xs) some each = each x

@@ -1,5 +1,5 @@
 -- A slice that was written whole, and the parts of passes of one part each.
-use Rattle.std.proofs.Common.{◌≡◌, ℕ, ◌+◌, List, [], ◌∷◌, ◌++◌, All, length, slice_index_or, take, sym, ap, ◌∙◌, refl, arith}
+use Rattle.std.proofs.Common.{◌≡◌, ℕ, ◌+◌, List, [], ◌∷◌, ◌++◌, All, length, take, sym, ap, ◌∙◌, refl, arith}
 use Rattle.std.proofs.Math.Seq.{take-append_seam}
 use Rattle.std.proofs.lemmas.List.Elements.{All-head, All-tail}
 use Rattle.std.proofs.lemmas.List.Sums.{sum_by-append}
@@ -15,6 +15,3 @@ parts_each (p ∷ ps) all =
     let rest : parts_of ps ≡ length ps = parts_each ps (All-tail (λ (q : Hand). q.parts ≡ 1) p ps all) in
     let both : parts_of (p ∷ ps) ≡ parts_of (p ∷ []) + parts_of ps = sum_by-append (λ (q : Hand). q.parts) (p ∷ []) ps in
     let first : parts_of (p ∷ []) ≡ 0 + p.parts = refl in omega (arith, one, rest, both, first)
-
-pub all_of : {X : Type 0} (P : X → Type 0) (xs : List X) → ((x : X) → P x) → All P xs
-all_of P xs each k d within = each (slice_index_or xs k d)

@@ -1,4 +1,5 @@
 pub mod Opens
 pub mod InOrder
 pub mod Workers
+pub mod Ended
 pub mod Serves

@@ -15,7 +15,6 @@ use Rattle.wb_desk.specs.GoneOn.{HasGoneOn}
 use Rattle.wb_desk.specs.Hosted.{Hand, Hosted, turns_of, begun}
 use Rattle.wb_front.specs.declared.worker.Station.{Station}
 use Rattle.wb_cli.specs.declared.plans.Lock.{Lock}
-use Rattle.wb_cli.specs.declared.plans.Lock.TheVariants.{Mutex, Ticket}
 use Rattle.wb_cli.specs.declared.plans.Plan.TheVariants.{Serve}
 use Rattle.wb_cli.specs.CommandLine.{Asks}
 use Rattle.wb_rows.specs.Judged.{judged}
@@ -34,6 +33,7 @@ use Rattle.wb_model.specs.declared.registry.Lists.{Lists}
 use Rattle.wb_setup.specs.Setups.{setup as lists_in}
 use Rattle.wb_rows.specs.Held.{Held}
 use Rattle.wb_transport.specs.Lines.{Clock, ListenerEnd}
+use Rattle.wb_server.specs.Ended.{ByLock}
 use Rattle.wb_server.specs.InOrder.{AreServedInOrder}
 use Rattle.wb_server.specs.Workers.{AreServed}
 
@@ -123,11 +123,6 @@ pub record ServesInOrder (source source' : SourceEnd) (keeper keeper' : KeeperEn
   -- where the keeper is honest it holds the rows of that past, which are read as what it holds
   pub kept : keeper'.honest → keeper'.holds (rows (past_after opens.start script.places))
   pub read_back : judged (rows (past_after opens.start script.places)) ≡ Ok (left_by (past_after opens.start script.places))
-
--- by the one lock, or by the other
-abbrev pub ByLock : Lock → Type 0 → Type 0 → Type 0
-ByLock Mutex mutex ticket = mutex
-ByLock Ticket mutex ticket = ticket
 
 -- the host served its stations by this lock
 abbrev pub ServesBy : {Li T E : Type 0} → (Li → ListenerEnd) → (T → Clock) → List (Station Li T E) → List (Station Li T E) → Lock → SourceEnd → SourceEnd → KeeperEnd → KeeperEnd → Type 0

@@ -37,6 +37,11 @@ module _ {Li T E : Type 0} (end : Li → ListenerEnd) (clock : T → Clock) (bef
   AtEach Is = (i : ℕ) (d e : Station Li T E) → i < length before →
       Is i (end (slice_index_or before i d).listener) (end (slice_index_or now i e).listener) (clock (slice_index_or before i d).ticker) (clock (slice_index_or now i e).ticker)
 
+-- the links of each were attended, by what its worker had of the gate before and now
+abbrev pub EachServed : {Li T E O : Type 0} → (O → Frame → Told → O → Type 0) → (Li → ListenerEnd) → (T → Clock) → List (Station Li T E) → List (Station Li T E) → List O → List O → Type 0
+EachServed {Li} {T} {E} {O} Ran end clock before now owns owns' =
+    AtEach end clock before now (λ i listener listener' from to. (d e : O) → IsServed Ran listener listener' (slice_index_or owns i d) (slice_index_or owns' i e) from to)
+
 -- the listener of one of the stations failed often
 abbrev pub OneFailed : {Li T E : Type 0} → (Li → ListenerEnd) → List (Station Li T E) → List (Station Li T E) → Type 0
 OneFailed {Li} {T} {E} end before now =

@@ -2,7 +2,7 @@
 //! and how it ends.
 #![tactic(auto)]
 
-mod in_order;
+mod attending;
 mod opening;
 mod placing;
 mod serving;
@@ -10,7 +10,6 @@ mod starting;
 mod stations;
 mod worker;
 
-pub use in_order::serve_in_order;
 pub use opening::open_by;
 pub use serving::{Served, serve};
-pub use stations::{ServeEnd, serve_all};
+pub use stations::{ServeEnd, serve_all, serve_in_order};

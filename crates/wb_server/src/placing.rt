@@ -1,5 +1,5 @@
 //! Stations are given to workers, and come back from them in their order.
-ghost use Rattle.std.specs.Prelude.{◌≡◌, ◌<◌, ◌≤◌, ◌-◌, ℕ, true, false, All, vec_len, vec_capacity, slice_index_or};
+ghost use Rattle.std.specs.Prelude.{◌≡◌, ◌⊎◌, ◌<◌, ◌≤◌, ◌-◌, ℕ, true, false, All, vec_len, vec_capacity, slice_index_or};
 ghost use Rattle.wb_server.specs.Workers.{HasEnded, AllHaveNone};
 
 use crate::worker::{Worker, make_worker};
@@ -28,6 +28,14 @@ pub(crate) fn place<Li: Listener, T: Ticker, O: Drop>(
     }
 }
 
+// Whether all had no more links, one more worker among them that ended so.
+fn and_ended(all: bool, worked: Worked) -> bool
+    ensures left { result ≡ true → (all ≡ true) × (worked ≡ Worked.End) }
+    ensures failed { result ≡ false → (all ≡ false) ⊎ (worked ≡ Worked.ListenFault) }
+{
+    all && worked == Worked::End
+}
+
 /// Moves the stations, and what each had of the gate, back in their order. Says whether each station had no more links.
 pub(crate) fn unplace<Li: Listener, T: Ticker, O: Drop>(
     mut workers: Vec<Worker<Li, T, O>>,
@@ -44,21 +52,16 @@ pub(crate) fn unplace<Li: Listener, T: Ticker, O: Drop>(
     ensures left { result ≡ true → AllHaveNone Li.end stations.new.items }
     ensures failed { result ≡ false → (k : ℕ) × (k < vec_len workers) × ((d : _) → (slice_index_or workers.items k d).worked ≡ Worked.ListenFault) }
 {
-    let mut ended = true;
+    let mut all = true;
     while let Some(next) = workers.pop() {
         let Worker {
             own,
             station,
             worked,
         } = next;
-        let Worked::End = worked else {
-            ended = false;
-            owns.push_reserved(own);
-            stations.push_reserved(station);
-            continue;
-        };
+        all = and_ended(all, worked);
         owns.push_reserved(own);
         stations.push_reserved(station);
     }
-    ended
+    all
 }

@@ -1,29 +1,24 @@
 //! The call that serves.
-ghost use Rattle.std.specs.Prelude.{◌≡◌, ◌≢◌, ◌⊎◌, ◌<◌, ◌≤◌, ℕ, List, Option, Some, None, Ok, Err, IfSome, true, false, if◌then◌else◌, vec_len, IfOk, IfErr};
+ghost use Rattle.std.specs.Prelude.{◌≡◌, ◌≢◌, ◌⊎◌, ℕ, List, Option, Some, None, Err, IfSome, true, false, vec_len, IfOk};
 ghost use Rattle.wb_base.specs.declared.rows.Row.{Row as KeptRow};
-ghost use Rattle.wb_model.specs.Rows.{rows_of};
-ghost use Rattle.wb_tables.specs.Standing.{Standing, hosts_of};
-ghost use Rattle.wb_desk.specs.GoneOn.{IsLater};
-ghost use Rattle.wb_desk.specs.Hosted.{Hand, turns_of};
-ghost use Rattle.wb_server.specs.InOrder.{AreServedInOrder, IsLastClosed};
-ghost use Rattle.wb_server.specs.Workers.{AllHaveNone, OneFailed, AreServed};
+ghost use Rattle.wb_tables.specs.Standing.{Standing};
+ghost use Rattle.wb_server.specs.Workers.{AllHaveNone, OneFailed};
 ghost use Rattle.wb_cli.specs.declared.plans.Lock.{Lock as LockOf};
 ghost use Rattle.wb_cli.specs.declared.plans.Plan.TheVariants.{Serve};
 ghost use Rattle.wb_cli.specs.CommandLine.{Asks};
-ghost use Rattle.wb_server.specs.Serves.{AsksLock, HasEndedServing, IsServeForm, ServesNone, OpensOne, ServesBy, ServesAsked, ServesUnlessHindered, IsUntouched, WhereOpens};
+ghost use Rattle.wb_server.specs.Serves.{AsksLock, HasEndedServing, IsServeForm, ServesNone, OpensOne, ServesAsked, ServesUnlessHindered, IsUntouched, WhereOpens};
 
 use crate::starting::start;
-use crate::{ServeEnd, serve_all, serve_in_order};
+use crate::stations::{ServeEnd, serve_by};
 use std::alloc::Global;
 use std::sync::Wait;
 use std::thread::Threads;
-use wb_base::{Keeper, Memory, Source, Text};
+use wb_base::{Keeper, Source, Text};
 use wb_cli::{Lock, Plan, PlanFault, Status, plan};
-use wb_desk::{Closed, Desk};
+use wb_desk::Closed;
 use wb_front::Station;
 use wb_promise::{a_desk_leaves_rows_that_are_read, each_script_is_as_promised};
 use wb_transport::{Listener, Ticker};
-use wb_wire::Routes;
 
 /// How a call that was to serve ended, with the keeper, where it came back: always, but where a host was opened and there was no memory
 /// for its workers.
@@ -57,85 +52,13 @@ fn finished<K: Keeper>(ended: ServeEnd<K>) -> Served<K>
     }
 }
 
-// Serves a host at these stations, whose workers take turns by this lock.
-fn serve_by<K: Keeper + Send, Li: Listener + Send, T: Ticker + Send, R: Threads + Wait + Sync>(
-    rt: &R,
-    alloc: Global,
-    lock: Lock,
-    routes: &Routes,
-    desk: Desk,
-    keeper: K,
-    stations: &mut Vec<Station<Li, T>>,
-) -> Result<ServeEnd<K>, Memory>
-where
-    Li::End: Send,
-    requires some { (0 < vec_len stations.old) × (vec_len stations.old ≤ 64) }
-    requires kept { (K.end keeper).honest → (K.end keeper).holds (rows_of (hosts_of desk).list) }
-    ensures stations { vec_len stations.new ≡ vec_len stations.old }
-    ensures mutex { lock ≡ Lock.Mutex → IfOk result (λ ended. (passes : List Hand) × (turns_of passes ≡ ended.closed.turns) × AreServed Li.end T.end stations.old.items stations.new.items desk passes) }
-    ensures later { lock ≡ Lock.Mutex → IfOk result (λ ended. IsLater desk ended.closed.turns ended.closed.desk) }
-    ensures ticket { lock ≡ Lock.Ticket → IfOk result (λ ended. (lists : _) × IsLastClosed K.end desk keeper lists ended.closed × AreServedInOrder Li.end T.end stations.old.items stations.new.items lists) }
-    ensures left { IfOk result (λ e. e.all ≡ true → AllHaveNone Li.end stations.new.items) }
-    ensures failed { IfOk result (λ e. e.all ≡ false → OneFailed Li.end stations.old.items stations.new.items) }
-    ensures none { IfErr result (λ _. stations.new.items ≡ stations.old.items) }
-    ensures kept { IfOk result (λ e. (K.end e.closed.keeper).honest → (K.end e.closed.keeper).holds (rows_of (hosts_of e.closed.desk).list)) }
-    ensures honest { IfOk result (λ e. (K.end e.closed.keeper).honest → (K.end keeper).honest) }
+// How the call ends where no host was opened.
+fn unserved<K: Keeper>(status: Status, keeper: K) -> Served<K>
+    ensures { result ≡ record { status = status; keeper = Some keeper } }
 {
-    match lock {
-        Lock::Mutex => serve_all(rt, alloc, routes, desk, keeper, stations),
-        Lock::Ticket => serve_in_order(rt, alloc, routes, desk, keeper, stations),
-    }
-}
-
-// Serves at these stations the host that the setup's text opens.
-fn serve_text<
-    S: Source,
-    Li: Listener + Send,
-    T: Ticker + Send,
-    K: Keeper + Send,
-    R: Threads + Wait + Sync,
->(
-    rt: &R,
-    alloc: Global,
-    lock: Lock,
-    setup: &mut S,
-    stations: &mut Vec<Station<Li, T>>,
-    keeper: K,
-) -> Served<K>
-where
-    Li::End: Send,
-    requires some { (0 < vec_len stations.old) × (vec_len stations.old ≤ 64) }
-    requires held { (K.end keeper).honest → (rows : List KeptRow) × (K.end keeper).holds rows }
-    ensures read_on { result.status ≢ Status.ReadFault → (S.end setup.new).count ≡ (S.end setup.old).count }
-    ensures keeper { result.keeper ≡ None → (result.status ≡ Status.NoMemory) × ((k : _) × (desk : Standing) × OpensOne (S.end setup.old) (S.end setup.new) (K.end keeper) (K.end k) desk) }
-    ensures stations { vec_len stations.new ≡ vec_len stations.old }
-    ensures none { (HasEndedServing result.status → ⊥) → stations.new.items ≡ stations.old.items }
-    ensures cause { (HasEndedServing result.status → ⊥) → IfSome result.keeper (λ k. ServesNone (S.end setup.old) (S.end setup.new) (K.end keeper) (K.end k) result.status) }
-    ensures served { HasEndedServing result.status → (k : _) × (result.keeper ≡ Some k) × ServesBy Li.end T.end stations.old.items stations.new.items lock (S.end setup.old) (S.end setup.new) (K.end keeper) (K.end k) }
-    ensures done { result.status ≡ Status.Done → AllHaveNone Li.end stations.new.items }
-    ensures failed { result.status ≡ Status.ListenFault → OneFailed Li.end stations.old.items stations.new.items }
-{
-    let mut keeper = keeper;
-    let (routes, desk) = match start(alloc, setup, &mut keeper) {
-        Ok(started) => started,
-        Err(status) => {
-            return Served {
-                status,
-                keeper: Some(keeper),
-            };
-        }
-    };
-    each_script_is_as_promised();
-    a_desk_leaves_rows_that_are_read();
-    match serve_by(rt, alloc, lock, &routes, desk, keeper, stations) {
-        Ok(ended) => {
-            ended.closed.desk.stands();
-            finished(ended)
-        }
-        Err(_) => Served {
-            status: Status::NoMemory,
-            keeper: None,
-        },
+    Served {
+        status,
+        keeper: Some(keeper),
     }
 }
 
@@ -192,15 +115,26 @@ where
     // A text within the limit that is accepted, over rows that are read, is served, or there was no memory, or the keeper failed in opening.
     ensures complete { IsServeForm words.now → WhereOpens (S.end setup.old) (S.end setup.new) (K.end keeper) (IfSome result.keeper (λ k. ServesUnlessHindered (K.end keeper) (K.end k) result.status)) }
 {
-    match asked_lock(alloc, words) {
-        Ok(lock) => serve_text(rt, alloc, lock, setup, stations, keeper),
-        Err(PlanFault::Usage) => Served {
-            status: Status::Usage,
-            keeper: Some(keeper),
-        },
-        Err(PlanFault::Memory) => Served {
+    let mut keeper = keeper;
+    let lock = match asked_lock(alloc, words) {
+        Ok(lock) => lock,
+        Err(PlanFault::Usage) => return unserved(Status::Usage, keeper),
+        Err(PlanFault::Memory) => return unserved(Status::NoMemory, keeper),
+    };
+    let (routes, desk) = match start(alloc, setup, &mut keeper) {
+        Ok(started) => started,
+        Err(status) => return unserved(status, keeper),
+    };
+    each_script_is_as_promised();
+    a_desk_leaves_rows_that_are_read();
+    match serve_by(rt, alloc, lock, &routes, desk, keeper, stations) {
+        Ok(ended) => {
+            ended.closed.desk.stands();
+            finished(ended)
+        }
+        Err(_) => Served {
             status: Status::NoMemory,
-            keeper: Some(keeper),
+            keeper: None,
         },
     }
 }

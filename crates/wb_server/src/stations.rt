@@ -1,23 +1,22 @@
-//! A host is served behind a mutex, and taken apart at the end.
-ghost use Rattle.std.specs.Prelude.{◌≡◌, ◌<◌, ◌≤◌, ◌+◌, List, true, false, All, vec_len, vec_capacity, IfOk, IfErr};
-ghost use Rattle.wb_model.specs.Drawn.{numbers_of};
+//! A host is served at its stations, by workers that take turns by a mutex or by a lock with tickets, and taken apart at the end.
+ghost use Rattle.std.specs.Prelude.{◌≡◌, ◌<◌, ◌≤◌, All, vec_len, vec_capacity, IfOk, IfErr};
 ghost use Rattle.wb_model.specs.Rows.{rows_of};
 ghost use Rattle.wb_tables.specs.Standing.{hosts_of};
-ghost use Rattle.wb_desk.specs.GoneOn.{IsLater};
-ghost use Rattle.wb_desk.specs.Hosted.{Hand, turns_of, numbers_drawn, fresh};
-ghost use Rattle.wb_server.specs.Workers.{AllHaveNone, OneFailed, AreServed};
+ghost use Rattle.wb_desk.specs.Hosted.{fresh};
+ghost use Rattle.wb_server.specs.Ended.{HasServed, ServedBy, ServedByLists, ServedByPasses};
 
-use crate::placing::{place, unplace};
-use crate::worker::attend_all;
+use crate::attending::attend_stations;
 use std::alloc::Global;
 use std::marker::Brand;
 use std::sync::Wait;
 use std::sync::ledger::{Blank, Ledger};
 use std::thread::Threads;
 use wb_base::{Keeper, Memory};
+use wb_cli::Lock;
 use wb_desk::{Closed, Desk, Kept, Origin, Pass};
 use wb_front::Station;
 use wb_gate::{LockGate, close};
+use wb_ticket::{TicketGate, Tickets, close_tickets};
 use wb_transport::{Listener, Ticker};
 use wb_wire::Routes;
 
@@ -33,7 +32,6 @@ fn split<A: Ledger, B: Ledger>(all: Pass<A, B>, passes: &mut Vec<Pass<A, B>>)
     requires all { (0 < all.parts) × (all.turns ≡ 0) × (all.numbers ≡ 0) }
     requires room { (vec_len passes.old ≡ 0) × (all.parts ≤ vec_capacity passes.old) }
     ensures many { vec_len passes.new ≡ all.parts }
-    ensures room { vec_capacity passes.new ≡ vec_capacity passes.old }
     ensures each { All (λ p. p ≡ fresh) passes.new.items }
 {
     let mut all = all;
@@ -54,6 +52,7 @@ fn serve_on<
 >(
     rt: &R,
     alloc: Global,
+    lock: Lock,
     routes: &Routes,
     desk: Desk,
     keeper: K,
@@ -63,36 +62,77 @@ fn serve_on<
 ) -> Result<ServeEnd<K>, Memory>
 where
     Li::End: Send,
-    requires some { 0 < vec_len stations.old }
+    requires some { (0 < vec_len stations.old) × (lock ≡ Lock.Ticket → vec_len stations.old ≤ 64) }
     requires kept { (K.end keeper).honest → (K.end keeper).holds (rows_of (hosts_of desk).list) }
     requires opened { A.desk ≡ desk }
     requires honest { ((K.end keeper).honest → A.honest) × (A.honest → (K.end keeper).honest) }
     requires turns { (turns.name ≡ A.name) × (turns.parts ≡ A.parts) × (turns.parts ≡ vec_len stations.old) }
     requires numbers { (numbers.name ≡ B.name) × (numbers.parts ≡ B.parts) × (numbers.parts ≡ vec_len stations.old) }
     ensures stations { vec_len stations.new ≡ vec_len stations.old }
-    // The passes, one a station, took part in all turns of the host that was given, and it has gone on by these.
-    ensures served { IfOk result (λ ended. (passes : List Hand) × (turns_of passes ≡ ended.closed.turns) × (numbers_drawn passes ≡ ended.closed.numbers) × AreServed Li.end T.end stations.old.items stations.new.items desk passes) }
-    ensures later { IfOk result (λ ended. IsLater desk ended.closed.turns ended.closed.desk) }
-    ensures books { IfOk result (λ ended. (ended.closed.desk.turns ≡ desk.turns + ended.closed.turns) × (numbers_of (hosts_of ended.closed.desk) ≡ numbers_of (hosts_of desk) + ended.closed.numbers)) }
-    ensures left { IfOk result (λ e. e.all ≡ true → AllHaveNone Li.end stations.new.items) }
-    ensures failed { IfOk result (λ e. e.all ≡ false → OneFailed Li.end stations.old.items stations.new.items) }
+    ensures served { IfOk result (λ e. ServedBy K.end Li.end T.end stations.old.items stations.new.items desk keeper lock e.closed) }
+    ensures ended { IfOk result (λ e. HasServed K.end Li.end T.end stations.old.items stations.new.items desk keeper e) }
     ensures none { IfErr result (λ _. stations.new.items ≡ stations.old.items) }
-    ensures kept { IfOk result (λ e. (K.end e.closed.keeper).honest → (K.end e.closed.keeper).holds (rows_of (hosts_of e.closed.desk).list)) }
-    ensures honest { IfOk result (λ e. (K.end e.closed.keeper).honest → (K.end keeper).honest) }
 {
     let count = stations.len();
-    let mut workers = Vec::with_capacity(alloc, count)?;
-    let mut passes = Vec::with_capacity(alloc, count)?;
     let (kept, all) = Kept::<K, A, B>::new(desk, keeper, count as u64, turns, numbers);
-    split(all, &mut passes);
-    place(&mut passes, stations, &mut workers);
-    let gate = LockGate::over(kept);
-    attend_all(rt, alloc, &gate, routes, workers.as_mut_slice());
-    let all = unplace(workers, stations, &mut passes);
-    match close(gate, passes) {
-        Ok(closed) => Ok(ServeEnd { all, closed }),
-        Err(_) => unreachable!(),
+    match lock {
+        Lock::Mutex => {
+            let mut passes = Vec::with_capacity(alloc, count)?;
+            split(all, &mut passes);
+            let gate = LockGate::over(kept);
+            let all = attend_stations(rt, alloc, &gate, routes, &mut passes, stations)?;
+            let Ok(closed) = close(gate, passes) else {
+                unreachable!()
+            };
+            Ok(ServeEnd { all, closed })
+        }
+        Lock::Ticket => {
+            let Ok(tickets) = TicketGate::over(alloc, kept, all, count as u32) else {
+                return Err(Memory);
+            };
+            let Tickets {
+                gate,
+                mut seats,
+                room,
+            } = tickets;
+            let all = attend_stations(rt, alloc, &gate, routes, &mut seats, stations)?;
+            let Ok(closed) = close_tickets(gate, seats, room) else {
+                unreachable!()
+            };
+            Ok(ServeEnd { all, closed })
+        }
     }
+}
+
+/// Serves a host at these stations, by workers that take turns by this lock.
+pub(crate) fn serve_by<
+    K: Keeper + Send,
+    Li: Listener + Send,
+    T: Ticker + Send,
+    R: Threads + Wait + Sync,
+>(
+    rt: &R,
+    alloc: Global,
+    lock: Lock,
+    routes: &Routes,
+    desk: Desk,
+    keeper: K,
+    stations: &mut Vec<Station<Li, T>>,
+) -> Result<ServeEnd<K>, Memory>
+where
+    Li::End: Send,
+    requires some { (0 < vec_len stations.old) × (lock ≡ Lock.Ticket → vec_len stations.old ≤ 64) }
+    requires kept { (K.end keeper).honest → (K.end keeper).holds (rows_of (hosts_of desk).list) }
+    ensures stations { vec_len stations.new ≡ vec_len stations.old }
+    ensures served { IfOk result (λ e. ServedBy K.end Li.end T.end stations.old.items stations.new.items desk keeper lock e.closed) }
+    ensures ended { IfOk result (λ e. HasServed K.end Li.end T.end stations.old.items stations.new.items desk keeper e) }
+    ensures none { IfErr result (λ _. stations.new.items ≡ stations.old.items) }
+{
+    let parts = stations.len() as u64;
+    let (turns, numbers) = (Blank::new(parts), Blank::new(parts));
+    serve_on::<K, Brand, Brand, Li, T, R>(
+        rt, alloc, lock, routes, desk, keeper, turns, numbers, stations,
+    )
 }
 
 /// Serves a host at these stations, each by a worker in a thread of its own, until each worker ends; then the host is taken apart. The
@@ -110,25 +150,39 @@ where
     requires some { 0 < vec_len stations.old }
     requires kept { (K.end keeper).honest → (K.end keeper).holds (rows_of (hosts_of desk).list) }
     ensures stations { vec_len stations.new ≡ vec_len stations.old }
-    // The passes, one a station, took part in all turns of the host that was given, and it has gone on by these.
-    ensures served { IfOk result (λ ended. (passes : List Hand) × (turns_of passes ≡ ended.closed.turns) × (numbers_drawn passes ≡ ended.closed.numbers) × AreServed Li.end T.end stations.old.items stations.new.items desk passes) }
-    ensures later { IfOk result (λ ended. IsLater desk ended.closed.turns ended.closed.desk) }
-    ensures books { IfOk result (λ ended. (ended.closed.desk.turns ≡ desk.turns + ended.closed.turns) × (numbers_of (hosts_of ended.closed.desk) ≡ numbers_of (hosts_of desk) + ended.closed.numbers)) }
-    ensures left { IfOk result (λ e. e.all ≡ true → AllHaveNone Li.end stations.new.items) }
-    ensures failed { IfOk result (λ e. e.all ≡ false → OneFailed Li.end stations.old.items stations.new.items) }
+    // The passes, one a station, took part in all turns of the host that was given.
+    ensures served { IfOk result (λ e. ServedByPasses K.end Li.end T.end stations.old.items stations.new.items desk keeper e.closed) }
+    ensures ended { IfOk result (λ e. HasServed K.end Li.end T.end stations.old.items stations.new.items desk keeper e) }
     ensures none { IfErr result (λ _. stations.new.items ≡ stations.old.items) }
-    ensures kept { IfOk result (λ e. (K.end e.closed.keeper).honest → (K.end e.closed.keeper).holds (rows_of (hosts_of e.closed.desk).list)) }
-    ensures honest { IfOk result (λ e. (K.end e.closed.keeper).honest → (K.end keeper).honest) }
 {
-    let parts = stations.len() as u64;
-    serve_on::<K, Brand, Brand, Li, T, R>(
-        rt,
-        alloc,
-        routes,
-        desk,
-        keeper,
-        Blank::new(parts),
-        Blank::new(parts),
-        stations,
-    )
+    serve_by(rt, alloc, Lock::Mutex, routes, desk, keeper, stations)
+}
+
+/// Serves a host at these stations, each by a worker in a thread of its own, until each worker ends; then the host is taken apart. The
+/// workers take turns in the order of their tickets, so that all turns are one history. The stations come back in their order.
+pub fn serve_in_order<
+    K: Keeper + Send,
+    Li: Listener + Send,
+    T: Ticker + Send,
+    R: Threads + Wait + Sync,
+>(
+    rt: &R,
+    alloc: Global,
+    routes: &Routes,
+    desk: Desk,
+    keeper: K,
+    stations: &mut Vec<Station<Li, T>>,
+) -> Result<ServeEnd<K>, Memory>
+where
+    Li::End: Send,
+    requires some { (0 < vec_len stations.old) × (vec_len stations.old ≤ 64) }
+    requires kept { (K.end keeper).honest → (K.end keeper).holds (rows_of (hosts_of desk).list) }
+    ensures stations { vec_len stations.new ≡ vec_len stations.old }
+    // From the host that was given there is one history, and what is left is its last state. It is split into lists, one a station: what came
+    // over the links of the station and was a turn is an entry of its list, in order.
+    ensures served { IfOk result (λ e. ServedByLists K.end Li.end T.end stations.old.items stations.new.items desk keeper e.closed) }
+    ensures ended { IfOk result (λ e. HasServed K.end Li.end T.end stations.old.items stations.new.items desk keeper e) }
+    ensures none { IfErr result (λ _. stations.new.items ≡ stations.old.items) }
+{
+    serve_by(rt, alloc, Lock::Ticket, routes, desk, keeper, stations)
 }

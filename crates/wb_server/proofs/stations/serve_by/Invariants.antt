@@ -1,4 +1,4 @@
-use Rattle.wb_server.proofs.stations.serve_all.Given as goal
+use Rattle.wb_server.proofs.stations.serve_by.Given as goal
 
 abbrev pub ghosts-serve_on-A-Ledger : goal.ghosts-serve_on-A-Ledger
 ghosts-serve_on-A-Ledger g a = record { name = a.turns.name; parts = a.turns.parts }
