@@ -1,16 +1,14 @@
 //! One connection to a host of its own.
-ghost use Rattle.std.specs.Prelude.{◌≡◌};
-ghost use Rattle.wb_model.specs.Rows.{rows_of};
-ghost use Rattle.wb_tables.specs.Standing.{hosts_of};
+ghost use Rattle.wb_server_tests.specs.NewHosts.{IsOpenedAt};
 
-use crate::hosts::opened;
+use crate::new_hosts::NewHost;
 use std::alloc::Global;
 use std::marker::Brand;
 use std::sync::Wait;
-use std::sync::ledger::{Blank, Ledger};
+use std::sync::ledger::Ledger;
 use std::test::Fail;
 use wb_base::MemKeeper;
-use wb_desk::{Desk, Kept, Origin, Pass};
+use wb_desk::{Origin, Pass};
 use wb_front::{Ended, serve_connection};
 use wb_gate::LockGate;
 use wb_transport::{MemLink, MemTicker};
@@ -57,20 +55,11 @@ pub struct Connected {
     pub turns: u64,
 }
 
-/// A gate to a host, and the pass with all the parts.
-pub fn gate_of<A: Origin, B: Ledger>(
-    desk: Desk,
-    keeper: MemKeeper,
-    turns: Blank,
-    numbers: Blank,
-) -> (LockGate<MemKeeper, A, B>, Pass<A, B>)
-    requires kept { keeper.rows ≡ rows_of (hosts_of desk).list }
-    requires opened { A.desk ≡ desk }
-    requires honest { A.honest }
-    requires turns { (turns.name ≡ A.name) × (turns.parts ≡ A.parts) × (turns.parts ≡ 1) }
-    requires numbers { (numbers.name ≡ B.name) × (numbers.parts ≡ B.parts) × (numbers.parts ≡ 1) }
+/// A gate to a new host, and the pass with all the parts.
+pub fn gate_of<A: Origin, B: Ledger>(host: NewHost) -> (LockGate<MemKeeper, A, B>, Pass<A, B>)
+    requires at { IsOpenedAt host A.desk A.honest A.name A.parts B.name B.parts }
 {
-    let (kept, pass) = Kept::<MemKeeper, A, B>::new(desk, keeper, 1, turns, numbers);
+    let (kept, pass) = host.open::<A, B>();
     (LockGate::over(kept), pass)
 }
 
@@ -87,27 +76,20 @@ fn ends<A: Origin, B: Ledger, R: Wait>(
     end_of(serve_connection(rt, alloc, gate, routes, pass, link, ticker))
 }
 
-// Serves a connection over a link, on a host whose books are of two ledgers.
+// Serves a connection over a link, on a new host whose books are of two ledgers.
 fn connect_on<A: Origin, B: Ledger, R: Wait>(
     rt: &R,
     alloc: Global,
-    desk: Desk,
-    keeper: MemKeeper,
-    turns: Blank,
-    numbers: Blank,
+    host: NewHost,
     link: MemLink,
     ticker: MemTicker,
 ) -> Result<Connected, Fail>
-    requires kept { keeper.rows ≡ rows_of (hosts_of desk).list }
-    requires opened { A.desk ≡ desk }
-    requires honest { A.honest }
-    requires turns { (turns.name ≡ A.name) × (turns.parts ≡ A.parts) × (turns.parts ≡ 1) }
-    requires numbers { (numbers.name ≡ B.name) × (numbers.parts ≡ B.parts) × (numbers.parts ≡ 1) }
+    requires at { IsOpenedAt host A.desk A.honest A.name A.parts B.name B.parts }
 {
     let mut link = link;
     let mut ticker = ticker;
     let routes = Routes::new(alloc)?;
-    let (gate, mut pass) = gate_of::<A, B>(desk, keeper, turns, numbers);
+    let (gate, mut pass) = gate_of::<A, B>(host);
     let ended = ends(rt, alloc, &routes, &gate, &mut pass, &mut link, &mut ticker);
     Ok(Connected {
         ended,
@@ -123,15 +105,5 @@ pub fn connect<R: Wait>(
     link: MemLink,
     ticker: MemTicker,
 ) -> Result<Connected, Fail> {
-    let (desk, keeper) = opened(alloc)?;
-    connect_on::<Brand, Brand, R>(
-        rt,
-        alloc,
-        desk,
-        keeper,
-        Blank::new(1),
-        Blank::new(1),
-        link,
-        ticker,
-    )
+    connect_on::<Brand, Brand, R>(rt, alloc, NewHost::new(alloc)?, link, ticker)
 }

@@ -32,6 +32,9 @@ const NO_JSON: &str = "POST /t/1/reports HTTP/1.1\r\nContent-Length: 15\r\n\r\n{
 const BAD_HEAD: &str =
     "HTTP/1.1 400 Bad Request\r\nContent-Type: application/json\r\nCache-Control: no-store\r\nContent-Length: 19\r\nConnection: close\r\n\r\n{\"code\":\"bad_head\"}";
 
+/// How the reply to a good request begins.
+const FOUND: &str = "HTTP/1.1 200 ";
+
 /// A text, how often it is sent, and how many of the last bytes are not; how the connection ends; how many replies there are, and how many
 /// of them say that it closes; the turns; and how the first reply begins.
 type Case<'a> = (&'a str, u32, usize, End, usize, usize, u64, &'a str);
@@ -41,29 +44,11 @@ const CASES: &[Case] = &[
     (BOTH, 1, 1, End::CutShort, 1, 0, 1, "HTTP/1.1 201 "),
     ("abcdefgh", 1_024, 1, End::CutShort, 0, 0, 0, ""),
     (HEALTH, 0, 0, End::Closed, 0, 0, 0, ""),
-    (HEALTH, 3, 0, End::Closed, 3, 0, 3, "HTTP/1.1 200 "),
-    (HEALTH, 3, 1, End::CutShort, 2, 0, 2, "HTTP/1.1 200 "),
-    (HEALTH, 999, 0, End::Closed, 999, 0, 999, "HTTP/1.1 200 "),
-    (
-        HEALTH,
-        1_000,
-        0,
-        End::Spent,
-        1_000,
-        1,
-        1_000,
-        "HTTP/1.1 200 ",
-    ),
-    (
-        HEALTH,
-        1_001,
-        0,
-        End::Spent,
-        1_000,
-        1,
-        1_000,
-        "HTTP/1.1 200 ",
-    ),
+    (HEALTH, 3, 0, End::Closed, 3, 0, 3, FOUND),
+    (HEALTH, 3, 1, End::CutShort, 2, 0, 2, FOUND),
+    (HEALTH, 999, 0, End::Closed, 999, 0, 999, FOUND),
+    (HEALTH, 1_000, 0, End::Spent, 1_000, 1, 1_000, FOUND),
+    (HEALTH, 1_001, 0, End::Spent, 1_000, 1, 1_000, FOUND),
     // What is no request ends its connection, and what is refused for what it asks leaves it open. Neither is a turn.
     ("abcdefgh", 1_024, 0, End::BadHead, 1, 1, 0, BAD_HEAD),
     (NO_NAME, 2, 0, End::BadHead, 1, 1, 0, BAD_HEAD),

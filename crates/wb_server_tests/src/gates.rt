@@ -1,19 +1,19 @@
 //! A host whose turns are booked, and a gate through which two passes share it.
 ghost use Rattle.std.specs.Prelude.{◌≡◌, true, IfOk};
 ghost use Rattle.wb_model.specs.Commands.{fits};
-ghost use Rattle.wb_model.specs.Rows.{rows_of};
-ghost use Rattle.wb_tables.specs.Standing.{hosts_of};
 ghost use Rattle.wb_desk.specs.Jobs.{IsAsked};
+ghost use Rattle.wb_server_tests.specs.NewHosts.{IsOpenedAt};
 
-use crate::hosts::{moment, opened};
+use crate::hosts::moment;
+use crate::new_hosts::NewHost;
 use std::alloc::Global;
 use std::marker::Brand;
 use std::process::Abort;
 use std::sync::Wait;
-use std::sync::ledger::{Blank, Ledger};
+use std::sync::ledger::Ledger;
 use std::test::Fail;
 use wb_base::{MemKeeper, Words};
-use wb_desk::{Desk, Gate, Kept, Origin, Pass, Tally, Turn};
+use wb_desk::{Gate, Origin, Pass, Tally, Turn};
 use wb_gate::{LockGate, close};
 use wb_model::{Asked, Told};
 use wb_wire::{Routes, read_request};
@@ -126,18 +126,11 @@ fn tally(turns: u64, numbers: u64) -> Tally {
 fn share<A: Origin, B: Ledger, R: Wait + Abort>(
     rt: &R,
     alloc: Global,
-    desk: Desk,
-    keeper: MemKeeper,
-    turns: Blank,
-    numbers: Blank,
+    host: NewHost,
 ) -> Result<(), Fail>
-    requires kept { keeper.rows ≡ rows_of (hosts_of desk).list }
-    requires opened { A.desk ≡ desk }
-    requires honest { A.honest }
-    requires turns { (turns.name ≡ A.name) × (turns.parts ≡ A.parts) × (turns.parts ≡ 2) }
-    requires numbers { (numbers.name ≡ B.name) × (numbers.parts ≡ B.parts) × (numbers.parts ≡ 2) }
+    requires at { IsOpenedAt host A.desk A.honest A.name A.parts B.name B.parts }
 {
-    let (kept, mut first) = Kept::<MemKeeper, A, B>::new(desk, keeper, 2, turns, numbers);
+    let (kept, mut first) = host.open::<A, B>();
     let mut second = first.split();
     assert!(rt; kept.book() == 0 && first.parts() == 1 && second.parts() == 1);
     let gate = LockGate::over(kept);
@@ -147,6 +140,6 @@ fn share<A: Origin, B: Ledger, R: Wait + Abort>(
 
 #[test]
 fn a_host_is_taken_apart_with_all_passes_that_took_turns(rt: HostRuntime) -> Result<(), Fail> {
-    let (desk, keeper) = opened(rt.alloc())?;
-    share::<Brand, Brand, HostRuntime>(&rt, rt.alloc(), desk, keeper, Blank::new(2), Blank::new(2))
+    let host = NewHost::new(rt.alloc())?;
+    share::<Brand, Brand, HostRuntime>(&rt, rt.alloc(), host)
 }

@@ -15,6 +15,8 @@ mod hosts;
 #[cfg(test)]
 mod listeners;
 #[cfg(test)]
+mod new_hosts;
+#[cfg(test)]
 mod served;
 #[cfg(test)]
 mod setup_text;

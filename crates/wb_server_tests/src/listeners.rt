@@ -1,59 +1,32 @@
 //! A worker attends the links of its listener, and ends with it.
-ghost use Rattle.std.specs.Prelude.{◌≡◌};
-ghost use Rattle.wb_model.specs.Rows.{rows_of};
-ghost use Rattle.wb_tables.specs.Standing.{hosts_of};
+ghost use Rattle.wb_server_tests.specs.NewHosts.{IsOpenedAt};
 
 use crate::connecting::gate_of;
-use crate::hosts::{opened, replies, station};
+use crate::hosts::{replies, station};
+use crate::new_hosts::NewHost;
 use std::alloc::Global;
 use std::marker::Brand;
 use std::sync::Wait;
-use std::sync::ledger::{Blank, Ledger};
+use std::sync::ledger::Ledger;
 use std::test::Fail;
-use wb_base::MemKeeper;
-use wb_desk::{Desk, Origin};
+use wb_desk::Origin;
 use wb_front::{Station, Worked, work};
 use wb_transport::{MemLink, MemListener, MemTicker};
 use wb_wire::Routes;
 
-// How a worker ends at a station of a host whose books are of two ledgers, and in how many turns its pass took part.
+// How a worker ends at a station of a new host whose books are of two ledgers, and in how many turns its pass took part.
 fn work_on<A: Origin, B: Ledger, R: Wait>(
     rt: &R,
     alloc: Global,
-    desk: Desk,
-    keeper: MemKeeper,
-    turns: Blank,
-    numbers: Blank,
+    host: NewHost,
     station: &mut Station<MemListener, MemTicker>,
 ) -> Result<(Worked, u64), Fail>
-    requires kept { keeper.rows ≡ rows_of (hosts_of desk).list }
-    requires opened { A.desk ≡ desk }
-    requires honest { A.honest }
-    requires turns { (turns.name ≡ A.name) × (turns.parts ≡ A.parts) × (turns.parts ≡ 1) }
-    requires numbers { (numbers.name ≡ B.name) × (numbers.parts ≡ B.parts) × (numbers.parts ≡ 1) }
+    requires at { IsOpenedAt host A.desk A.honest A.name A.parts B.name B.parts }
 {
     let routes = Routes::new(alloc)?;
-    let (gate, mut pass) = gate_of::<A, B>(desk, keeper, turns, numbers);
+    let (gate, mut pass) = gate_of::<A, B>(host);
     let worked = work(rt, alloc, &gate, &routes, &mut pass, station);
     Ok((worked, pass.turns()))
-}
-
-// How a worker ends at a station of a new host.
-fn work_at<R: Wait>(
-    rt: &R,
-    alloc: Global,
-    station: &mut Station<MemListener, MemTicker>,
-) -> Result<(Worked, u64), Fail> {
-    let (desk, keeper) = opened(alloc)?;
-    work_on::<Brand, Brand, R>(
-        rt,
-        alloc,
-        desk,
-        keeper,
-        Blank::new(1),
-        Blank::new(1),
-        station,
-    )
 }
 
 // Whether so many links came back, each with one reply.
@@ -81,7 +54,8 @@ const CASES: &[Case] = &[
 fn is_right<R: Wait>(rt: &R, alloc: Global, case: &Case) -> Result<bool, Fail> {
     let (links, fails, ended, attended) = *case;
     let mut station = station(alloc, links, fails)?;
-    let (worked, turns) = work_at(rt, alloc, &mut station)?;
+    let host = NewHost::new(alloc)?;
+    let (worked, turns) = work_on::<Brand, Brand, R>(rt, alloc, host, &mut station)?;
     Ok(
         worked == ended
             && turns == u64::from(attended)

@@ -1,18 +1,18 @@
 //! Two seats take turns at a host behind a lock with tickets.
-ghost use Rattle.std.specs.Prelude.{◌≡◌, All, OnOk, IfOk, vec_len};
-ghost use Rattle.wb_model.specs.Rows.{rows_of};
-ghost use Rattle.wb_tables.specs.Standing.{hosts_of};
+ghost use Rattle.std.specs.Prelude.{◌≡◌};
+ghost use Rattle.wb_server_tests.specs.NewHosts.{IsOpenedAt};
 
 use crate::gates::turn;
-use crate::hosts::{HEALTH, opened};
+use crate::hosts::HEALTH;
+use crate::new_hosts::NewHost;
 use std::alloc::Global;
 use std::marker::Brand;
 use std::process::Abort;
 use std::sync::Wait;
-use std::sync::ledger::{Blank, Ledger};
+use std::sync::ledger::Ledger;
 use std::test::Fail;
 use wb_base::MemKeeper;
-use wb_desk::{Desk, Gate, Kept, Origin};
+use wb_desk::{Gate, Origin};
 use wb_ticket::{ClosingRoom, TicketGate, TicketSeat, Tickets, close_tickets};
 use wb_wire::Routes;
 
@@ -64,18 +64,11 @@ fn closes<A: Origin, B: Ledger>(
 fn take_turns<A: Origin, B: Ledger, R: Wait + Abort>(
     rt: &R,
     alloc: Global,
-    desk: Desk,
-    keeper: MemKeeper,
-    turns: Blank,
-    numbers: Blank,
+    host: NewHost,
 ) -> Result<(), Fail>
-    requires kept { keeper.rows ≡ rows_of (hosts_of desk).list }
-    requires opened { A.desk ≡ desk }
-    requires honest { A.honest }
-    requires turns { (turns.name ≡ A.name) × (turns.parts ≡ A.parts) × (turns.parts ≡ 2) }
-    requires numbers { (numbers.name ≡ B.name) × (numbers.parts ≡ B.parts) × (numbers.parts ≡ 2) }
+    requires at { IsOpenedAt host A.desk A.honest A.name A.parts B.name B.parts }
 {
-    let (kept, pass) = Kept::<MemKeeper, A, B>::new(desk, keeper, 2, turns, numbers);
+    let (kept, pass) = host.open::<A, B>();
     let Ok(tickets) = TicketGate::over(alloc, kept, pass, 2) else {
         return Err("no memory".into());
     };
@@ -98,13 +91,6 @@ fn take_turns<A: Origin, B: Ledger, R: Wait + Abort>(
 
 #[test]
 fn a_gate_is_closed_with_all_its_seats_and_tells_all_turns(rt: HostRuntime) -> Result<(), Fail> {
-    let (desk, keeper) = opened(rt.alloc())?;
-    take_turns::<Brand, Brand, HostRuntime>(
-        &rt,
-        rt.alloc(),
-        desk,
-        keeper,
-        Blank::new(2),
-        Blank::new(2),
-    )
+    let host = NewHost::new(rt.alloc())?;
+    take_turns::<Brand, Brand, HostRuntime>(&rt, rt.alloc(), host)
 }
