@@ -9,91 +9,58 @@ use wb_base::{Change, Keeper, Key, MemKeeper, Moment, Row, Tenant, Text, UserId}
 use wb_rows::{Tables, read};
 use wb_terms::read_date;
 
-// A kept row: kind, tenant, a, b and the text.
-type Kept = (u8, u32, u32, u32, &'static str);
+// A key: kind, tenant and two numbers.
+type Place = (u8, u32, u32, u32);
 
 // What a host leaves after two submissions, one with an identity answer. The second report has a label that asks for quotes, was acknowledged,
 // is closed, and expires before the first.
-const KEPT: [Kept; 13] = [
+const KEPT: &[(Place, &str)] = &[
     (
-        1,
-        1,
-        0,
-        0,
+        (1, 1, 0, 0),
         r#"{"name":"Harbour City","notice_days":7,"offset":0,"quota":50,"salt":"000102030405060708090a0b0c0d0e0f"}"#,
     ),
-    (2, 1, 0, 0, r#"{"at":1735689610,"drawn":2,"last":2}"#),
+    ((2, 1, 0, 0), r#"{"at":1735689610,"drawn":2,"last":2}"#),
     (
-        3,
-        1,
-        1,
-        0,
+        (3, 1, 1, 0),
         r#"{"disabled":0,"enabled":true,"may":[],"name":"ada","role":"recipient","secret":"9a8ae24c4ef2ab2a8429f7975ffef53d64c5e6342579f33bfee9ccf822051090"}"#,
     ),
     (
-        3,
-        1,
-        2,
-        0,
+        (3, 1, 2, 0),
         r#"{"disabled":0,"enabled":true,"may":[],"name":"ben","role":"recipient","secret":"5565e8dda85bc37bc80c46766b7842bed74b82aa87e090ab139462ade5c9b629"}"#,
     ),
     (
-        4,
-        1,
-        1,
-        1,
+        (4, 1, 1, 1),
         r#"{"steps":[{"fields":[{"id":"what","identity":false,"kind":"text","label":"What","max":4096,"required":true},{"id":"name","identity":true,"kind":"text","label":"Name","max":4096,"required":false}],"title":"Report"}]}"#,
     ),
     (
-        5,
-        1,
-        1,
-        0,
+        (5, 1, 1, 0),
         r#"{"form":1,"name":"Fraud","open":true,"recipients":[1],"retention":30}"#,
     ),
     (
-        5,
-        1,
-        2,
-        0,
+        (5, 1, 2, 0),
         r#"{"form":1,"name":"Safety","open":true,"recipients":[1],"retention":10}"#,
     ),
     (
-        6,
-        1,
-        1,
-        1,
+        (6, 1, 1, 1),
         r#"{"ack_due":"2025-01-08","answers":{"what":"Bribe"},"at":1735689600,"by":0,"context":1,"deed":"submitted","expires":"2025-01-31","feedback_due":"2025-04-08","form":1,"mark":true,"readers":[1],"receipt":"f571008a6fbb1bc8a9ad9cae352482138ad3ca2b0513c0b08a4822b1c21c8d5c","received":"2025-01-01","version":1}"#,
     ),
     (
-        6,
-        1,
-        2,
-        1,
+        (6, 1, 2, 1),
         r#"{"ack_due":"2025-01-08","answers":{"what":"Leak"},"at":1735689610,"by":0,"context":2,"deed":"submitted","expires":"2025-01-11","feedback_due":"2025-04-08","form":1,"mark":false,"readers":[1],"receipt":"9dea1742a21180a5c1fd983f6081fd917b8637e5d3bb1f6a19ea702444266453","received":"2025-01-01","version":1}"#,
     ),
     (
-        6,
-        1,
-        2,
-        2,
+        (6, 1, 2, 2),
         r#"{"at":1735776001,"by":1,"deed":"label","text":"pier 3, \"old\""}"#,
     ),
     (
-        6,
-        1,
-        2,
-        3,
+        (6, 1, 2, 3),
         r#"{"at":1735776002,"by":1,"day":"2025-01-02","deed":"acknowledged","feedback_due":"2025-04-02"}"#,
     ),
     (
-        6,
-        1,
-        2,
-        4,
+        (6, 1, 2, 4),
         r#"{"at":1735776003,"by":1,"deed":"status","status":"closed"}"#,
     ),
-    (7, 1, 1, 0, r#"{"name":"Eve"}"#),
+    ((7, 1, 1, 0), r#"{"name":"Eve"}"#),
 ];
 
 const HEADER: &str =
@@ -109,7 +76,8 @@ fn tables(alloc: Global) -> Result<Tables, Fail>
     ensures { IfOk result (λ tables. list_all is_tenant_item tables.registry.lists.tenants ≡ true) }
 {
     let mut keeper = MemKeeper::new(Vec::new(alloc), Vec::new(alloc));
-    for (kind, tenant, a, b, text) in KEPT {
+    for (place, text) in KEPT {
+        let (kind, tenant, a, b) = *place;
         if kind > 7 || kind == 7 && b != 0 {
             return Err("a key".into());
         }

@@ -10,107 +10,71 @@ use std::test::Fail;
 use wb_base::{Change, Keeper, Key, MemKeeper, MemSink, Moment, Row, Text};
 use wb_rows::{Tables, read};
 
-// A kept row: kind, tenant, a, b and the text.
-type Kept = (u8, u32, u32, u32, &'static str);
+// A key: kind, tenant and two numbers.
+type Place = (u8, u32, u32, u32);
 
 // What a host leaves after one submission with an identity answer.
-const LEFT: [Kept; 10] = [
+const LEFT: &[(Place, &str)] = &[
     (
-        1,
-        1,
-        0,
-        0,
+        (1, 1, 0, 0),
         r#"{"name":"Harbour City","notice_days":7,"offset":0,"quota":50,"salt":"000102030405060708090a0b0c0d0e0f"}"#,
     ),
-    (2, 1, 0, 0, r#"{"at":1735689600,"drawn":3,"last":3}"#),
+    ((2, 1, 0, 0), r#"{"at":1735689600,"drawn":3,"last":3}"#),
     (
-        3,
-        1,
-        1,
-        0,
+        (3, 1, 1, 0),
         r#"{"disabled":0,"enabled":true,"may":[],"name":"ada","role":"recipient","secret":"9a8ae24c4ef2ab2a8429f7975ffef53d64c5e6342579f33bfee9ccf822051090"}"#,
     ),
     (
-        3,
-        1,
-        2,
-        0,
+        (3, 1, 2, 0),
         r#"{"disabled":1,"enabled":false,"may":[],"name":"ben","role":"recipient","secret":"5565e8dda85bc37bc80c46766b7842bed74b82aa87e090ab139462ade5c9b629"}"#,
     ),
     (
-        3,
-        1,
-        3,
-        0,
+        (3, 1, 3, 0),
         r#"{"disabled":0,"enabled":true,"may":[],"name":"cleo","role":"custodian","secret":"5565e8dda85bc37bc80c46766b7842bed74b82aa87e090ab139462ade5c9b629"}"#,
     ),
     (
-        4,
-        1,
-        1,
-        1,
+        (4, 1, 1, 1),
         r#"{"steps":[{"fields":[{"id":"what","identity":false,"kind":"text","label":"What","max":4096,"required":true},{"id":"name","identity":true,"kind":"text","label":"Name","max":4096,"required":false}],"title":"Report"}]}"#,
     ),
     (
-        5,
-        1,
-        1,
-        0,
+        (5, 1, 1, 0),
         r#"{"form":1,"name":"Fraud","open":true,"recipients":[1],"retention":30}"#,
     ),
     (
-        5,
-        1,
-        2,
-        0,
+        (5, 1, 2, 0),
         r#"{"form":1,"name":"Safety","open":true,"recipients":[1,2],"retention":10}"#,
     ),
     (
-        6,
-        1,
-        1,
-        1,
+        (6, 1, 1, 1),
         r#"{"ack_due":"2025-01-08","answers":{"what":"Bribe"},"at":1735689600,"by":0,"context":1,"deed":"submitted","expires":"2025-01-31","feedback_due":"2025-04-08","form":1,"mark":true,"readers":[1],"receipt":"f571008a6fbb1bc8a9ad9cae352482138ad3ca2b0513c0b08a4822b1c21c8d5c","received":"2025-01-01","version":1}"#,
     ),
-    (7, 1, 1, 0, r#"{"name":"Eve"}"#),
+    ((7, 1, 1, 0), r#"{"name":"Eve"}"#),
 ];
 
 // A request on that report, which waits; a report of two readers, of whom one is disabled, that was closed before it was acknowledged and expires
 // soon; and one that nobody answered.
-const MORE: [Kept; 4] = [
+const MORE: &[(Place, &str)] = &[
     (
-        6,
-        1,
-        1,
-        2,
+        (6, 1, 1, 2),
         r#"{"at":1735689650,"by":1,"deed":"asked","reason":"Interview","stamp":0}"#,
     ),
     (
-        6,
-        1,
-        2,
-        1,
+        (6, 1, 2, 1),
         r#"{"ack_due":"2025-01-08","answers":{"what":"Leak"},"at":1735689600,"by":0,"context":2,"deed":"submitted","expires":"2025-01-11","feedback_due":"2025-04-08","form":1,"mark":false,"readers":[1,2],"receipt":"9dea1742a21180a5c1fd983f6081fd917b8637e5d3bb1f6a19ea702444266453","received":"2025-01-01","version":1}"#,
     ),
     (
-        6,
-        1,
-        2,
-        2,
+        (6, 1, 2, 2),
         r#"{"at":1735689660,"by":1,"deed":"status","status":"closed"}"#,
     ),
     (
-        6,
-        1,
-        3,
-        1,
+        (6, 1, 3, 1),
         r#"{"ack_due":"2025-01-08","answers":{"what":"Theft"},"at":1735689600,"by":0,"context":1,"deed":"submitted","expires":"2026-01-01","feedback_due":"2025-04-08","form":1,"mark":false,"readers":[1],"receipt":"0dea1742a21180a5c1fd983f6081fd917b8637e5d3bb1f6a19ea702444266453","received":"2025-01-01","version":1}"#,
     ),
 ];
 
 // Keeps a row.
-fn keep(alloc: Global, keeper: &mut MemKeeper, kept: Kept) -> Result<(), Fail> {
-    let (kind, tenant, a, b, text) = kept;
+fn keep(alloc: Global, keeper: &mut MemKeeper, place: Place, text: &str) -> Result<(), Fail> {
+    let (kind, tenant, a, b) = place;
     if kind > 7 || kind == 7 && b != 0 {
         return Err("a key".into());
     }
@@ -131,12 +95,12 @@ fn empty(alloc: Global, fail: Vec<u64>) -> MemKeeper {
 // A keeper of the kept rows.
 fn kept(alloc: Global, more: bool) -> Result<MemKeeper, Fail> {
     let mut keeper = empty(alloc, Vec::new(alloc));
-    for kept in LEFT {
-        keep(alloc, &mut keeper, kept)?;
+    for (place, text) in LEFT {
+        keep(alloc, &mut keeper, *place, text)?;
     }
     if more {
-        for kept in MORE {
-            keep(alloc, &mut keeper, kept)?;
+        for (place, text) in MORE {
+            keep(alloc, &mut keeper, *place, text)?;
         }
     }
     Ok(keeper)
@@ -272,7 +236,7 @@ fn a_delivery_that_failed_is_tried_again(rt: HostRuntime) -> Result<(), Fail> {
     ] {
         assert_eq!(rt; delivered(alloc, &mut outbox)?.as_str(), told);
     }
-    keep(alloc, &mut outbox, (6, 1, 1, 14, "{}"))?;
+    keep(alloc, &mut outbox, (6, 1, 1, 14), "{}")?;
     assert_eq!(rt; delivered(alloc, &mut outbox)?.as_str(), "6/14 2");
     Ok(())
 }
