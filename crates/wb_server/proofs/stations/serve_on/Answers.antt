@@ -1,9 +1,12 @@
 use denote.Param.Send.{sendable}
-use Rattle.std.proofs.Common.{◌≡◌, [], map, slice_index_or, arith, sym, ap, ◌∙◌, subst}
+use Rattle.std.proofs.Common.{◌≡◌, ◌+◌, [], map, slice_index_or, arith, sym, ap, ◌∙◌, subst}
 use Rattle.std.proofs.Crossing.{crosses}
 use Rattle.std.proofs.Math.ListN.{get_or-map}
 use Rattle.std.proofs.lemmas.List.{length-map}
 use Rattle.std.proofs.lemmas.List.Elements.{All-get_or, All-weaker}
+use Rattle.wb_model.specs.Drawn.{numbers_of}
+use Rattle.wb_tables.specs.Standing.{Standing, hosts_of}
+use Rattle.wb_desk.specs.GoneOn.{IsLater}
 use Rattle.wb_desk.specs.Hosted.{Hand, fresh}
 use Rattle.wb_ticket.specs.OneHistory.{IsLastOf}
 use Rattle.wb_ticket.specs.Owned.{Owned}
@@ -60,6 +63,20 @@ returns-in-Ok-close_tickets-clause-served g c =
             },
       ),
     )
+
+pub returns-in-Ok-close_tickets-clause-ended : goal.returns-in-Ok-close_tickets-clause-ended
+returns-in-Ok-close_tickets-clause-ended g c =
+    let closed = c.in-Ok-close_tickets.closed in
+    let opened = c.in-Ok-close_tickets.ensures.opened in
+    record {
+      later = subst (λ (d : Standing). IsLater d closed.turns closed.desk) c.requires.opened opened.2;
+      turns = opened.0 ∙ ap (λ (d : Standing). d.turns + closed.turns) c.requires.opened;
+      numbers = opened.1 ∙ ap (λ (d : Standing). numbers_of (hosts_of d) + closed.numbers) c.requires.opened;
+      left = c.in_ok-all-in-Ticket.ensures.left;
+      failed = c.in_ok-all-in-Ticket.ensures.failed;
+      kept = c.in-Ok-close_tickets.ensures.kept;
+      honest = λ h. c.requires.honest.1 (c.in-Ok-close_tickets.ensures.honest h);
+    }
 
 pub attend_stations-requires-in-Ticket-send-G-Own : goal.attend_stations-requires-in-Ticket-send-G-Own
 attend_stations-requires-in-Ticket-send-G-Own g c κs within = search (seat_send, seat_send_as_argument, sendable, crosses) depth 20
