@@ -1,5 +1,5 @@
-mod OneOfKey
-mod ReceiptTables
-mod Logins
 mod CountTables
 mod CountedSessions
+mod Logins
+mod OneOfKey
+mod ReceiptTables

@@ -1,7 +1,9 @@
 pub mod AnswerLemmas
-pub mod Rolling
 pub mod GoodForms
-pub mod Sealing
-pub mod Points
+pub mod Options
 pub mod Parts
+pub mod RowKeys
+pub mod Sealing
 pub mod StdEnds
+mod Points
+mod Rolling

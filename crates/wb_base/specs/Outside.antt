@@ -1,5 +1,5 @@
 -- Counts of faults, and what a failed write does to bytes that are told.
-use Rattle.std.specs.Prelude.{◌≡◌, ℕ, ◌+◌, ◌-◌, ◌^◌, ◌≤◌, min, List, ◌++◌, Option, Result, OnOk, OnErr, IsErrOf}
+use Rattle.std.specs.Prelude.{◌≡◌, ℕ, ◌+◌, ◌-◌, ◌^◌, ◌≤◌, min, List, ◌++◌, Option, Result, Ok, Err, OnOk, OnErr, IsErrOf}
 use Rattle.std.specs.Io.KnownBytes.{Appends}
 use Rattle.wb_base.specs.declared.faults.KeepErr.{KeepErr}
 use Rattle.wb_base.specs.declared.faults.KeepErr.TheVariants.{Failed as KeeperFailed, Memory as KeeperMemory}
@@ -11,6 +11,16 @@ one_more n = min (n + 1) (2 ^ 64 - 1)
 -- the count is greater after the call than before, or stands at its last value
 abbrev pub Rose : ℕ → ℕ → Type 0
 Rose before now = one_more before ≤ now
+
+-- a keeper's count of faults after a failed call: one more, unless memory was wanting
+abbrev pub count_with : ℕ → KeepErr → ℕ
+count_with count KeeperFailed = one_more count
+count_with count KeeperMemory = count
+
+-- a keeper's count of faults after a call
+abbrev pub count_after : {T : Type 0} → ℕ → Result T KeepErr → ℕ
+count_after count (Ok value) = count
+count_after count (Err why) = count_with count why
 
 -- no call failed between two counts
 abbrev pub NoFault : ℕ → ℕ → Type 0

@@ -1,4 +1,4 @@
-pub mod SummaryLemmas
-pub mod LegalRoom
-pub mod Taken
 pub mod EarlyDays
+mod LegalRoom
+mod SummaryLemmas
+mod Taken

@@ -1,4 +1,6 @@
+ghost use Rattle.std.specs.Prelude.{◌≡◌};
 ghost use Rattle.wb_base.specs.Days.{IsEarlyDay};
+ghost use Rattle.wb_model.specs.declared.act.Act.TheVariants.{Postpone};
 ghost use Rattle.wb_case.specs.Plans.{IsInRange};
 
 use super::*;
@@ -76,6 +78,27 @@ fn does(rt: &impl Abort, alloc: Global, case: &mut Case, act: Act, told: Option<
     }
 }
 
+// More days for the report, from today.
+fn postponement(today: Day, retention: u16) -> Act
+    ensures { result ≡ Postpone today retention }
+{
+    Act::Postpone { today, retention }
+}
+
+// User 1 does this on the report.
+fn done(rt: &impl Abort, alloc: Global, case: &mut Case, act: Act)
+    requires { IsInRange case.old.items act }
+{
+    does(rt, alloc, case, act, None)
+}
+
+// User 1 does this on the report, and it is refused with this.
+fn refused(rt: &impl Abort, alloc: Global, case: &mut Case, act: Act, told: CaseFault)
+    requires { IsInRange case.old.items act }
+{
+    does(rt, alloc, case, act, Some(told))
+}
+
 #[test]
 fn feedback_is_due_three_months_after_the_acknowledgement(rt: HostRuntime) -> Result<(), Fail> {
     let rows = [
@@ -85,18 +108,19 @@ fn feedback_is_due_three_months_after_the_acknowledgement(rt: HostRuntime) -> Re
         ("2025-05-24", "2025-05-31", "2025-08-31"),
         ("2024-12-31", "2025-01-01", "2025-04-01"),
     ];
+    let alloc = rt.alloc();
     for (received, day, due) in rows {
-        let mut case = report(&rt, rt.alloc(), received, &[1])?;
+        let mut case = report(&rt, alloc, received, &[1])?;
         let today = early(&rt, day);
-        does(&rt, rt.alloc(), &mut case, Act::Acknowledge { today }, None);
+        done(&rt, alloc, &mut case, Act::Acknowledge { today });
         assert_eq!(rt; case.summary().acknowledged, Some(today));
         assert_eq!(rt; case.summary().feedback_due, early(&rt, due));
-        does(
+        refused(
             &rt,
-            rt.alloc(),
+            alloc,
             &mut case,
             Act::Acknowledge { today },
-            Some(CaseFault::Already(Was::Day(today))),
+            CaseFault::Already(Was::Day(today)),
         );
     }
     Ok(())
@@ -111,85 +135,57 @@ fn a_closed_report_refuses_what_goes_on_with_it(rt: HostRuntime) -> Result<(), F
     let tenant = Tenant::try_new(1).expect(&rt, "a tenant");
     let number = Number::try_new(1).expect(&rt, "a number");
     assert!(rt; case.terms(tenant, number).ack.is_some());
-    does(
-        &rt,
-        rt.alloc(),
-        &mut case,
-        Act::SetStatus(Status::Closed),
-        None,
-    );
+    done(&rt, alloc, &mut case, Act::SetStatus(Status::Closed));
     assert!(rt; case.terms(tenant, number).ack.is_none());
     assert!(rt; case.terms(tenant, number).feedback.is_none());
-    does(
+    refused(
         &rt,
-        rt.alloc(),
+        alloc,
         &mut case,
         Act::SetStatus(Status::Closed),
-        Some(CaseFault::Already(Was::Status(Status::Closed))),
+        CaseFault::Already(Was::Status(Status::Closed)),
     );
-    does(
+    refused(
         &rt,
-        rt.alloc(),
+        alloc,
         &mut case,
         Act::Comment {
             internal: true,
             text,
         },
-        Some(CaseFault::Closed),
+        CaseFault::Closed,
     );
-    does(
+    refused(
         &rt,
-        rt.alloc(),
+        alloc,
         &mut case,
         Act::Acknowledge { today },
-        Some(CaseFault::Closed),
+        CaseFault::Closed,
     );
-    does(
+    refused(
         &rt,
-        rt.alloc(),
+        alloc,
         &mut case,
         Act::Feedback(Text::empty(alloc)),
-        Some(CaseFault::Closed),
+        CaseFault::Closed,
     );
-    does(
-        &rt,
-        rt.alloc(),
-        &mut case,
-        Act::Identity,
-        Some(CaseFault::Closed),
-    );
+    refused(&rt, alloc, &mut case, Act::Identity, CaseFault::Closed);
     let away = Act::Transfer {
         context: 1,
         is_open: false,
         readers: Items::new(alloc),
     };
-    does(&rt, rt.alloc(), &mut case, away, Some(CaseFault::Closed));
-    does(
+    refused(&rt, alloc, &mut case, away, CaseFault::Closed);
+    done(
         &rt,
-        rt.alloc(),
+        alloc,
         &mut case,
         Act::Label(Text::from_str(alloc, "done")?),
-        None,
     );
-    does(&rt, rt.alloc(), &mut case, Act::Share(user(&rt, 2)), None);
-    does(&rt, rt.alloc(), &mut case, Act::Unshare(user(&rt, 1)), None);
-    does(
-        &rt,
-        rt.alloc(),
-        &mut case,
-        Act::Postpone {
-            today,
-            retention: 1,
-        },
-        None,
-    );
-    does(
-        &rt,
-        rt.alloc(),
-        &mut case,
-        Act::SetStatus(Status::Opened),
-        None,
-    );
+    done(&rt, alloc, &mut case, Act::Share(user(&rt, 2)));
+    done(&rt, alloc, &mut case, Act::Unshare(user(&rt, 1)));
+    done(&rt, alloc, &mut case, postponement(today, 1));
+    done(&rt, alloc, &mut case, Act::SetStatus(Status::Opened));
     assert_eq!(rt; case.label(), "done");
     assert_eq!(rt; case.trail().len(), 7);
     Ok(())
@@ -200,91 +196,65 @@ fn a_full_trail_takes_the_removal_of_a_reader_alone(rt: HostRuntime) -> Result<(
     let alloc = rt.alloc();
     let mut case = report(&rt, alloc, "2025-01-01", &[1, 2])?;
     for _ in 1..4_096 {
-        does(
-            &rt,
-            rt.alloc(),
-            &mut case,
-            Act::Label(Text::empty(alloc)),
-            None,
-        );
+        done(&rt, alloc, &mut case, Act::Label(Text::empty(alloc)));
     }
-    does(
+    refused(
         &rt,
-        rt.alloc(),
+        alloc,
         &mut case,
         Act::Label(Text::empty(alloc)),
-        Some(CaseFault::TrailFull),
+        CaseFault::TrailFull,
     );
-    does(
+    refused(
         &rt,
-        rt.alloc(),
+        alloc,
         &mut case,
         Act::Share(user(&rt, 3)),
-        Some(CaseFault::TrailFull),
+        CaseFault::TrailFull,
     );
-    does(
+    refused(
         &rt,
-        rt.alloc(),
+        alloc,
         &mut case,
         Act::Share(user(&rt, 2)),
-        Some(CaseFault::Already(Was::User(user(&rt, 2)))),
+        CaseFault::Already(Was::User(user(&rt, 2))),
     );
-    does(&rt, rt.alloc(), &mut case, Act::Unshare(user(&rt, 2)), None);
+    done(&rt, alloc, &mut case, Act::Unshare(user(&rt, 2)));
     assert_eq!(rt; case.trail().len(), 4_097);
-    does(
+    refused(
         &rt,
-        rt.alloc(),
+        alloc,
         &mut case,
         Act::Unshare(user(&rt, 2)),
-        Some(CaseFault::NotReader),
+        CaseFault::NotReader,
     );
-    does(
+    refused(
         &rt,
-        rt.alloc(),
+        alloc,
         &mut case,
         Act::Unshare(user(&rt, 1)),
-        Some(CaseFault::LastReader),
+        CaseFault::LastReader,
     );
     Ok(())
 }
 
 #[test]
 fn a_report_is_postponed_ten_times_and_never_shortened(rt: HostRuntime) -> Result<(), Fail> {
-    let mut case = report(&rt, rt.alloc(), "2025-01-01", &[1])?;
+    let alloc = rt.alloc();
+    let mut case = report(&rt, alloc, "2025-01-01", &[1])?;
     let today = early(&rt, "2025-01-02");
-    does(
-        &rt,
-        rt.alloc(),
-        &mut case,
-        Act::Postpone {
-            today,
-            retention: 1,
-        },
-        None,
-    );
+    done(&rt, alloc, &mut case, postponement(today, 1));
     assert_eq!(rt; case.summary().expires, early(&rt, "2025-04-01"));
     for _ in 0..9 {
-        does(
-            &rt,
-            rt.alloc(),
-            &mut case,
-            Act::Postpone {
-                today,
-                retention: 90,
-            },
-            None,
-        );
+        done(&rt, alloc, &mut case, postponement(today, 90));
     }
     assert_eq!(rt; case.summary().expires, early(&rt, "2025-04-02"));
-    does(
+    refused(
         &rt,
-        rt.alloc(),
+        alloc,
         &mut case,
-        Act::Postpone {
-            today,
-            retention: 3_650,
-        },
-        Some(CaseFault::PostponeSpent),
+        postponement(today, 3_650),
+        CaseFault::PostponeSpent,
     );
     Ok(())
 }
@@ -312,7 +282,7 @@ fn a_transfer_goes_to_an_open_context_and_changes_the_readers(rt: HostRuntime) -
             is_open,
             readers,
         };
-        does(&rt, rt.alloc(), &mut case, act, told);
+        does(&rt, alloc, &mut case, act, told);
         assert!(rt;
             case.summary()
                 .readers

@@ -1,3 +1,3 @@
 pub mod CommandLineLemmas
-pub mod PlaceLemmas
 pub mod SinkLemmas
+mod PlaceLemmas

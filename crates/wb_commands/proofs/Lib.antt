@@ -1,7 +1,7 @@
-pub mod Made
 pub mod Plans
-pub mod Proposed
 pub mod Results
-pub mod SecretTexts
-pub mod SetUps
-pub mod Submissions
+mod Made
+mod Proposed
+mod SecretTexts
+mod SetUps
+mod Submissions

@@ -1,4 +1,4 @@
-pub mod SealedLookups
-pub mod RequestLists
 pub mod LegalRequests
-pub mod Refusals
+pub mod RequestLists
+pub mod SealedLookups
+mod Refusals

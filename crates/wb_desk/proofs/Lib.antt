@@ -1,24 +1,24 @@
-pub mod AlikeTurns
-pub mod ChangeRows
-pub mod Changes
-pub mod KeptChanges
-pub mod KeptOpenings
-pub mod KeptTurns
-pub mod OwnSessions
-pub mod PastTurns
-pub mod Rooms
-pub mod SessionCounts
-pub mod SetUps
-pub mod StandingPlaces
-pub mod Tenants
-pub mod TurnRows
-pub mod Whole
-pub mod Numbers
-pub mod MoreTurns
-pub mod Steps
-pub mod Wholes
-pub mod FirstTurns
-pub mod Drafts
-pub mod Families
-pub mod Requests
-pub mod Suits
+mod AlikeTurns
+mod ChangeRows
+mod Changes
+mod Drafts
+mod Families
+mod FirstTurns
+mod KeptChanges
+mod KeptOpenings
+mod KeptTurns
+mod MoreTurns
+mod Numbers
+mod OwnSessions
+mod PastTurns
+mod Requests
+mod Rooms
+mod SessionCounts
+mod SetUps
+mod StandingPlaces
+mod Steps
+mod Suits
+mod Tenants
+mod TurnRows
+mod Whole
+mod Wholes

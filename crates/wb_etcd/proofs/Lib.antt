@@ -1,6 +1,5 @@
-pub mod Orders
-pub mod AboveLast
-pub mod Bodies
-pub mod ToldRows
-pub mod Asking
-pub mod Names
+mod Asking
+mod Bodies
+mod Names
+mod Orders
+mod ToldRows

@@ -1,7 +1,6 @@
-pub mod KeyTexts
-pub mod Transactions
 pub mod Answers
 pub mod Exchanges
 pub mod Holding
-pub mod Counts
+pub mod KeyTexts
 pub mod StoreNames
+pub mod Transactions

@@ -4,7 +4,7 @@ ghost use Rattle.wb_list.specs.Keyed.{IsAscending};
 ghost use Rattle.wb_base.specs.Outside.{KeeperHasCause};
 ghost use Rattle.wb_base.specs.KeptRows.{key_cmp, key_of, IsGoodChange};
 ghost use Rattle.wb_etcd.specs.declared.standing.Standing.TheVariants.{Unloaded as IsUnloaded, Holds as HoldsSince, Ended as HasEnded};
-ghost use Rattle.wb_etcd.specs.Counts.{count_with, count_after};
+ghost use Rattle.wb_base.specs.Outside.{count_with, count_after};
 ghost use Rattle.wb_etcd.specs.Transactions.{operations};
 ghost use Rattle.wb_transport.specs.Dials.{Dialed};
 ghost use Rattle.wb_etcd.specs.Exchanges.{connection};

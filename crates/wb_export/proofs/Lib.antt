@@ -1,5 +1,5 @@
-pub mod LineLemmas
-pub mod ByExpiry
-pub mod Going
-pub mod Entries
+mod ByExpiry
+mod Entries
 mod ExportLemmas
+mod Going
+mod LineLemmas

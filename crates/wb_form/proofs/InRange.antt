@@ -19,6 +19,7 @@ use Rattle.wb_base.specs.declared.form.Form.{Form}
 use Rattle.wb_base.specs.AnswerList.{is_text}
 use Rattle.wb_base.specs.FormShape.{size, has_only, field_keys, keep, is_any, text_at, number_at, optional, flag_at, all_of, list_of, option_of, part_of, parts_at, score_of, plain_score_of, cond_by, plain_trigger_of, moded, trigger_by, show_at, max_of, max_at, options_at, plain_kind, kind_named, kind_of, field_by, step_by, form_by}
 use Rattle.wb_base.specs.FormRanges.{is_id, is_label, is_max, are_points, is_least, is_option_in_range, is_part_in_range, is_trigger_in_range, is_kind_in_range, is_field_in_range, is_step_in_range, is_in_range}
+use Rattle.wb_base.proofs.Options.{kept}
 
 -- what a chain that gave something went through
 pub record Through {X Y : Type 0} (f : X → Option Y) (o : Option X) (y : Y) : Type 0 where
@@ -38,17 +39,8 @@ passed : {X : Type 0} (b : Bool) (o : Option X) (x : X) → (if b then o else No
 passed true o x e = e
 passed false o x e = absurd cc
 
-kept : {X : Type 0} (test : X → Bool) (x y : X) → keep test x ≡ Some y → test y ≡ true
-kept test x y e = elim (cases_Bool (test x)) [
-  | inl yes' ↦ (let same : x ≡ y = some_same x y (rw yes' at e) in ap test (sym same) ∙ yes')
-  | inr no' ↦ (let none : None ≡ Some y = rw no' at e in absurd cc)
-]
-  where
-    some_same : {Z : Type 0} (a b : Z) → Some a ≡ Some b → a ≡ b
-    some_same a b h = cc
-
 text_in_range : (test : List ℕ → Bool) (k : List ℕ) (d : Data) (t : List ℕ) → text_at test k d ≡ Some t → test t ≡ true
-text_in_range test k d t e = let h = through (keep test) (option_and_then as_str (get k d)) t e in kept test h.value t h.last
+text_in_range test k d t e = let h = through (keep test) (option_and_then as_str (get k d)) t e in (kept test h.value t h.last).0
 
 all_in_range : {X : Type 0} (read : Data → Option X) (ok : X → Bool) → ((d : Data) (x : X) → read d ≡ Some x → ok x ≡ true) → (ds : Items) (xs : List X) → all_of read ds ≡ Some xs → list_all ok xs ≡ true
 all_in_range read ok h no_items xs e = let is : [] ≡ xs = cc in ap (list_all ok) (sym is)
@@ -80,7 +72,7 @@ max_in_range d n e = by (get (codes "max") d) e
   where
     by : (o : Option Data) → optional 4096 max_of o ≡ Some n → is_max n ≡ true
     by None h = (let is : 4096 ≡ n = cc in ap is_max (sym is))
-    by (Some v) h = (let m = through (keep is_max) (option_and_then as_u64 (as_number v)) n h in kept is_max m.value n m.last)
+    by (Some v) h = (let m = through (keep is_max) (option_and_then as_u64 (as_number v)) n h in (kept is_max m.value n m.last).0)
 
 options_in_range : (d : Data) (os : List FieldOption) → options_at d ≡ Some os → list_all is_option_in_range os ≡ true
 options_in_range d os e = by (get (codes "options") d) e
@@ -119,7 +111,7 @@ abbrev make_part : List ℕ → List ℕ → ℕ → Part
 make_part field o points = record { field = field; option = o; points = points }
 
 number_in_range : (test : ℕ → Bool) (k : List ℕ) (d : Data) (n : ℕ) → number_at test k d ≡ Some n → test n ≡ true
-number_in_range test k d n e = let h = through (keep test) (option_and_then as_u64 (option_and_then as_number (get k d))) n e in kept test h.value n h.last
+number_in_range test k d n e = let h = through (keep test) (option_and_then as_u64 (option_and_then as_number (get k d))) n e in (kept test h.value n h.last).0
 
 part_in_range : (d : Data) (p : Part) → part_of d ≡ Some p → is_part_in_range p ≡ true
 part_in_range d p e =

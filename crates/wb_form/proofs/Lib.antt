@@ -1,6 +1,6 @@
-pub mod Walks
-pub mod NoFloats
-pub mod Back
-pub mod InRange
 pub mod Good
-pub mod IndexLemmas
+pub mod NoFloats
+pub mod Walks
+mod Back
+mod InRange
+mod IndexLemmas

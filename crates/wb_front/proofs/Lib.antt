@@ -1,6 +1,6 @@
-pub mod Inboxes
-pub mod Sending
-pub mod Replying
-pub mod Serving
-pub mod Connecting
-pub mod Working
+mod Connecting
+mod Inboxes
+mod Replying
+mod Sending
+mod Serving
+mod Working

@@ -1,3 +1,3 @@
-pub mod DateBytes
 pub mod NoFloats
-pub mod EntryLemmas
+mod DateBytes
+mod EntryLemmas

@@ -9,16 +9,7 @@ use Rattle.std.proofs.lemmas.List.{get_or-map, length-map}
 use Rattle.std.proofs.lemmas.Map.Keys.{sorted_head, sorted_tail}
 use Rattle.std.proofs.lemmas.List.Elements.{All-from_recursion}
 use Rattle.wb_list.specs.Keyed.{IsAscending, IsRun}
-
-is_less : (r : Ordering) → is_lt r ≡ true → r ≡ Less
-is_less Less e = refl
-is_less Equal e = cc
-is_less Greater e = cc
-
-is_greater : (r : Ordering) → is_le r ≡ false → r ≡ Greater
-is_greater Less e = cc
-is_greater Equal e = cc
-is_greater Greater e = refl
+use Rattle.wb_list.proofs.Sides.{is_less, not_both}
 
 module _ {K T : Type 0} (R : K → K → Ordering) (key : T → K) where
   -- the first key is below that of a later place
@@ -77,11 +68,6 @@ module _ {T : Type 0} (side : T → Ordering) where
   after_run Equal e = cc
   after_run Greater e = refl
 
-  no_run : (r : Ordering) → is_lt r ≡ true → is_le r ≡ false → ⊥
-  no_run Less e f = cc
-  no_run Equal e f = cc
-  no_run Greater e f = cc
-
   starts_later : (x : T) (xs : List T) (i : ℕ) → Starts (x ∷ xs) (suc i) → Starts xs i
   starts_later x xs i starts = later_tail (λ y. is_lt (side y) ≡ true) (λ y. is_lt (side y) ≡ false) x xs i starts
 
@@ -97,7 +83,7 @@ module _ {T : Type 0} (side : T → Ordering) where
   pub run_ordered : (xs : List T) (i j : ℕ) → Starts xs i → Ends xs j → i ≤ length xs → i ≤ j
   run_ordered [] i j starts ends bound = omega (arith, bound)
   run_ordered (x ∷ xs) zero j starts ends bound = omega arith
-  run_ordered (x ∷ xs) (suc i) zero starts ends bound = absurd (no_run (side x) (starts.0 0 x (omega arith) (omega arith)) (ends.1 0 x (omega arith) (omega arith)))
+  run_ordered (x ∷ xs) (suc i) zero starts ends bound = absurd (not_both (side x) (starts.0 0 x (omega arith) (omega arith)) (ends.1 0 x (omega arith) (omega arith)))
   run_ordered (x ∷ xs) (suc i) (suc j) starts ends bound = omega (arith, run_ordered xs i j (starts_later x xs i starts) (ends_later x xs j ends) (omega arith))
 
   pub run_between : (xs : List T) (i j n : ℕ) → i + n ≡ j → Starts xs i → Ends xs j → i ≤ length xs → j ≤ length xs → take n (drop i xs) ≡ filter (λ x. is_eq (side x)) xs
@@ -110,6 +96,6 @@ module _ {T : Type 0} (side : T → Ordering) where
   run_between (x ∷ xs) zero (suc j) zero e starts ends low high = absurd (omega (arith, e))
   run_between (x ∷ xs) zero (suc j) (suc n) e starts ends low high =
       rw (in_run (side x) (starts.1 0 x (omega arith) (omega arith)) (ends.0 0 x (omega arith) (omega arith))) (ap (λ t. x ∷ t) (run_between xs zero j n (omega (arith, e)) (starts_first x xs starts) (ends_later x xs j ends) (omega arith) (omega arith)))
-  run_between (x ∷ xs) (suc i) zero n e starts ends low high = absurd (no_run (side x) (starts.0 0 x (omega arith) (omega arith)) (ends.1 0 x (omega arith) (omega arith)))
+  run_between (x ∷ xs) (suc i) zero n e starts ends low high = absurd (not_both (side x) (starts.0 0 x (omega arith) (omega arith)) (ends.1 0 x (omega arith) (omega arith)))
   run_between (x ∷ xs) (suc i) (suc j) n e starts ends low high =
       rw (before_run (side x) (starts.0 0 x (omega arith) (omega arith))) (run_between xs i j n (omega (arith, e)) (starts_later x xs i starts) (ends_later x xs j ends) (omega arith) (omega arith))

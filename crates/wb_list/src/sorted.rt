@@ -1,9 +1,10 @@
 //! A table sorted by a key.
-ghost use Rattle.std.specs.Prelude.{◌≡◌, ◌+◌, ◌-◌, ◌<◌, ◌≤◌, ◌++◌, ◌∷◌, [], length, take, drop, slice_get, Some, None, OnOk, OnSome, IsOk, IfOk, IfErr, Bool, true, false, not, All, find, filter, position, if◌then◌else◌};
+ghost use Rattle.std.specs.Prelude.{◌≡◌, ◌+◌, ◌-◌, ◌<◌, ◌≤◌, ◌++◌, ◌∷◌, [], length, take, drop, slice_get, Some, None, OnOk, OnSome, IsOk, IfOk, IfErr, Bool, true, false, not, All, find, filter, position, if◌then◌else◌, IsTrue, ◌↔◌};
 ghost use Rattle.std.specs.Ordering.{is_eq, is_le, is_lt};
 ghost use Rattle.std.specs.List.Sorted.{IsPartitionPoint};
 ghost use Rattle.std.specs.declared.cmp.Ordering.TheVariants.{Less};
 ghost use Rattle.std.specs.Option.{option_copied};
+ghost use Rattle.std.specs.Vec.{vec_capacity};
 ghost use Rattle.wb_list.specs.Keyed.{IsAscending, has_key, insert_item, without_first, IsPlace, IsGap, IsRun, Finds};
 
 use crate::{Memory, TryClone};
@@ -101,6 +102,29 @@ impl<T: Keyed> Model for Sorted<T> {
     ghost invariant = { λ s. IsAscending T.Key.cmp T.key_of s.items.items };
 }
 
+// Moves the last n items, in their order, into an empty list that has room for them.
+#[tactic(auto, using(crate::proofs::LastItems::moved_one))]
+fn move_back<T>(items: &mut Vec<T>, n: usize, into: &mut Vec<T>)
+    requires there { n ≤ length items.old.items }
+    requires empty { into.old.items ≡ [] }
+    requires room { n ≤ vec_capacity into.old }
+    ensures items { items.new.items ++ into.new.items ≡ items.old.items }
+    ensures moved { length into.new.items ≡ n }
+    ensures from { vec_capacity items.new ≡ vec_capacity items.old }
+    ensures to { vec_capacity into.old ≤ vec_capacity into.new }
+{
+    for _ in 0..n {
+        match items.pop() {
+            Some(last) => {
+                let pushed = into.push(last);
+                pushed.unwrap()
+            }
+            None => unreachable!(),
+        }
+    }
+    into.reverse();
+}
+
 impl<T: Keyed> Sorted<T> {
     /// No item. It takes no memory.
     pub fn new(alloc: Global) -> Sorted<T>
@@ -164,6 +188,37 @@ impl<T: Keyed> Sorted<T> {
     {
         self.items.reserve(n)?;
         Ok(())
+    }
+
+    /// Whether there is room for one more item.
+    pub fn has_room(&self) -> bool
+        ensures { IsTrue result ↔ (0 < self.now.spare) }
+    {
+        self.items.len() < self.items.capacity()
+    }
+
+    /// Whether all keys are below that of an item.
+    pub fn ends_below(&self, item: &T) -> bool
+        ensures { result ≡ true ↔ All (λ other. T.Key.cmp (T.key_of other) (T.key_of item.now) ≡ Less) self.now.items }
+    {
+        match self.items.last() {
+            Some(last) => last.compare_to(item).is_lt(),
+            None => true,
+        }
+    }
+
+    /// Moves the last n items into an empty table that has room for them. It takes no memory.
+    pub fn move_last(&mut self, n: usize, into: &mut Sorted<T>)
+        requires there { n ≤ length self.old.items }
+        requires empty { into.old.items ≡ [] }
+        requires room { n ≤ into.old.spare }
+        ensures items { self.new.items ++ into.new.items ≡ self.old.items }
+        ensures moved { length into.new.items ≡ n }
+        ensures room { self.old.spare + n ≤ self.new.spare }
+        ensures left { into.old.spare ≤ into.new.spare + n }
+        ensures ascending { IsAscending T.Key.cmp T.key_of self.old.items }
+    {
+        move_back(&mut self.items, n, &mut into.items);
     }
 
     // Where the key is, or where it would go.
@@ -332,6 +387,14 @@ impl<T: Keyed + Drop> Sorted<T> {
             }
             Err(_) => unreachable!(),
         }
+    }
+
+    /// Drops the items of a run. It takes no memory, and looks at each item.
+    pub fn drop_run<X: ItemRun<T>>(&mut self, run: &X)
+        ensures items { self.new.items ≡ filter (λ item. not (is_eq (X.side run.now item))) self.old.items }
+        ensures kept { self.old.spare ≤ self.new.spare }
+    {
+        self.items.retain(|item| !run.side(item).is_eq());
     }
 
     /// Drops the items that pass a test. It takes no memory.

@@ -1,16 +1,12 @@
 -- Chunks of items: what they are joined, and what of them is ready or filled.
-use Rattle.std.proofs.Common.{◌≡◌, ℕ, zero, suc, ◌+◌, ◌<◌, ◌≤◌, true, false, List, [], ◌∷◌, ◌++◌, length, get_or, set, take, drop, reverse, refl, sym, ap, subst, ◌∙◌, arith}
+use Rattle.std.proofs.Common.{◌≡◌, ℕ, zero, suc, ◌+◌, ◌<◌, ◌≤◌, true, false, List, [], ◌∷◌, ◌++◌, length, get_or, set, take, drop, refl, sym, ap, subst, ◌∙◌, arith}
 use Rattle.std.specs.List.{AllByRecursion}
-use Rattle.std.proofs.lemmas.List.{append_assoc, append-nil, reverse-append, length-append, take_more, take-append-drop, drop_more, set_split}
+use Rattle.std.proofs.lemmas.List.{append_assoc, append-nil, length-append, take_more, take-append-drop, drop_more, set_split}
 use Rattle.std.proofs.lemmas.List.Concat.{flat_map-append}
 use Rattle.wb_list.specs.Room.{Room}
 use Rattle.wb_memory.specs.Chunks.{joined, is_filled, IsReady}
 
 module _ {X : Type 0} where
-  -- one more item goes from the end of a list to the front of what was moved, which stands the other way round
-  pub moved_one : (xs ys zs : List X) (x : X) → (xs ++ x ∷ []) ++ reverse ys ≡ zs → xs ++ reverse (ys ++ x ∷ []) ≡ zs
-  moved_one xs ys zs x e = ap (λ t. xs ++ t) (reverse-append ys (x ∷ [])) ∙ (sym (append_assoc xs (x ∷ []) (reverse ys)) ∙ e)
-
   pub all_moved : (xs ys zs : List X) → xs ++ ys ≡ zs → length ys ≡ length zs → ys ≡ zs
   all_moved [] ys zs e same = e
   all_moved (x ∷ xs) ys zs e same = absurd (omega (arith, same, ap length e, length-append xs ys))

@@ -7,35 +7,16 @@ use Rattle.std.specs.List.Sorted.{IsStrictlySortedBy, IsPartitionedBy}
 use Rattle.std.proofs.lemmas.List.{take-append-drop}
 use Rattle.wb_list.specs.Room.{Room}
 use Rattle.wb_list.specs.Keyed.{IsAscending}
+use Rattle.wb_list.proofs.LastItems.{all_front, all_back, ascending_back}
 use Rattle.wb_memory.specs.Chunks.{joined, begins, AreFilled}
 use Rattle.wb_memory.proofs.ChunkLemmas.{joined-append}
 
 module _ {K T : Type 0} (R : K → K → Ordering) (key : T → K) where
-  all_front : (P : K → Type 0) (xs ys : List T) → AllByRecursion P (map key (xs ++ ys)) → AllByRecursion P (map key xs)
-  all_front P [] ys all = tt
-  all_front P (x ∷ xs) ys all = (all.0, all_front P xs ys all.1)
-
-  pub all_back : (P : K → Type 0) (xs ys : List T) → AllByRecursion P (map key (xs ++ ys)) → AllByRecursion P (map key ys)
-  all_back P [] ys all = all
-  all_back P (x ∷ xs) ys all = all_back P xs ys all.1
-
-  -- a front of ascending items, and what is behind it
-  pub ascending_front : (xs ys : List T) → IsAscending R key (xs ++ ys) → IsAscending R key xs
-  unfolding IsStrictlySortedBy
-  ascending_front [] ys sorted = tt
-  ascending_front (x ∷ xs) ys sorted = (all_front (λ k. R (key x) k ≡ Less) xs ys sorted.0, ascending_front xs ys sorted.1)
-
-  pub ascending_back : (xs ys : List T) → IsAscending R key (xs ++ ys) → IsAscending R key ys
-  unfolding IsStrictlySortedBy
-  ascending_back [] ys sorted = sorted
-  ascending_back (x ∷ xs) ys sorted = ascending_back xs ys sorted.1
-
-  -- what is below all of a list that begins by a key is below the key
   -- the chunks from a place on
   pub ascending_rest : (cs : List (Room T)) (n : ℕ) → IsAscending R key (joined cs) → IsAscending R key (joined (drop n cs))
   ascending_rest cs n sorted =
       let whole : joined cs ≡ joined (take n cs) ++ joined (drop n cs) = ap joined (sym (take-append-drop n cs)) ∙ joined-append (take n cs) (drop n cs) in
-      ascending_back (joined (take n cs)) (joined (drop n cs)) (subst (λ t. IsAscending R key t) whole sorted)
+      ascending_back R key (joined (take n cs)) (joined (drop n cs)) (subst (λ t. IsAscending R key t) whole sorted)
 
 module _ {T : Type 0} (test : T → Bool) where
   pub begins_first : (xs ys : List T) → 0 < length xs → begins test (xs ++ ys) ≡ begins test xs

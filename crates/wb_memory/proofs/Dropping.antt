@@ -8,24 +8,11 @@ use Rattle.std.proofs.lemmas.List.{append_assoc, append-nil, take-append-drop, d
 use Rattle.std.proofs.lemmas.List.Elements.{filter-append}
 use Rattle.wb_list.specs.Room.{Room}
 use Rattle.wb_list.specs.Keyed.{IsAscending, IsRun}
+use Rattle.wb_list.proofs.LastItems.{all_back}
+use Rattle.wb_list.proofs.Sides.{is_less, is_greater, not_both}
 use Rattle.wb_memory.specs.Chunks.{joined, begins, AreFilled}
 use Rattle.wb_memory.proofs.ChunkLemmas.{joined-append, every_at}
-use Rattle.wb_memory.proofs.ChunkOrder.{all_back, ascending_rest, begins_first, rest_begins, passes_before}
-
-is_less : (r : Ordering) → is_lt r ≡ true → r ≡ Less
-is_less Less e = refl
-is_less Equal e = cc
-is_less Greater e = cc
-
-is_greater : (r : Ordering) → is_le r ≡ false → r ≡ Greater
-is_greater Less e = cc
-is_greater Equal e = cc
-is_greater Greater e = refl
-
-not_both : (r : Ordering) → is_lt r ≡ true → is_le r ≡ false → ⊥
-not_both Less e f = cc
-not_both Equal e f = cc
-not_both Greater e f = cc
+use Rattle.wb_memory.proofs.ChunkOrder.{ascending_rest, begins_first, rest_begins, passes_before}
 
 module _ {T : Type 0} (side : T → Ordering) where
   not_begun : (xs : List T) → begins (λ x. is_lt (side x)) xs ≡ true → begins (λ x. is_le (side x)) xs ≡ false → ⊥

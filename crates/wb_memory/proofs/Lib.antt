@@ -1,6 +1,6 @@
-pub mod ChunkLemmas
-pub mod ChunkOrder
-pub mod Putting
-pub mod Dropping
-pub mod PutCount
-pub mod ReportParts
+mod ChunkLemmas
+mod ChunkOrder
+mod Dropping
+mod PutCount
+mod Putting
+mod ReportParts

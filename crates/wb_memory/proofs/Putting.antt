@@ -10,14 +10,11 @@ use Rattle.std.proofs.lemmas.Cmp.{alike_right}
 use Rattle.std.proofs.lemmas.List.{append_assoc}
 use Rattle.wb_list.specs.Room.{Room}
 use Rattle.wb_list.specs.Keyed.{IsAscending, insert_item}
+use Rattle.wb_list.proofs.LastItems.{all_back}
+use Rattle.wb_list.proofs.Sides.{is_greater}
 use Rattle.wb_memory.specs.Chunks.{joined, begins_by, AreFilled}
 use Rattle.wb_memory.proofs.ChunkLemmas.{every_at, joined_at}
-use Rattle.wb_memory.proofs.ChunkOrder.{all_back, begins_first, rest_begins}
-
-is_greater : (r : Ordering) → is_le r ≡ false → r ≡ Greater
-is_greater Less e = cc
-is_greater Equal e = cc
-is_greater Greater e = refl
+use Rattle.wb_memory.proofs.ChunkOrder.{begins_first, rest_begins}
 
 module _ {K T : Type 0} (R : K → K → Ordering) (key : T → K) where
   -- what stands behind an item stays there

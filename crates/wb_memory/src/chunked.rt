@@ -8,10 +8,10 @@ ghost use Rattle.std.specs.Vec.{vec_capacity};
 ghost use Rattle.wb_list.specs.Keyed.{IsAscending, IsRun, insert_item};
 ghost use Rattle.wb_memory.specs.Chunks.{joined, begins, begins_by, AreFilled, IsReady};
 
-use crate::chunk::Chunk;
+use crate::chunk::{begins_before, begins_by, begins_within, is_filled};
 use std::alloc::Global;
 use std::marker::Model;
-use wb_list::{ItemRun, Keyed, Memory, TryClone};
+use wb_list::{ItemRun, Keyed, Memory, Sorted, TryClone};
 
 // How many items a chunk takes.
 const CHUNK: usize = 64;
@@ -23,9 +23,9 @@ const HALF: usize = 32;
 /// It is seen as the list of its items, and how many puts it takes without memory.
 #[derive(Drop)]
 pub struct Chunked<T: Keyed> {
-    first: Chunk<T>,
-    later: Vec<Chunk<T>>,
-    spare: Vec<Chunk<T>>,
+    first: Sorted<T>,
+    later: Vec<Sorted<T>>,
+    spare: Vec<Sorted<T>>,
 }
 
 impl<T: Keyed> Model for Chunked<T> {
@@ -42,17 +42,17 @@ impl<T: Keyed> Model for Chunked<T> {
 }
 
 // How many chunks begin at or before the place of an item.
-fn beginning_by<T: Keyed>(chunks: &Vec<Chunk<T>>, item: &T) -> usize
+fn beginning_by<T: Keyed>(chunks: &Vec<Sorted<T>>, item: &T) -> usize
     requires ascending { IsAscending T.Key.cmp T.key_of (joined chunks.now.items) }
     requires filled { AreFilled chunks.now.items }
     ensures parted { IsPartitionPoint (λ chunk. begins_by T.Key.cmp T.key_of (T.key_of item.now) chunk.items ≡ true) (λ chunk. begins_by T.Key.cmp T.key_of (T.key_of item.now) chunk.items ≡ false) chunks.now.items result }
     ensures bound { result ≤ length chunks.now.items }
 {
-    chunks.partition_point(|chunk| chunk.begins_by(item))
+    chunks.partition_point(|chunk| begins_by(chunk, item))
 }
 
 // Makes empty chunks until there are n.
-fn stock<T: Keyed + Drop>(alloc: Global, spare: &mut Vec<Chunk<T>>, n: usize) -> Result<(), Memory>
+fn stock<T: Keyed + Drop>(alloc: Global, spare: &mut Vec<Sorted<T>>, n: usize) -> Result<(), Memory>
     requires { AllByRecursion IsReady spare.old.items }
     ensures ready { AllByRecursion IsReady spare.new.items }
     ensures kept { length spare.old.items ≤ length spare.new.items }
@@ -60,7 +60,7 @@ fn stock<T: Keyed + Drop>(alloc: Global, spare: &mut Vec<Chunk<T>>, n: usize) ->
     ensures bound { (most : ℕ) → length spare.old.items ≤ most → n ≤ most → length spare.new.items ≤ most }
 {
     for _ in spare.len()..n {
-        let mut chunk = Chunk::new(alloc);
+        let mut chunk = Sorted::new(alloc);
         chunk.reserve(CHUNK)?;
         spare.push(chunk)?;
     }
@@ -69,7 +69,7 @@ fn stock<T: Keyed + Drop>(alloc: Global, spare: &mut Vec<Chunk<T>>, n: usize) ->
 
 // Puts an item into a chunk without room that is at most half a chunk, which an empty one takes over.
 #[tactic(auto, using(crate::proofs::ChunkLemmas::all_moved))]
-fn take_over<T: Keyed + Drop>(chunk: &mut Chunk<T>, mut empty: Chunk<T>, item: T)
+fn take_over<T: Keyed + Drop>(chunk: &mut Sorted<T>, mut empty: Sorted<T>, item: T)
     requires empty { empty.items ≡ [] }
     requires room { 64 ≤ empty.spare }
     requires small { length chunk.old.items ≤ 32 }
@@ -83,7 +83,7 @@ fn take_over<T: Keyed + Drop>(chunk: &mut Chunk<T>, mut empty: Chunk<T>, item: T
 
 // Puts an item into a chunk whose last items go into an empty one, or into that.
 #[tactic(auto, using(crate::proofs::Putting::put_before, crate::proofs::Putting::insert_filled))]
-fn part<T: Keyed + Drop>(chunk: &mut Chunk<T>, next: &mut Chunk<T>, item: T)
+fn part<T: Keyed + Drop>(chunk: &mut Sorted<T>, next: &mut Sorted<T>, item: T)
     requires empty { next.old.items ≡ [] }
     requires room { 64 ≤ next.old.spare }
     requires large { 32 < length chunk.old.items }
@@ -92,7 +92,7 @@ fn part<T: Keyed + Drop>(chunk: &mut Chunk<T>, next: &mut Chunk<T>, item: T)
     ensures next { 0 < length next.new.items }
 {
     chunk.move_last(HALF, next);
-    if next.begins_by(&item) {
+    if begins_by(next, &item) {
         next.set(item);
     } else {
         chunk.set(item);
@@ -102,10 +102,10 @@ fn part<T: Keyed + Drop>(chunk: &mut Chunk<T>, next: &mut Chunk<T>, item: T)
 // Puts an item into a chunk without room. What comes after it then is the empty one, where it was not small.
 #[tactic(auto, using(crate::proofs::Putting::insert_filled))]
 fn put_into_two<T: Keyed + Drop>(
-    chunk: &mut Chunk<T>,
-    mut empty: Chunk<T>,
+    chunk: &mut Sorted<T>,
+    mut empty: Sorted<T>,
     item: T,
-) -> Option<Chunk<T>>
+) -> Option<Sorted<T>>
     requires empty { empty.items ≡ [] }
     requires room { 64 ≤ empty.spare }
     ensures items { MatchOption result (chunk.new.items ≡ insert_item T.Key.cmp T.key_of chunk.old.items item) (λ next. chunk.new.items ++ next.items ≡ insert_item T.Key.cmp T.key_of chunk.old.items item) }
@@ -123,10 +123,10 @@ fn put_into_two<T: Keyed + Drop>(
 // Puts an item into a chunk. What comes after it then, where the chunk had no room, is a chunk of its own.
 #[tactic(auto, using(crate::proofs::Putting::insert_filled, crate::proofs::ChunkLemmas::ready_empty, crate::proofs::ChunkLemmas::ready_room, crate::proofs::ChunkLemmas::ready_rest))]
 fn put<T: Keyed + Drop>(
-    chunk: &mut Chunk<T>,
-    spare: &mut Vec<Chunk<T>>,
+    chunk: &mut Sorted<T>,
+    spare: &mut Vec<Sorted<T>>,
     item: T,
-) -> Option<Chunk<T>>
+) -> Option<Sorted<T>>
     requires ready { AllByRecursion IsReady spare.old.items }
     requires some { 0 < length spare.old.items }
     ensures items { MatchOption result (chunk.new.items ≡ insert_item T.Key.cmp T.key_of chunk.old.items item) (λ next. chunk.new.items ++ next.items ≡ insert_item T.Key.cmp T.key_of chunk.old.items item) }
@@ -148,8 +148,8 @@ fn put<T: Keyed + Drop>(
 
 // Puts an item into the chunk at a place. Where that had no room, one more comes after it.
 fn put_at<T: Keyed + Drop>(
-    chunks: &mut Vec<Chunk<T>>,
-    spare: &mut Vec<Chunk<T>>,
+    chunks: &mut Vec<Sorted<T>>,
+    spare: &mut Vec<Sorted<T>>,
     at: usize,
     item: T,
 )
@@ -170,7 +170,7 @@ fn put_at<T: Keyed + Drop>(
 }
 
 // Adds a chunk at a place that was made for it.
-fn add<T: Keyed + Drop>(chunks: &mut Vec<Chunk<T>>, at: usize, chunk: Chunk<T>)
+fn add<T: Keyed + Drop>(chunks: &mut Vec<Sorted<T>>, at: usize, chunk: Sorted<T>)
     requires place { at ≤ length chunks.old.items }
     requires room { length chunks.old.items < vec_capacity chunks.old }
     ensures items { chunks.new.items ≡ insert chunks.old.items at chunk }
@@ -181,29 +181,29 @@ fn add<T: Keyed + Drop>(chunks: &mut Vec<Chunk<T>>, at: usize, chunk: Chunk<T>)
 }
 
 // How many chunks begin before a run.
-fn beginning_before<T: Keyed, X: ItemRun<T>>(chunks: &Vec<Chunk<T>>, run: &X) -> usize
+fn beginning_before<T: Keyed, X: ItemRun<T>>(chunks: &Vec<Sorted<T>>, run: &X) -> usize
     requires run { IsRun T.Key.cmp T.key_of (X.side run.now) }
     requires ascending { IsAscending T.Key.cmp T.key_of (joined chunks.now.items) }
     requires filled { AreFilled chunks.now.items }
     ensures parted { IsPartitionPoint (λ chunk. begins (λ item. is_lt (X.side run.now item)) chunk.items ≡ true) (λ chunk. begins (λ item. is_lt (X.side run.now item)) chunk.items ≡ false) chunks.now.items result }
     ensures bound { result ≤ length chunks.now.items }
 {
-    chunks.partition_point(|chunk| chunk.begins_before(run))
+    chunks.partition_point(|chunk| begins_before(chunk, run))
 }
 
 // How many chunks begin before a run or in it.
-fn beginning_within<T: Keyed, X: ItemRun<T>>(chunks: &Vec<Chunk<T>>, run: &X) -> usize
+fn beginning_within<T: Keyed, X: ItemRun<T>>(chunks: &Vec<Sorted<T>>, run: &X) -> usize
     requires run { IsRun T.Key.cmp T.key_of (X.side run.now) }
     requires ascending { IsAscending T.Key.cmp T.key_of (joined chunks.now.items) }
     requires filled { AreFilled chunks.now.items }
     ensures parted { IsPartitionPoint (λ chunk. begins (λ item. is_le (X.side run.now item)) chunk.items ≡ true) (λ chunk. begins (λ item. is_le (X.side run.now item)) chunk.items ≡ false) chunks.now.items result }
     ensures bound { result ≤ length chunks.now.items }
 {
-    chunks.partition_point(|chunk| chunk.begins_within(run))
+    chunks.partition_point(|chunk| begins_within(chunk, run))
 }
 
 // The places between which the chunks lie that have items of a run.
-fn bounds<T: Keyed, X: ItemRun<T>>(chunks: &Vec<Chunk<T>>, run: &X) -> (usize, usize)
+fn bounds<T: Keyed, X: ItemRun<T>>(chunks: &Vec<Sorted<T>>, run: &X) -> (usize, usize)
     requires run { IsRun T.Key.cmp T.key_of (X.side run.now) }
     requires ascending { IsAscending T.Key.cmp T.key_of (joined chunks.now.items) }
     requires filled { AreFilled chunks.now.items }
@@ -218,7 +218,7 @@ fn bounds<T: Keyed, X: ItemRun<T>>(chunks: &Vec<Chunk<T>>, run: &X) -> (usize, u
 }
 
 // Drops the items of a run from the chunk at a place, and the chunk where it is empty then.
-fn drop_at<T: Keyed + Drop, X: ItemRun<T>>(chunks: &mut Vec<Chunk<T>>, at: usize, run: &X)
+fn drop_at<T: Keyed + Drop, X: ItemRun<T>>(chunks: &mut Vec<Sorted<T>>, at: usize, run: &X)
     requires place { at < length chunks.old.items }
     requires filled { AreFilled chunks.old.items }
     ensures before { (n : ℕ) → n ≤ at → take n chunks.new.items ≡ take n chunks.old.items }
@@ -229,14 +229,14 @@ fn drop_at<T: Keyed + Drop, X: ItemRun<T>>(chunks: &mut Vec<Chunk<T>>, at: usize
     ensures places { vec_capacity chunks.new ≡ vec_capacity chunks.old }
 {
     chunks[at].drop_run(run);
-    if !chunks[at].is_filled() {
+    if !is_filled(&chunks[at]) {
         let _empty = chunks.remove(at);
     }
 }
 
 // Drops the items of a run from the chunks between two places.
 fn drop_between<T: Keyed + Drop, X: ItemRun<T>>(
-    chunks: &mut Vec<Chunk<T>>,
+    chunks: &mut Vec<Sorted<T>>,
     start: usize,
     end: usize,
     run: &X,
@@ -271,7 +271,7 @@ fn append_copies<T: TryClone>(copy: &mut Vec<T>, items: &[T]) -> Result<(), Memo
 
 // Adds copies of the items of chunks at the end of a list.
 #[tactic(auto, using(crate::proofs::ChunkLemmas::joined_more))]
-fn append_chunks<T: Keyed + TryClone>(copy: &mut Vec<T>, chunks: &[Chunk<T>]) -> Result<(), Memory>
+fn append_chunks<T: Keyed + TryClone>(copy: &mut Vec<T>, chunks: &[Sorted<T>]) -> Result<(), Memory>
     ensures { OnOk result (copy.new.items ≡ copy.old.items ++ joined chunks.now) }
 {
     for chunk in chunks {
@@ -286,7 +286,7 @@ impl<T: Keyed> Chunked<T> {
         ensures { result.items ≡ [] }
     {
         Chunked {
-            first: Chunk::new(alloc),
+            first: Sorted::new(alloc),
             later: Vec::new(alloc),
             spare: Vec::new(alloc),
         }

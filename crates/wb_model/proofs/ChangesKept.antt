@@ -1,5 +1,5 @@
 -- A turn keeps what a tenant's tables keep so that their rows are read back.
-use Rattle.std.proofs.Common.{◌≡◌, ◌≢◌, ◌⊎◌, inl, inr, ℕ, ◌+◌, ◌≤◌, Bool, true, false, cond, not, List, [], ◌∷◌, ◌++◌, length, Option, Some, None, refl, sym, ap, ◌∙◌, subst, arith, option_map}
+use Rattle.std.proofs.Common.{◌≡◌, ◌≢◌, ◌⊎◌, inl, inr, ℕ, ◌+◌, ◌≤◌, Bool, true, false, cond, not, List, [], ◌∷◌, ◌++◌, length, Option, Some, None, refl, sym, ap, ◌∙◌, subst, arith}
 use Rattle.std.specs.Prelude.{map, find, filter, is_some, is_none, nat_lt, nat_le, ◌<◌, ◌&&◌, ◌||◌, ◌==◌}
 use Rattle.std.specs.List.{list_all}
 use Rattle.std.specs.Option.{option_map_or, option_or}
@@ -56,6 +56,7 @@ use Rattle.wb_model.proofs.Fitting.{target_held}
 use Rattle.wb_model.proofs.LegalTurns.{one_case}
 use Rattle.wb_model.proofs.KeptForms.{doing_silent, silent_part, form_more}
 use Rattle.wb_model.proofs.PublicParts.{public_valid, sealed_valid, public_unmarked, some_sealed}
+use Rattle.wb_base.proofs.Options.{first_none, mapped_none}
 
 -- ---- a change
 
@@ -308,14 +309,6 @@ entry_right t at g c x y answers own order found h none ranged =
 
 abbrev pub AloneRight : ℕ → Plain → TurnContext → Option Who → Outcome → Option Answered → Effect → Type 0
 AloneRight t p at who o given e = refusal_alone p.registry (drawing at p) o e ≡ None → Puts t p (change_alone at p.registry who o e) given
-
-first_none : {F : Type 0} (a b : Option F) → option_or a b ≡ None → (a ≡ None) × (b ≡ None)
-first_none None b e = (refl, e)
-first_none (Some x) b e = absurd (grind (arith, e))
-
-mapped_none : {X Y : Type 0} (f : X → Y) (o : Option X) → option_map f o ≡ None → o ≡ None
-mapped_none f None e = refl
-mapped_none f (Some x) e = absurd (grind (arith, e))
 
 puts_setting : (t : ℕ) (p : Plain) (given : Option Answered) (o : Option Setting) → PutsSetting t p.registry o → Puts t p (option_map_or Configures o Nothing) given
 puts_setting t p given None h = tt

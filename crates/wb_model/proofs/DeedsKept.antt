@@ -1,8 +1,8 @@
 -- What is done on a report names what is there, and says what is in its ranges.
-use Rattle.std.proofs.Common.{◌≡◌, ℕ, Bool, true, false, cond, not, List, [], ◌∷◌, length, Option, Some, None, refl, sym, ap, ◌∙◌, arith, option_map}
+use Rattle.std.proofs.Common.{◌≡◌, ℕ, Bool, true, false, cond, not, List, [], ◌∷◌, length, Option, Some, None, refl, sym, ap, ◌∙◌, arith}
 use Rattle.std.specs.Prelude.{filter, fold, is_some, is_none, nat_lt, nat_le, ◌&&◌, ◌||◌, ◌==◌}
 use Rattle.std.specs.List.{list_all, list_any}
-use Rattle.std.specs.Option.{option_map_or, option_or}
+use Rattle.std.specs.Option.{option_map_or}
 use Rattle.std.proofs.lemmas.Bool.{and_parts, and_from}
 use Rattle.std.proofs.lemmas.Bool.Decides.{nat_tests}
 use Rattle.wb_base.specs.declared.callers.Presented.{Presented}
@@ -50,16 +50,9 @@ use Rattle.wb_model.proofs.Effects.{found_is, transfer_is, comes_is, goes_is, in
 use Rattle.wb_model.proofs.Callers.{IsOwner, IsCaller}
 use Rattle.wb_model.proofs.CallerRoles.{is_caller, Roles}
 use Rattle.wb_model.proofs.ItemPuts.{held_all, all_more}
+use Rattle.wb_base.proofs.Options.{first_none, mapped_none}
 
 -- ---- parts
-
-first_none : {F : Type 0} (a b : Option F) → option_or a b ≡ None → (a ≡ None) × (b ≡ None)
-first_none None b e = (refl, e)
-first_none (Some x) b e = absurd (grind (arith, e))
-
-mapped_none : {X Y : Type 0} (f : X → Y) (o : Option X) → option_map f o ≡ None → o ≡ None
-mapped_none f None e = refl
-mapped_none f (Some x) e = absurd (grind (arith, e))
 
 there_if : {X : Type 0} (P : X → Bool) (o : Option X) → option_map_or P o false ≡ true → is_some o ≡ true
 there_if P None e = absurd (grind (arith, e))

@@ -11,10 +11,10 @@ use Rattle.wb_model.specs.declared.command.Command.TheVariants as commands
 use Rattle.wb_model.specs.declared.entry.Status.TheVariants as statuses
 use Rattle.wb_model.specs.Faults.{case_told}
 use Rattle.wb_model.specs.Trails.{feedback_due}
-use Rattle.wb_model.proofs.Starter.{starter_registry, starter_tables}
+use Rattle.wb_model.proofs.Starter.{starter_registry, starter_tables, starter_sound}
 use Rattle.wb_model.specs.Past.{Past, Opening, trail}
 use Rattle.wb_model.specs.Opened.{Opened}
-use Rattle.wb_model.proofs.RowPasts.{opened_case, opened_sealed, opened_marks, opened_legal, starter_sound, opened, after, did, refusal}
+use Rattle.wb_model.proofs.RowPasts.{opened_case, opened_sealed, opened_marks, opened_legal, opened, after, did, refusal}
 
 -- ---- calendars
 

@@ -36,6 +36,7 @@ use Rattle.wb_model.specs.Submissions.{submission_entry}
 use Rattle.wb_model.specs.Doings.{Doing, Acts, Moves, doing_fault, doing_deed}
 use Rattle.wb_model.specs.Legal.{Reckoning, reckoning, is_reporter, is_within, are_readers, is_effective, is_first, is_next, legal_from, is_legal, last_at, AsksRightly}
 use Rattle.wb_model.proofs.Drawn.{same_day}
+use Rattle.wb_base.proofs.Options.{first_none}
 
 -- ---- parts
 
@@ -137,10 +138,6 @@ own_state right fault stamp (Some r) up e = ap (λ b. cond b None (Some (fault (
     by : (b : Bool) → cond b None (Some (fault (state_now stamp r))) ≡ None → b ≡ true
     by true f = refl
     by false f = absurd (grind (arith, f))
-
-first_none : {F : Type 0} (a b : Option F) → option_or a b ≡ None → (a ≡ None) × (b ≡ None)
-first_none None b e = (refl, e)
-first_none (Some x) b e = absurd (grind (arith, e))
 
 both_none : {F : Type 0} (a b : Option F) → a ≡ None → b ≡ None → option_or a b ≡ None
 both_none a b e f = ap (λ x. option_or x b) e ∙ f

@@ -1,97 +1,98 @@
-pub mod Found
-pub mod Dialogue
-pub mod Effects
-pub mod Unwinding
-pub mod AllTenants
-pub mod OneOpening
-pub mod Starter
-pub mod StarterForm
-pub mod Drawn
-pub mod LiveActs
-pub mod Fitting
-pub mod Placed
-pub mod Agreeing
-pub mod PastLaw
-pub mod SessionsLaw
-pub mod KeptContexts
-pub mod TurnLaw
-pub mod HeldTables
-pub mod PartLaw
-pub mod Unchanged
-pub mod ScriptLaw
-pub mod SessionRows
-pub mod DueRows
-pub mod TargetRows
-pub mod SecretRows
-pub mod FullTrailRows
-pub mod SettingRows
-pub mod SubmissionRows
-pub mod RowPasts
-pub mod ActRows
-pub mod DeletionRows
-pub mod ExtensionRows
-pub mod CustodyRows
-pub mod RouteRows
-pub mod KeptRowsRows
-pub mod SetUpRows
-pub mod KeptRuleRows
-pub mod EightsOf
-pub mod Eights
-pub mod RecentSessions
-pub mod Leaving
-pub mod SessionsBut
-pub mod TargetsWithout
-pub mod GapSteps
-pub mod Gapless
-pub mod AbsentPast
-pub mod SessionsApart
-pub mod Receipts
-pub mod LegalPasts
-pub mod Numberings
-pub mod OpeningsOf
-pub mod AbsentTurns
-pub mod AbsentScripts
-pub mod Purged
-pub mod OpeningReceipts
-pub mod WithoutOpenings
-pub mod OneHost
-pub mod RowsLeft
-pub mod AbsentOpenings
-pub mod InOrder
-pub mod KeptForms
-pub mod KeptPasts
-pub mod Reopenings
-pub mod LeftTimes
-pub mod Answered
-pub mod RowsAlike
-pub mod AlikeOpenings
-pub mod Marked
-pub mod LegalDoings
-pub mod Callers
-pub mod LegalTurns
-pub mod SoundRegistries
-pub mod TargetsServed
-pub mod RefusalsServed
-pub mod TurnsServed
-pub mod LossesTold
-pub mod Draws
-pub mod KindRows
-pub mod RowLaw
-pub mod PutLaw
-pub mod FormatRow
 pub mod Converted
-pub mod TurnRows
 pub mod DeletedRows
-pub mod Keeping
-pub mod PublicParts
+pub mod Effects
+pub mod Eights
+pub mod EightsOf
+pub mod Fitting
+pub mod FormatRow
+pub mod Found
+pub mod HeldTables
 pub mod ItemPuts
-pub mod SettingsKeep
-pub mod CallerRoles
-pub mod DeedsKept
-pub mod SettingsRight
-pub mod ChangesKept
-pub mod ReadablePasts
-pub mod SetUpsReadable
-pub mod LeftSetUps
+pub mod Keeping
+pub mod KeptPasts
+pub mod KindRows
+pub mod Leaving
 pub mod LeftKept
+pub mod LeftSetUps
+pub mod LeftTimes
+pub mod LegalDoings
+pub mod LegalPasts
+pub mod LiveActs
+pub mod OpeningsOf
+pub mod PartLaw
+pub mod PastLaw
+pub mod Placed
+pub mod PutLaw
 pub mod ReadAnswers
+pub mod ReadablePasts
+pub mod Receipts
+pub mod RowLaw
+pub mod SessionsApart
+pub mod SessionsLaw
+pub mod SetUpsReadable
+pub mod SettingsRight
+pub mod TurnLaw
+pub mod TurnRows
+mod AbsentOpenings
+mod AbsentPast
+mod AbsentScripts
+mod AbsentTurns
+mod ActRows
+mod Agreeing
+mod AlikeOpenings
+mod AllTenants
+mod Answered
+mod CallerRoles
+mod Callers
+mod ChangesKept
+mod CustodyRows
+mod DeedsKept
+mod DeletionRows
+mod Dialogue
+mod Drawn
+mod Draws
+mod DueRows
+mod EmptyOpenings
+mod ExtensionRows
+mod FullTrailRows
+mod GapSteps
+mod Gapless
+mod InOrder
+mod KeptContexts
+mod KeptForms
+mod KeptRowsRows
+mod KeptRuleRows
+mod LegalTurns
+mod LossesTold
+mod Marked
+mod Numberings
+mod OneHost
+mod OneOpening
+mod OpeningReceipts
+mod PublicParts
+mod Purged
+mod RecentSessions
+mod RefusalsServed
+mod Reopenings
+mod RouteRows
+mod RowPasts
+mod RowsAlike
+mod RowsLeft
+mod ScriptLaw
+mod SecretRows
+mod SessionRows
+mod SessionsBut
+mod SetUpRows
+mod SettingRows
+mod SettingsKeep
+mod SoundRegistries
+mod Starter
+mod StarterForm
+mod SubmissionRows
+mod TargetRows
+mod TargetsServed
+mod TargetsWithout
+mod TurnsServed
+mod Unchanged
+mod Unwinding
+mod WithoutOpenings

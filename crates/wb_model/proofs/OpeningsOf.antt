@@ -25,6 +25,7 @@ use Rattle.wb_model.specs.Ordered.{are_ordered}
 use Rattle.wb_model.specs.KeptRules.{same_receipt, AreKept}
 use Rattle.wb_model.specs.Openings.{no_settings, registry_of, empty_tables}
 use Rattle.wb_model.proofs.Receipts.{same_text}
+use Rattle.wb_model.proofs.EmptyOpenings.{empty_opened}
 
 -- ---- parts
 
@@ -124,21 +125,7 @@ registry_sound lists t up = record {
 }
 
 pub set_up_opened : (lists : Lists) → AreSetUp lists → (t : ℕ) → AreOpened 0 (empty_tables (registry_of lists t))
-set_up_opened lists up t = record {
-  sound = registry_sound lists t up;
-  versions = registry_versions lists t up;
-  ordered = registry_ordered lists t up;
-  numbering = refl;
-  drawn = omega arith;
-  ascend = tt;
-  most = tt;
-  begun = tt;
-  legal = tt;
-  forms = tt;
-  receipts = tt;
-  marks = λ r. refl;
-  sessions = refl;
-}
+set_up_opened lists up t = empty_opened 0 (registry_of lists t) (registry_sound lists t up) (registry_versions lists t up) (registry_ordered lists t up)
 
 -- ---- kept rows
 

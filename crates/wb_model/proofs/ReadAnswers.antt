@@ -20,10 +20,11 @@ use Rattle.serde_json.specs.Read.{number_of, number_from, float_of, is_integer, 
 use Rattle.wb_base.specs.declared.answers.Given.{Given}
 use Rattle.wb_base.specs.declared.answers.Given.TheVariants as given
 use Rattle.wb_base.specs.AnswerList.{Answered}
-use Rattle.wb_base.specs.FormShape.{size, keep, list_of}
+use Rattle.wb_base.specs.FormShape.{size, list_of}
 use Rattle.wb_model.specs.AnswerRanges.{is_answer, is_id_before, are_answers}
 use Rattle.wb_model.specs.Bodies.{under, answer, given_text, file, with_entry, entries, answers}
 use Rattle.wb_model.specs.Ordered.{are_ordered}
+use Rattle.wb_base.proofs.Options.{then_some, map_some, if_some}
 
 -- ---- values that were read: members in the order of their keys, and numbers of 64 bits
 
@@ -53,11 +54,11 @@ abbrev mutual
   MembersAreRead no_members = ⊤
   MembersAreRead (member k d ms) = IsBefore k ms × IsRead d × MembersAreRead ms
 
-before_later : (k l : List ℕ) (ms : Members) → slice_cmp nat_cmp k l ≡ Less → IsBefore l ms → IsBefore k ms
+pub before_later : (k l : List ℕ) (ms : Members) → slice_cmp nat_cmp k l ≡ Less → IsBefore l ms → IsBefore k ms
 before_later k l no_members less b = tt
 before_later k l (member m e ms) less b = (nat_list_cmp_total.trans k l m less b.0, before_later k l ms less b.1)
 
-before_put : (k l : List ℕ) (d : Data) (ms : Members) → slice_cmp nat_cmp k l ≡ Less → IsBefore k ms → IsBefore k (put l d ms)
+pub before_put : (k l : List ℕ) (d : Data) (ms : Members) → slice_cmp nat_cmp k l ≡ Less → IsBefore k ms → IsBefore k (put l d ms)
 before_put k l d no_members less b = (less, tt)
 before_put k l d (member m e ms) less b = by (slice_cmp nat_cmp l m) refl (before_put k l d ms less b.1)
   where
@@ -76,23 +77,6 @@ put_read k d (member l e ms) own are = by (slice_cmp nat_cmp k l) refl (put_read
     by Greater is more =
         let less : slice_cmp nat_cmp l k ≡ Less = nat_list_cmp_total.antisymm l k ∙ ap ordering_reverse is in
         rw is (before_put l k d ms less are.0, are.1, more)
-
--- ---- options
-
-then_some : {X Y : Type 0} (f : X → Option Y) (o : Option X) (y : Y) → option_and_then f o ≡ Some y → (x : X) × (o ≡ Some x) × (f x ≡ Some y)
-then_some f None y is = absurd cc
-then_some f (Some x) y is = (x, refl, is)
-
-map_some : {X Y : Type 0} (f : X → Y) (o : Option X) (y : Y) → option_map f o ≡ Some y → (x : X) × (o ≡ Some x) × (f x ≡ y)
-map_some f None y is = absurd cc
-map_some f (Some x) y is = (x, refl, cc)
-
-if_some : {X : Type 0} (test : Bool) (o : Option X) (x : X) → cond test o None ≡ Some x → (test ≡ true) × (o ≡ Some x)
-if_some true o x is = (refl, is)
-if_some false o x is = absurd cc
-
-kept : {X : Type 0} (test : X → Bool) (x y : X) → keep test x ≡ Some y → (test y ≡ true) × (x ≡ y)
-kept test x y is = let k = if_some (test x) (Some x) y is in let same : x ≡ y = (let e = k.1 in cc) in (subst (λ z. test z ≡ true) same k.0, same)
 
 -- ---- what is read
 

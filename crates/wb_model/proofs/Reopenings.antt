@@ -15,6 +15,7 @@ use Rattle.wb_model.specs.Reopened.{moments, all_moments, latest, left_time, lef
 use Rattle.wb_model.proofs.Found.{decide, other_number}
 use Rattle.wb_model.proofs.PartLaw.{map_in}
 use Rattle.wb_model.proofs.KeptPasts.{latest_first, latest_rest, held_opened}
+use Rattle.wb_model.proofs.EmptyOpenings.{empty_opened}
 
 -- ---- what is left is what a host may be opened with
 
@@ -38,21 +39,8 @@ one_of past t (u ∷ ts) is = by (decide u t) (one_of past t ts)
 
 -- where a tenant is not there
 nothing_opened : (at t : ℕ) → AreOpened at (empty_tables (record { settings = no_settings t; users = []; forms = []; contexts = [] }))
-nothing_opened at t = record {
-  sound = record { notice = omega arith; contexts = tt };
-  versions = tt;
-  ordered = record { users = refl; forms = refl; contexts = refl };
-  numbering = refl;
-  drawn = omega arith;
-  ascend = tt;
-  most = tt;
-  begun = tt;
-  legal = tt;
-  forms = tt;
-  receipts = tt;
-  marks = λ r. refl;
-  sessions = refl;
-}
+nothing_opened at t =
+    empty_opened at (record { settings = no_settings t; users = []; forms = []; contexts = [] }) (record { notice = omega arith; contexts = tt }) tt (record { users = refl; forms = refl; contexts = refl })
 
 pub left_opened : (past : Past AllOpened) → ((t : ℕ) → AreByVerdicts t (part t past)) → (t : ℕ) → AreOpened (left_time past) (left_tables past t)
 left_opened past verdicts t = by (has_tenant past t) refl

@@ -21,9 +21,9 @@ use Rattle.wb_model.specs.Changes.{TurnContext, Answer}
 use Rattle.wb_model.specs.OnReports.{refusal_on, answer_on}
 use Rattle.wb_model.specs.Effects.{Effect}
 use Rattle.wb_model.specs.Commands.{effect_of}
-use Rattle.wb_model.proofs.Starter.{starter_registry, starter_tables}
+use Rattle.wb_model.proofs.Starter.{starter_registry, starter_tables, starter_sound}
 use Rattle.wb_model.specs.Past.{Past, Opening, Turn, registry, trail, case_of}
-use Rattle.wb_model.specs.Legal.{is_legal, IsSound}
+use Rattle.wb_model.specs.Legal.{is_legal}
 use Rattle.wb_model.specs.Opened.{entries_of, Opened}
 
 -- seconds after 2025-01-01 00:00 UTC
@@ -46,10 +46,6 @@ opened_marks r = by (eqb 1 r)
     by : (b : Bool) → is_some (cond b no_answers None) ≡ has_identity (entries_of (cond b (Some opened_case) None))
     by true = refl
     by false = refl
-
-pub starter_sound : IsSound starter_registry
-unfolding starter_registry
-starter_sound = record { notice = omega arith; contexts = ((omega arith, omega arith, refl), ((omega arith, omega arith, refl), tt)) }
 
 pub opened_legal : is_legal (record { offset = pos 0; calendar = plain }) opened_case.trail ≡ true
 unfolding days_from_civil day_count days_of_years days_of_months date_at

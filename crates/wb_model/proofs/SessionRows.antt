@@ -1,5 +1,5 @@
 -- Sessions, computed from pasts.
-use Rattle.std.proofs.Common.{◌≡◌, ℕ, true, false, List, [], ◌∷◌, Some, None, refl, arith}
+use Rattle.std.proofs.Common.{◌≡◌, ℕ, true, false, List, [], ◌∷◌, Some, None, refl}
 use Rattle.std.specs.Prelude.{map, codes}
 use Rattle.wb_base.specs.declared.callers.Presented.{Presented}
 use Rattle.wb_base.specs.declared.callers.Presented.TheVariants as presented
@@ -9,16 +9,15 @@ use Rattle.wb_model.specs.declared.command.Command.{Command}
 use Rattle.wb_model.specs.declared.command.Command.TheVariants as commands
 use Rattle.wb_model.specs.declared.event.Event.{Event}
 use Rattle.wb_model.specs.declared.event.What.TheVariants.{Did}
-use Rattle.wb_model.proofs.Starter.{starter_registry, starter_tables}
+use Rattle.wb_model.proofs.Starter.{starter_registry, starter_tables, starter_opened}
 use Rattle.wb_model.specs.Tables.{Session, disablings}
 use Rattle.wb_model.specs.Past.{Past, Opening, Turn, registry, standing_sessions}
 use Rattle.wb_model.specs.Opened.{Opened}
-use Rattle.wb_model.proofs.RowPasts.{starter_sound}
 
 -- the starter tenant
 abbrev pub start : Past Opened
 unfolding starter_registry
-start = Opening (record { at = 0; tables = starter_tables; sound = record { sound = starter_sound; versions = ((omega arith, omega arith), tt); ordered = record { users = refl; forms = refl; contexts = refl }; numbering = refl; drawn = omega arith; ascend = tt; most = tt; begun = tt; legal = tt; forms = tt; receipts = tt; marks = λ r. refl; sessions = refl } })
+start = Opening (record { at = 0; tables = starter_tables; sound = starter_opened })
 
 abbrev did : ℕ → ℕ → Presented → Command → Event
 did moment u shown command = record { moment = moment; words = record { 0 = 0 ∷ 0 ∷ 0 ∷ 0 ∷ [] }; what = Did (record { command = command; session = shown; close = false }) (Some (principals.User 1 u)) }

@@ -1,5 +1,5 @@
 -- A setting that is asked for in its ranges and is not refused keeps the rules.
-use Rattle.std.proofs.Common.{◌≡◌, ◌≢◌, ◌⊎◌, inl, inr, ℕ, zero, suc, ◌+◌, ◌*◌, ◌≤◌, Bool, true, false, cond, not, List, [], ◌∷◌, ◌++◌, length, Option, Some, None, refl, sym, ap, ◌∙◌, subst, arith, option_map}
+use Rattle.std.proofs.Common.{◌≡◌, ◌≢◌, ◌⊎◌, inl, inr, ℕ, zero, suc, ◌+◌, ◌*◌, ◌≤◌, Bool, true, false, cond, not, List, [], ◌∷◌, ◌++◌, length, Option, Some, None, refl, sym, ap, ◌∙◌, subst, arith}
 use Rattle.std.specs.Prelude.{map, find, fold, slice_index, is_some, nat_le, ◌<◌, ◌&&◌, ◌||◌, ◌==◌, Ok, Err}
 use Rattle.std.specs.List.{list_all, list_any}
 use Rattle.std.specs.Option.{option_map_or, option_or}
@@ -32,6 +32,7 @@ use Rattle.wb_model.proofs.Effects.{FitsProposal}
 use Rattle.wb_model.proofs.SoundRegistries.{put, context_right}
 use Rattle.wb_model.proofs.ItemPuts.{held_all, put_all, role_is, has_key, newest_above, newest_most, newest_from, IsAbove}
 use Rattle.wb_model.proofs.SettingsKeep.{KeepsRole, Keeps}
+use Rattle.wb_base.proofs.Options.{first_none, mapped_none}
 
 abbrev pub PutsSetting : ℕ → Registry → Option Setting → Type 0
 PutsSetting t g None = Unit {0}
@@ -56,14 +57,6 @@ unfolding digest sha256
 digest_right salt text = and_from _ _ (let n : length (sha256 (salt.0 ++ text)) ≡ 32 = length-sha256 (salt.0 ++ text) in grind (arith, nat_tests, n)) (state_bytes _ 8)
 
 -- ---- parts
-
-first_none : {F : Type 0} (a b : Option F) → option_or a b ≡ None → (a ≡ None) × (b ≡ None)
-first_none None b e = (refl, e)
-first_none (Some x) b e = absurd (grind (arith, e))
-
-mapped_none : {X Y : Type 0} (f : X → Y) (o : Option X) → option_map f o ≡ None → o ≡ None
-mapped_none f None e = refl
-mapped_none f (Some x) e = absurd (grind (arith, e))
 
 passes : {F : Type 0} (b : Bool) (fault : F) → refuses_where (not b) fault ≡ None → b ≡ true
 passes true fault e = refl

@@ -15,6 +15,9 @@ use Rattle.wb_base.specs.Secrets.{digest}
 use Rattle.wb_model.specs.Tables.{Registry}
 use Rattle.wb_model.specs.Host.{Tables}
 use Rattle.wb_model.specs.Pasts.{AllOpened}
+use Rattle.wb_model.specs.Legal.{IsSound}
+use Rattle.wb_model.specs.Opened.{AreOpened}
+use Rattle.wb_model.proofs.EmptyOpenings.{empty_opened}
 
 -- ---- the form
 
@@ -82,6 +85,14 @@ starter_tables = record {
   sealed = λ n. None;
 }
 
+pub starter_sound : IsSound starter_registry
+unfolding starter_registry
+starter_sound = record { notice = omega arith; contexts = ((omega arith, omega arith, refl), ((omega arith, omega arith, refl), tt)) }
+
+pub starter_opened : AreOpened 0 starter_tables
+unfolding starter_registry
+starter_opened = empty_opened 0 starter_registry starter_sound ((omega arith, omega arith), tt) (record { users = refl; forms = refl; contexts = refl })
+
 -- its opening: at moment 0, with one tenant
 unfoldable pub starter_opening : AllOpened
 unfolding starter_registry
@@ -90,19 +101,5 @@ starter_opening = record {
   tenants = 1 ∷ [];
   ids = refl;
   tables = λ t. starter_tables;
-  sound = λ t. record {
-    sound = record { notice = omega arith; contexts = ((omega arith, omega arith, refl), ((omega arith, omega arith, refl), tt)) };
-    versions = ((omega arith, omega arith), tt);
-    ordered = record { users = refl; forms = refl; contexts = refl };
-    numbering = refl;
-    drawn = omega arith;
-    ascend = tt;
-    most = tt;
-    begun = tt;
-    legal = tt;
-    forms = tt;
-    receipts = tt;
-    marks = λ r. refl;
-    sessions = refl;
-  };
+  sound = λ t. starter_opened;
 }

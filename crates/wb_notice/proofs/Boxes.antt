@@ -26,11 +26,9 @@ use Rattle.wb_notice.specs.Notices.{notice_row}
 use Rattle.wb_notice.specs.Outbox.{box, is_of_live, lives, new_notices, new_rows, stands}
 use Rattle.wb_notice.specs.Owed.{Unsealed, live, notices_of, notices_on, owed}
 use Rattle.wb_notice.proofs.OwedOrder.{all_at, all_flat, all_weaker, on_own}
+use Rattle.wb_base.proofs.RowKeys.{key_total}
 
 -- ---- keys
-
-key_total : IsTotalOrder key_cmp
-key_total = then_total (on_total (λ (k : Key). k.kind) nat_cmp_total) (then_total (on_total (λ (k : Key). k.tenant) nat_cmp_total) (then_total (on_total (λ (k : Key). k.a) nat_cmp_total) (on_total (λ (k : Key). k.b) nat_cmp_total)))
 
 key_ties : (k m : Key) → ((k.kind == m.kind) && ((k.tenant == m.tenant) && ((k.a == m.a) && (k.b == m.b)))) ≡ is_eq (key_cmp k m)
 key_ties k m = both_tied _ _ _ _ (unsigned_ties k.kind m.kind) (both_tied _ _ _ _ (unsigned_ties k.tenant m.tenant) (both_tied _ _ _ _ (unsigned_ties k.a m.a) (unsigned_ties k.b m.b)))

@@ -1,12 +1,12 @@
-pub mod ListFacts
-pub mod NoticeTexts
-pub mod LiveOnes
-pub mod Dropped
-pub mod NoticeRows
-pub mod OwedOnes
-pub mod Planned
-pub mod OwedOrder
-pub mod Boxes
-pub mod Ranged
-pub mod WrittenLines
-pub mod Completing
+mod Boxes
+mod Completing
+mod Dropped
+mod ListFacts
+mod LiveOnes
+mod NoticeRows
+mod NoticeTexts
+mod OwedOnes
+mod OwedOrder
+mod Planned
+mod Ranged
+mod WrittenLines

@@ -23,6 +23,7 @@ use Rattle.wb_terms.proofs.ReadBack.{read_date-date_text}
 use Rattle.wb_terms.proofs.ReadExactly.{read_date-bounds}
 use Rattle.wb_notice.specs.declared.notice.Notice.{Notice}
 use Rattle.wb_notice.specs.Notices.{IsNotice, kind_name, notice_data, notice_row}
+use Rattle.wb_row_codec.proofs.BackValues.{before_first, other_text, at_least}
 
 pub in-notice : (n : Notice) → has_float (notice_data n) ≡ false
 unfolding notice_data
@@ -59,28 +60,6 @@ escape-date_text day h =
     escape-date_parts d.year d.month d.day (year_bound day h) (omega (arith, good.month_high)) (omega (arith, good.day_high))
 
 -- ---- days that are kept
-
-before_first : date_text (neg_ℤ (pos 1)) ≡ codes "1969-12-31"
-unfolding date_at
-before_first = refl
-
-no_date : read_date (codes "1969-12-31") ≡ None
-unfolding read_date
-no_date = refl
-
--- no day that is read has that text
-other_text : (d : ℤ) → read_date (date_text d) ≡ Some d → is_text (date_text d) (codes "1969-12-31") ≡ false
-other_text d reads = by (is_text (date_text d) (codes "1969-12-31")) refl
-  where
-    by : (b : Bool) → is_text (date_text d) (codes "1969-12-31") ≡ b → b ≡ false
-    by false is = refl
-    by true is =
-        let same : date_text d ≡ codes "1969-12-31" = same_text (date_text d) (codes "1969-12-31") is in
-        let none : Some d ≡ None = sym reads ∙ (ap read_date same ∙ no_date) in
-        absurd (cc (none))
-
-at_least : (a b : ℤ) → int_le a b ≡ true → a ≤ℤ b
-at_least a b le = grind (arith, ints, le)
 
 -- a day's text names that day
 pub named : (d : ℤ) → is_dated d ≡ true → day_named (date_text d) ≡ Some d

@@ -1,10 +1,10 @@
-pub mod SubmissionLemmas
-pub mod JudgedRows
-pub mod AlikeRows
-pub mod ReportsLeft
-pub mod RowsWithout
-pub mod OneStart
-pub mod Identities
-pub mod Forgetting
-pub mod OlderScripts
-pub mod LeftRows
+mod AlikeRows
+mod Forgetting
+mod Identities
+mod JudgedRows
+mod LeftRows
+mod OlderScripts
+mod OneStart
+mod ReportsLeft
+mod RowsWithout
+mod SubmissionLemmas

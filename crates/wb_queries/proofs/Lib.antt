@@ -1,1 +1,1 @@
-pub mod AskedRows
+mod AskedRows

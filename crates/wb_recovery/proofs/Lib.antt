@@ -1,6 +1,6 @@
-pub mod KeptReports
-pub mod LaterMoments
-pub mod NewTenants
 pub mod OpenedPlaces
-pub mod OwnRows
-pub mod OwnSettings
+mod KeptReports
+mod LaterMoments
+mod NewTenants
+mod OwnRows
+mod OwnSettings

@@ -70,16 +70,16 @@ texts-back (s ∷ ss) = rw (texts-back ss) refl
 
 -- ---- days
 
-before_first : date_text (neg_ℤ (pos 1)) ≡ codes "1969-12-31"
+pub before_first : date_text (neg_ℤ (pos 1)) ≡ codes "1969-12-31"
 unfolding date_at
 before_first = refl
 
-no_date : read_date (codes "1969-12-31") ≡ None
+pub no_date : read_date (codes "1969-12-31") ≡ None
 unfolding read_date
 no_date = refl
 
 -- no later day has that text
-other_text : (d : ℤ) → read_date (date_text d) ≡ Some d → is_text (date_text d) (codes "1969-12-31") ≡ false
+pub other_text : (d : ℤ) → read_date (date_text d) ≡ Some d → is_text (date_text d) (codes "1969-12-31") ≡ false
 other_text d reads = by (is_text (date_text d) (codes "1969-12-31")) refl
   where
     by : (b : Bool) → is_text (date_text d) (codes "1969-12-31") ≡ b → b ≡ false
@@ -89,7 +89,7 @@ other_text d reads = by (is_text (date_text d) (codes "1969-12-31")) refl
         let none : Some d ≡ None = sym reads ∙ (ap read_date same ∙ no_date) in
         absurd (cc (none))
 
-at_least : (a b : ℤ) → int_le a b ≡ true → a ≤ℤ b
+pub at_least : (a b : ℤ) → int_le a b ≡ true → a ≤ℤ b
 at_least a b le = grind (arith, ints, le)
 
 pub date-back : (d : ℤ) → is_date d ≡ true → date_read (date d) ≡ Some d

@@ -13,6 +13,7 @@ use Rattle.serde_json.specs.Data.{Num, unsigned, negative, float, Data, null, bo
 use Rattle.serde_json.specs.View.{items_of}
 use Rattle.wb_model.specs.Json.{Member, members_of, object_of, list_of}
 use Rattle.wb_model.specs.Rows.{only_where}
+use Rattle.wb_model.proofs.ReadAnswers.{before_later, before_put}
 
 abbrev pub IsWhole : Num → Type 0
 IsWhole (unsigned n) = n < 2 ^ 64
@@ -43,19 +44,6 @@ abbrev mutual
   MembersAreCanonical (member k d ms) = IsBefore k ms × IsCanonical d × MembersAreCanonical ms
 
 -- ---- members that are put
-
-before_later : (k l : List ℕ) (ms : Members) → slice_cmp nat_cmp k l ≡ Less → IsBefore l ms → IsBefore k ms
-before_later k l no_members less b = tt
-before_later k l (member m e ms) less b = (nat_list_cmp_total.trans k l m less b.0, before_later k l ms less b.1)
-
-before_put : (k l : List ℕ) (d : Data) (ms : Members) → slice_cmp nat_cmp k l ≡ Less → IsBefore k ms → IsBefore k (put l d ms)
-before_put k l d no_members less b = (less, tt)
-before_put k l d (member m e ms) less b = by (slice_cmp nat_cmp l m) refl (before_put k l d ms less b.1)
-  where
-    by : (o : Ordering) → slice_cmp nat_cmp l m ≡ o → IsBefore k (put l d ms) → IsBefore k (put l d (member m e ms))
-    by Less is more = rw is (less, b)
-    by Equal is more = rw is b
-    by Greater is more = rw is (b.0, more)
 
 put_canonical : (k : List ℕ) (d : Data) (ms : Members) → IsCanonical d → MembersAreCanonical ms → MembersAreCanonical (put k d ms)
 put_canonical k d no_members own are = (tt, own, tt)

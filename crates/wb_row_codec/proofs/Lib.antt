@@ -1,11 +1,11 @@
-pub mod PlainRows
-pub mod TenantRows
-pub mod Puts
-mod Canonical
-mod CanonicalForms
-mod RoundTrip
-mod BackValues
+pub mod BackValues
+pub mod GoodRows
 mod BackAnswers
 mod BackEntries
 mod BackSettings
-pub mod GoodRows
+mod Canonical
+mod CanonicalForms
+mod PlainRows
+mod Puts
+mod RoundTrip
+mod TenantRows

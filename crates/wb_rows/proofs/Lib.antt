@@ -1,49 +1,49 @@
-pub mod Freedom
-pub mod OpenTrails
-pub mod Fitting
-pub mod GrowingTrails
-pub mod Lookups
-pub mod RowPuts
-pub mod NotedRows
-pub mod ConfiguredRows
 pub mod Ascending
-pub mod AscendingRows
-pub mod NewTenants
+pub mod ConfiguredRows
+pub mod Fitting
 pub mod ItemOrder
-pub mod ReportOrder
-pub mod FitItems
-pub mod SealedOnes
-pub mod Judging
-pub mod ItemKinds
-pub mod TrailRows
-pub mod SealedRows
-pub mod RulesHold
-pub mod RowsBack
-pub mod OwnedRows
-pub mod KeptSetUp
-pub mod LegalReports
-pub mod WholeTrails
-pub mod HeldReports
-pub mod KeptMoments
-pub mod KeptReceipts
-pub mod KeptTables
-pub mod NoTenant
-pub mod TenantParts
-pub mod RowsByTenant
-pub mod OpenedTables
-mod ItemsBack
-mod TrailsBack
-mod ListsBack
-mod SealsBack
-mod ReceiptsBack
-mod ReportsBack
-pub mod TablesBack
+pub mod NotedRows
 pub mod PutsBehind
-pub mod Parted
+pub mod RowPuts
+mod AscendingRows
 mod DatedTrails
-mod LeftTables
+mod FitItems
+mod Freedom
+mod GrowingTrails
+mod HeldReports
+mod ItemKinds
+mod ItemsBack
+mod Judging
+mod KeptMoments
+mod KeptReceipts
+mod KeptSetUp
+mod KeptTables
 mod LeftItems
 mod LeftRows
+mod LeftTables
+mod LegalReports
+mod ListsBack
+mod Lookups
+mod NewTenants
+mod NoTenant
+mod OpenTrails
+mod OpenedTables
+mod OpeningsReadable
+mod OwnedRows
+mod Parted
+mod ReceiptsBack
+mod ReportOrder
+mod ReportsBack
+mod RowsBack
+mod RowsByTenant
+mod RulesHold
+mod SealedOnes
+mod SealedRows
+mod SealsBack
 mod StoredItems
 mod StoredTables
-mod OpeningsReadable
+mod TablesBack
+mod TenantParts
+mod TrailRows
+mod TrailsBack
+mod WholeTrails

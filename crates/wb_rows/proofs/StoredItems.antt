@@ -42,23 +42,7 @@ use Rattle.wb_model.specs.AnswerRanges.{are_answers}
 use Rattle.wb_model.specs.Readable.{is_byte, are_bytes, are_dates, is_date, is_count, is_withheld, is_stored, is_stored_tenant}
 use Rattle.wb_model.proofs.ReadAnswers.{text_read, got_read, answers_fit}
 use Rattle.wb_terms.proofs.ReadExactly.{read_date-bounds}
-
--- ---- options
-
-then_some : {X Y : Type 0} (f : X → Option Y) (o : Option X) (y : Y) → option_and_then f o ≡ Some y → (x : X) × (o ≡ Some x) × (f x ≡ Some y)
-then_some f None y is = absurd cc
-then_some f (Some x) y is = (x, refl, is)
-
-map_some : {X Y : Type 0} (f : X → Y) (o : Option X) (y : Y) → option_map f o ≡ Some y → (x : X) × (o ≡ Some x) × (f x ≡ y)
-map_some f None y is = absurd cc
-map_some f (Some x) y is = (x, refl, cc)
-
-if_some : {X : Type 0} (test : Bool) (o : Option X) (x : X) → cond test o None ≡ Some x → (test ≡ true) × (o ≡ Some x)
-if_some true o x is = (refl, is)
-if_some false o x is = absurd cc
-
-kept : {X : Type 0} (test : X → Bool) (x y : X) → keep test x ≡ Some y → (test y ≡ true) × (x ≡ y)
-kept test x y is = let k = if_some (test x) (Some x) y is in let same : x ≡ y = (let e = k.1 in cc) in (subst (λ z. test z ≡ true) same k.0, same)
+use Rattle.wb_base.proofs.Options.{then_some, map_some, if_some, kept}
 
 -- ---- the parts of a row
 

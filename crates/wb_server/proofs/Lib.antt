@@ -1,5 +1,5 @@
-pub mod Orders
-pub mod Parts
-pub mod Sent
-pub mod Locks
-pub mod Opened
+mod Locks
+mod Opened
+mod Orders
+mod Parts
+mod Sent

@@ -1,13 +1,13 @@
-pub mod Walks
-pub mod TomlViews
-pub mod Readers
-pub mod Puts
 pub mod Orders
-pub mod Recipients
-pub mod GivenRanges
-pub mod Groups
-pub mod GivenForms
-pub mod Joining
 pub mod OtherLists
-pub mod GivenLists
 pub mod StoredJoined
+mod GivenForms
+mod GivenLists
+mod GivenRanges
+mod Groups
+mod Joining
+mod Puts
+mod Readers
+mod Recipients
+mod TomlViews
+mod Walks

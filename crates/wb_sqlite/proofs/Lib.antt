@@ -1,13 +1,12 @@
-pub mod Above
-pub mod Batches
-pub mod Committing
-pub mod Loading
-pub mod Making
-pub mod NewFiles
-pub mod Reading
-pub mod SentConnection
 pub mod SentKeeper
-pub mod SentSchema
-pub mod SentStatements
-pub mod SentStore
-pub mod Stays
+mod Batches
+mod Committing
+mod Loading
+mod Making
+mod NewFiles
+mod Reading
+mod SentConnection
+mod SentSchema
+mod SentStatements
+mod SentStore
+mod Stays

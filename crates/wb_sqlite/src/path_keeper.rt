@@ -4,7 +4,7 @@ ghost use Rattle.wb_list.specs.Keyed.{IsAscending};
 ghost use Rattle.wb_base.specs.Outside.{KeeperHasCause};
 ghost use Rattle.wb_base.specs.declared.rows.Row.{Row as KeptRow};
 ghost use Rattle.wb_base.specs.KeptRows.{key_cmp, key_of, all_changed, IsGoodChange};
-ghost use Rattle.wb_sqlite.specs.Counts.{count_after};
+ghost use Rattle.wb_base.specs.Outside.{count_after};
 ghost use Rattle.wb_sqlite.specs.PathFiles.{IsUnopened, IsHonestFile, FileHolds, Loads, Commits, Keeps};
 
 use crate::path_file::PathFile;

@@ -1,7 +1,8 @@
 //! Why the database gave no answer, and how that is counted.
 ghost use Rattle.std.specs.Prelude.{◌≡◌, ◌≤◌};
 ghost use Rattle.wb_base.specs.declared.faults.KeepErr.TheVariants.{Memory as NoMemory};
-ghost use Rattle.wb_sqlite.specs.Counts.{answer_to, answer_to_file, count_with};
+ghost use Rattle.wb_sqlite.specs.Faults.{answer_to, answer_to_file};
+ghost use Rattle.wb_base.specs.Outside.{count_with};
 
 use sqlite::{Error, ErrorCode};
 use std::io::{self, ErrorKind};

@@ -13,7 +13,7 @@ ghost use Rattle.wb_base.specs.KeptRows.{key_cmp, key_of, all_changed, IsGoodCha
 ghost use Rattle.wb_stored.specs.Told.{IsHonest, HoldsRows, LeavesRows};
 ghost use Rattle.wb_stored.specs.KeptFiles.{FilesHold, FilesHoldAlone};
 ghost use Rattle.sqlite_trees.specs.Tree.{Trees};
-ghost use Rattle.wb_sqlite.specs.Counts.{count_after};
+ghost use Rattle.wb_base.specs.Outside.{count_after};
 ghost use Rattle.wb_sqlite.specs.NewFiles.{OutcomesHold};
 ghost use Rattle.wb_sqlite.specs.Readings.{LoadsAll};
 ghost use Rattle.wb_sqlite.specs.Statements.{CommitsAll, IsAsCommitted, LeavesChanged};

@@ -1,19 +1,16 @@
 //! Stored rows as rows of a keeper.
-ghost use Rattle.std.specs.Prelude.{◌≡◌, ◌++◌, ◌∷◌, ◌↔◌, [], true, All, IfOk, OnOk};
-ghost use Rattle.std.specs.declared.cmp.Ordering.TheVariants.{Less};
+ghost use Rattle.std.specs.Prelude.{◌≡◌, ◌++◌, ◌∷◌, [], IfOk, OnOk};
 ghost use Rattle.sqlite_value.specs.declared.value.Value.TheVariants.{Int, Text as Words};
 ghost use Rattle.sqlite_value.specs.Order.{column};
 ghost use Rattle.std.specs.Prelude.{pos};
-ghost use Rattle.wb_base.specs.KeptRows.{key_cmp};
 ghost use Rattle.wb_stored.specs.StoredRows.{IsRecordRow, IsSealedRow};
 
 use crate::refusal::Refusal;
 use sqlite::Row as Stored;
 use sqlite::types::ValueRef;
 use std::alloc::Global;
-use std::cmp::Ordering;
 use wb_base::{Key, Row, Text, TextFault};
-use wb_list::{Keyed, Sorted};
+use wb_list::Sorted;
 use wb_stored::is_sealed;
 
 // The number in a column, where it fits.
@@ -75,21 +72,11 @@ pub(crate) fn sealed_row(alloc: Global, row: &Stored) -> Result<Row, Refusal>
     })
 }
 
-// Whether a row's key is above all others.
-fn is_above(rows: &Sorted<Row>, row: &Row) -> bool
-    ensures { result ≡ true ↔ All (λ other. key_cmp other.key row.now.key ≡ Less) rows.now.items }
-{
-    match rows.as_slice().last() {
-        Some(last) => last.compare_to(row) == Ordering::Less,
-        None => true,
-    }
-}
-
 /// Puts a row behind all others, where its key is above theirs.
 pub(crate) fn add(rows: &mut Sorted<Row>, row: Row) -> Result<(), Refusal>
     ensures { OnOk result (rows.new.items ≡ rows.old.items ++ row ∷ []) }
 {
-    if !is_above(rows, &row) {
+    if !rows.ends_below(&row) {
         return Err(Refusal::FAULT);
     }
     rows.reserve(1)?;

@@ -1,19 +1,19 @@
-pub mod Deleting
 pub mod Empty
-pub mod Inserting
-pub mod Kept
-pub mod KeptDeletes
 pub mod KeptFiles
-pub mod KeptInserts
-pub mod KeptPuts
-pub mod Layouts
-pub mod Making
-pub mod Once
-pub mod Parts
 pub mod Readings
-pub mod Selecting
 pub mod Stands
-pub mod Texts
-pub mod ToldRows
-pub mod Upserting
-pub mod Values
+mod Deleting
+mod Inserting
+mod Kept
+mod KeptDeletes
+mod KeptInserts
+mod KeptPuts
+mod Layouts
+mod Making
+mod Once
+mod Parts
+mod Selecting
+mod Texts
+mod ToldRows
+mod Upserting
+mod Values

@@ -18,9 +18,7 @@ use Rattle.wb_stored.proofs.Texts.{trail_terms, answers_terms}
 use Rattle.wb_stored.proofs.Parts.{passes}
 use Rattle.wb_stored.proofs.Kept.{IsPut, filter_kept}
 use Rattle.wb_stored.proofs.Values.{key_is, record_back, sealed_back, report_given, trail_passes, answers_pass}
-
-key_total : IsTotalOrder key_cmp
-key_total = then_total (on_total (λ (k : Key). k.kind) nat_cmp_total) (then_total (on_total (λ (k : Key). k.tenant) nat_cmp_total) (then_total (on_total (λ (k : Key). k.a) nat_cmp_total) (on_total (λ (k : Key). k.b) nat_cmp_total)))
+use Rattle.wb_base.proofs.RowKeys.{key_total}
 
 then_tie : (o p : Ordering) → ordering_then o p ≡ Equal → (o ≡ Equal) × (p ≡ Equal)
 then_tie Less p e = absurd cc

@@ -1,16 +1,16 @@
-pub mod AskedNumbers
-pub mod AskedReports
 pub mod CaseLists
-pub mod Configurations
 pub mod Counting
-pub mod DeadNumbers
-pub mod EarlyReports
 pub mod HeldSessions
 pub mod Indexes
-pub mod LateSessions
 pub mod Lookups
 pub mod NotedReports
 pub mod PlacesAt
 pub mod Purges
-pub mod ReceiptTables
-pub mod SessionLists
+mod AskedNumbers
+mod AskedReports
+mod Configurations
+mod DeadNumbers
+mod EarlyReports
+mod LateSessions
+mod ReceiptTables
+mod SessionLists

@@ -1,10 +1,10 @@
-pub mod TenantRuns
-pub mod LookUps
-pub mod Versions
-pub mod Others
-pub mod TenantParts
 pub mod Kept
-pub mod InOrder
+pub mod LookUps
+pub mod TenantRuns
 pub mod TenantSettings
-pub mod UserFaults
-pub mod OwnParts
+mod InOrder
+mod Others
+mod OwnParts
+mod TenantParts
+mod UserFaults
+mod Versions

@@ -1,8 +1,8 @@
 pub mod CivilDates
-pub mod JiffWords
-pub mod Ranges
-pub mod ReadBack
 pub mod DatedTerms
+pub mod ReadBack
 pub mod ReadExactly
+mod Added
+mod JiffWords
+mod Ranges
 mod TermOrder
-pub mod Added

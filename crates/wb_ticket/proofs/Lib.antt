@@ -1,2 +1,2 @@
-pub mod Apart
-pub mod Follows
+mod Apart
+mod Follows

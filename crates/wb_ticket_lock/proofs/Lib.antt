@@ -1,4 +1,4 @@
-pub mod Counts
-pub mod Allowed
-pub mod Seats
-pub mod Entered
+mod Allowed
+mod Counts
+mod Entered
+mod Seats

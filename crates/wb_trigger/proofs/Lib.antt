@@ -1,3 +1,3 @@
-pub mod MarkLemmas
-pub mod FaultLemmas
-pub mod PublicLemmas
+mod FaultLemmas
+mod MarkLemmas
+mod PublicLemmas

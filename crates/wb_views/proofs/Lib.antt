@@ -1,8 +1,8 @@
 pub mod AsciiBytes
-pub mod DeskRows
-pub mod ListMaps
-pub mod Members
-pub mod NoFloats
-pub mod PlainLists
-pub mod PlainTenants
-pub mod SortedDues
+mod DeskRows
+mod ListMaps
+mod Members
+mod NoFloats
+mod PlainLists
+mod PlainTenants
+mod SortedDues

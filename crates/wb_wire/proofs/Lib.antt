@@ -1,17 +1,17 @@
-pub mod NumberLemmas
-pub mod LineLemmas
-pub mod TextLemmas
-pub mod FrameLemmas
-pub mod OneFrameLemmas
-pub mod RoomLemmas
-pub mod TakingLemmas
-pub mod Phrases
-pub mod FieldLemmas
-pub mod RouterRows
-pub mod CutLemmas
-pub mod SegmentLemmas
-pub mod ShapeLemmas
-pub mod ReadingLemmas
-pub mod HeadLemmas
-pub mod MethodLemmas
-pub mod SetupLemmas
+mod CutLemmas
+mod FieldLemmas
+mod FrameLemmas
+mod HeadLemmas
+mod LineLemmas
+mod MethodLemmas
+mod NumberLemmas
+mod OneFrameLemmas
+mod Phrases
+mod ReadingLemmas
+mod RoomLemmas
+mod RouterRows
+mod SegmentLemmas
+mod SetupLemmas
+mod ShapeLemmas
+mod TakingLemmas
+mod TextLemmas

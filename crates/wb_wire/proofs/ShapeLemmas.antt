@@ -31,30 +31,7 @@ use Rattle.wb_model.specs.Commands.{fits_command, is_health}
 use Rattle.wb_model.specs.Bodies as bodies
 use Rattle.wb_model.specs.Bodies.{under, if_under, json, without_floats, answers, some_answers, form_by, form_if, form}
 use Rattle.wb_model.specs.RouteBodies.{Numbers, bare, shaped}
-
--- ---- options
-
-then_some : {X Y : Type 0} (f : X → Option Y) (o : Option X) (y : Y) → option_and_then f o ≡ Some y → (x : X) × (o ≡ Some x) × (f x ≡ Some y)
-then_some f None y is = absurd cc
-then_some f (Some x) y is = (x, refl, is)
-
-map_some : {X Y : Type 0} (f : X → Y) (o : Option X) (y : Y) → option_map f o ≡ Some y → (x : X) × (o ≡ Some x) × (f x ≡ y)
-map_some f None y is = absurd cc
-map_some f (Some x) y is = (x, refl, cc)
-
-if_some : {X : Type 0} (test : Bool) (o : Option X) (x : X) → (if test then o else None) ≡ Some x → o ≡ Some x
-if_some true o x is = is
-if_some false o x is = absurd cc
-
--- what keeping gives passes the test
-kept : {X : Type 0} (test : X → Bool) (x y : X) → keep test x ≡ Some y → test y ≡ true
-kept test x y is = elim (cases_Bool (test x)) [
-  | inl good ↦
-      let some : Some x ≡ Some y = rw good at is in
-      let same : x ≡ y = cc in
-      subst (λ z. test z ≡ true) same good
-  | inr bad ↦ let none : None ≡ Some y = rw bad at is in absurd cc
-]
+use Rattle.wb_base.proofs.Options.{then_some, map_some, if_some, kept}
 
 -- what is given, if anything is, has this
 pub record Gives_only {X : Type 0} (P : X → Type 0) (o : Option X) : Type 0 where
@@ -79,10 +56,10 @@ under_kept test reading key h d x is = let found = then_some reading (get key d)
 -- ---- values in their ranges
 
 text_kept : (low high : ℕ) (v : Data) (t : List ℕ) → bodies.text low high v ≡ Some t → has_bytes low high t ≡ true
-text_kept low high v t is = let found = then_some (keep (has_bytes low high)) (as_str v) t is in kept (has_bytes low high) found.0 t found.2
+text_kept low high v t is = let found = then_some (keep (has_bytes low high)) (as_str v) t is in (kept (has_bytes low high) found.0 t found.2).0
 
 whole_kept : (low high : ℕ) (v : Data) (n : ℕ) → bodies.whole low high v ≡ Some n → is_between low high n ≡ true
-whole_kept low high v n is = let found = then_some (keep (is_between low high)) (option_and_then as_u64 (as_number v)) n is in kept (is_between low high) found.0 n found.2
+whole_kept low high v n is = let found = then_some (keep (is_between low high)) (option_and_then as_u64 (as_number v)) n is in (kept (is_between low high) found.0 n found.2).0
 
 text_fits : (low high : ℕ) (key : List ℕ) (d : Data) (t : List ℕ) → under key (bodies.text low high) d ≡ Some t → has_bytes low high t ≡ true
 text_fits low high key d t is = under_kept (has_bytes low high) (bodies.text low high) key (text_kept low high) d t is
@@ -108,10 +85,10 @@ role_kept v r is = let found = then_some bodies.role_named (as_str v) r is in by
     by false false false e = absurd cc
 
 recipients_kept : (v : Data) (us : List ℕ) → bodies.recipients v ≡ Some us → bodies.are_recipients us ≡ true
-recipients_kept v us is = let found = then_some (keep bodies.are_recipients) (list_of (bodies.whole 1 256) v) us is in kept bodies.are_recipients found.0 us found.2
+recipients_kept v us is = let found = then_some (keep bodies.are_recipients) (list_of (bodies.whole 1 256) v) us is in (kept bodies.are_recipients found.0 us found.2).0
 
 withheld_kept : (decision : Decision) (d : Data) (w : Option (List ℕ)) → bodies.withheld decision d ≡ Some w → fits_withhold decision w ≡ true
-withheld_kept decision d w is = let found = then_some (keep (fits_withhold decision)) (if_under (codes "withhold") (bodies.text 1 1_024) d) w is in kept (fits_withhold decision) found.0 w found.2
+withheld_kept decision d w is = let found = then_some (keep (fits_withhold decision)) (if_under (codes "withhold") (bodies.text 1 1_024) d) w is in (kept (fits_withhold decision) found.0 w found.2).0
 
 password_kept : (d : Data) (p : Option (List ℕ)) → if_under (codes "password") (bodies.text 1 128) d ≡ Some p → fits_password p ≡ true
 password_kept d p is = by (get (codes "password") d) is
@@ -131,7 +108,7 @@ HasGoodAnswers d = (key : List ℕ) (inner : Data) (a : Answered) → get key d 
 
 json_read : (bytes : List ℕ) (d : Data) → json bytes ≡ Some d → read bytes ≡ Some d
 json_read bytes d is =
-    let found = then_some without_floats (read bytes) d (if_some (is_utf8 bytes) (option_and_then without_floats (read bytes)) d is) in
+    let found = then_some without_floats (read bytes) d (if_some (is_utf8 bytes) (option_and_then without_floats (read bytes)) d is).1 in
     found.1 ∙ by found.0 (has_float found.0) found.2
   where
     by : (x : Data) (float : Bool) → (if float then None else Some x) ≡ Some d → Some x ≡ Some d
@@ -148,14 +125,7 @@ some_kept : (v : Data) (a : Answered) → some_answers v ≡ Some a → (answers
 some_kept v a is =
     let found = then_some (keep (λ x. not (length x == 0))) (answers v) a is in
     let some = kept (λ (x : Answered). not (length x == 0)) found.0 a found.2 in
-    let same : found.0 ≡ a = (let t = subst (λ b. (if b then Some found.0 else None) ≡ Some a) (test found.0 found.2) found.2 in cc) in
-    (found.1 ∙ ap Some same, some)
-  where
-    test : (x : Answered) → keep (λ (y : Answered). not (length y == 0)) x ≡ Some a → not (length x == 0) ≡ true
-    test x e = elim (cases_Bool (not (length x == 0))) [
-      | inl good ↦ good
-      | inr bad ↦ (let none : None ≡ Some a = rw bad at e in absurd cc)
-    ]
+    (found.1 ∙ ap Some some.1, some.0)
 
 some_fit : (d : Data) (a : Answered) → HasGoodAnswers d → under (codes "answers") some_answers d ≡ Some a → (are_answers a ≡ true) × (not (length a == 0) ≡ true)
 some_fit d a good is =

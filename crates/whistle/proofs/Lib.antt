@@ -1,13 +1,13 @@
-pub mod OpeningLemmas
-pub mod AnswerLemmas
-pub mod SinkLemmas
-pub mod GeneratedLemmas
-pub mod CountLemmas
-pub mod TallyLemmas
-pub mod TurnLemmas
-pub mod PlayLemmas
-pub mod Completeness
-pub mod PlayedTurns
-pub mod TallyCompleteness
-pub mod SampleSetupRead
-pub mod PlanLemmas
+mod AnswerLemmas
+mod Completeness
+mod CountLemmas
+mod GeneratedLemmas
+mod OpeningLemmas
+mod PlanLemmas
+mod PlayLemmas
+mod PlayedTurns
+mod SampleSetupRead
+mod SinkLemmas
+mod TallyCompleteness
+mod TallyLemmas
+mod TurnLemmas

@@ -5,7 +5,7 @@ use Rattle.wb_list.specs.Room.{Room}
 use Rattle.wb_list.specs.Keyed.{IsAscending, insert_item}
 use Rattle.wb_memory.specs.Chunks.{joined}
 use Rattle.wb_list.proofs.KeyedLemmas.{ascending-insert_item}
-use Rattle.wb_memory.proofs.ChunkOrder.{ascending_back}
+use Rattle.wb_list.proofs.LastItems.{ascending_back}
 use Rattle.wb_memory.proofs.Putting.{put_first, put_later}
 use Rattle.wb_memory.proofs.chunked.Chunked.set.Goals as goal
 

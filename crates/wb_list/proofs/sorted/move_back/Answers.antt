@@ -1,7 +1,7 @@
 use Rattle.std.proofs.Common.{◌≡◌, ◌+◌, ◌++◌, ◌∷◌, [], length, ap, ◌∙◌, arith}
 use Rattle.std.proofs.lemmas.List.{length_push}
-use Rattle.wb_memory.proofs.ChunkLemmas.{moved_one}
-use Rattle.wb_memory.proofs.chunk.move_back.Goals as goal
+use Rattle.wb_list.proofs.LastItems.{moved_one}
+use Rattle.wb_list.proofs.sorted.move_back.Goals as goal
 
 pub loop-preserved : goal.loop-preserved
 loop-preserved g c =

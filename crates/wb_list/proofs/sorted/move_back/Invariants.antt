@@ -1,6 +1,6 @@
 use Rattle.std.proofs.Common.{◌≡◌, ◌+◌, ◌≤◌, ◌++◌, length, reverse}
 use Rattle.std.specs.Vec.{vec_capacity}
-use Rattle.wb_memory.proofs.chunk.move_back.Given as goal
+use Rattle.wb_list.proofs.sorted.move_back.Given as goal
 
 abbrev pub invariant-loop : goal.invariant-loop
 invariant-loop g l = record {

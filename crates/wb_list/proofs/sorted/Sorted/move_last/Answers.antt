@@ -1,5 +1,5 @@
-use Rattle.wb_memory.proofs.ChunkOrder.{ascending_front, ascending_back}
-use Rattle.wb_memory.proofs.chunk.Chunk.move_last.Goals as goal
+use Rattle.wb_list.proofs.LastItems.{ascending_front, ascending_back}
+use Rattle.wb_list.proofs.sorted.Sorted.move_last.Goals as goal
 
 pub invariant_of-self : goal.invariant_of-self
 invariant_of-self g c = ascending_front g.T.Key.Ord.cmp g.T.Keyed.key_of c.move_back.new.items.items c.move_back.new.into.items (rw c.move_back.ensures.items c.self.invariant)

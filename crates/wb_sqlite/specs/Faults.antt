@@ -1,5 +1,4 @@
--- Which refusals of a database are faults, and how they are counted.
-use Rattle.std.specs.Prelude.{ℕ, Result, Ok, Err}
+-- Which refusals of a database are faults.
 use Rattle.std.specs.IoError.{error_kind}
 use Rattle.std.specs.declared.io.Error.{Error as FileError}
 use Rattle.std.specs.declared.io.ErrorKind.{ErrorKind}
@@ -7,7 +6,6 @@ use Rattle.std.specs.declared.io.ErrorKind.TheVariants.{OutOfMemory as NoRoom}
 use Rattle.sqlite.specs.declared.error.Error.{Error}
 use Rattle.sqlite.specs.declared.error.Error.TheVariants.{SqliteFailure}
 use Rattle.sqlite.specs.declared.error.ErrorCode.TheVariants.{OutOfMemory}
-use Rattle.wb_base.specs.Outside.{one_more}
 use Rattle.wb_base.specs.declared.faults.KeepErr.{KeepErr}
 use Rattle.wb_base.specs.declared.faults.KeepErr.TheVariants.{Memory, Failed}
 
@@ -23,13 +21,3 @@ answer_to_kind _ = Failed
 
 abbrev pub answer_to_file : FileError → KeepErr
 answer_to_file error = answer_to_kind (error_kind error)
-
--- the count of faults after a failed call: one more, unless memory was wanting
-abbrev pub count_with : ℕ → KeepErr → ℕ
-count_with count Failed = one_more count
-count_with count Memory = count
-
--- the count of faults after a call
-abbrev pub count_after : {T : Type 0} → ℕ → Result T KeepErr → ℕ
-count_after count (Ok value) = count
-count_after count (Err why) = count_with count why
