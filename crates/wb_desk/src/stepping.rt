@@ -2,7 +2,6 @@
 ghost use Rattle.std.specs.Prelude.{◌≡◌, ◌≤◌, length, Some, None, true, map, option_map, IfOk};
 ghost use Rattle.wb_base.specs.Days.{day_of as day_at};
 ghost use Rattle.wb_model.specs.Access.{requests};
-ghost use Rattle.wb_model.specs.Commands.{tenant_of as tenant_of_command, fits};
 ghost use Rattle.wb_model.specs.Host.{purged};
 ghost use Rattle.wb_model.specs.Requests.{outline};
 ghost use Rattle.wb_model.specs.Tables.{TheUser, TheReporter, user as user_by, report as report_by};
@@ -10,7 +9,7 @@ ghost use Rattle.wb_model.specs.Targets as targets;
 ghost use Rattle.wb_tables.specs.TurnContexts.{at_of};
 ghost use Rattle.wb_commands.specs.Steps.{EntersAs, IsFitStep, IsDraftOf, Leaves, StepsTo, DraftsOver};
 ghost use Rattle.wb_desk.specs.Suited.{suits};
-ghost use Rattle.wb_tables.specs.Indexed.{AreFewRequests};
+ghost use Rattle.wb_desk.specs.Turns.{MayPlan};
 ghost use Rattle.wb_tables.specs.Kept.{case_of, live_plain, lives_on, place_of, plain_of, tables_of};
 ghost use Rattle.wb_tables.specs.Logins.{AreEarlier, session_of, who_seen};
 ghost use Rattle.wb_tables.specs.Places.{IsLookedUp};
@@ -86,11 +85,7 @@ fn by_staff(
     asked: &Asked,
     user: UserId,
 ) -> Result<Draft, Memory>
-    requires place { IsLookedUp (plain_of tenancy.now) }
-    requires few { AreFewRequests (map case_of tenancy.now.cases.items) }
-    requires earlier { AreEarlier at.now.turn (map session_of tenancy.now.sessions.items) }
-    requires named { tenancy.now.configuration.tenant ≡ tenant_of_command asked.now.command }
-    requires fits { fits asked.now ≡ true }
+    requires may_plan { MayPlan tenancy.now at.now asked.now }
     requires suits { suits (targets.Alone (Some (TheUser user))) asked.now.command ≡ true }
     ensures step { IfOk result (StepsTo tenancy.now at.now asked.now (targets.Alone (Some (TheUser user)))) }
     ensures fit { IfOk result (IsFitStep at.now.time tenancy.now) }
@@ -196,11 +191,7 @@ fn alone(
     asked: &Asked,
     who: Option<Who>,
 ) -> Result<Draft, Memory>
-    requires place { IsLookedUp (plain_of tenancy.now) }
-    requires few { AreFewRequests (map case_of tenancy.now.cases.items) }
-    requires earlier { AreEarlier at.now.turn (map session_of tenancy.now.sessions.items) }
-    requires named { tenancy.now.configuration.tenant ≡ tenant_of_command asked.now.command }
-    requires fits { fits asked.now ≡ true }
+    requires may_plan { MayPlan tenancy.now at.now asked.now }
     requires suits { suits (targets.Alone (option_map who_seen who)) asked.now.command ≡ true }
     ensures step { IfOk result (StepsTo tenancy.now at.now asked.now (targets.Alone (option_map who_seen who))) }
     ensures fit { IfOk result (IsFitStep at.now.time tenancy.now) }
@@ -224,9 +215,7 @@ fn on(
     who: Who,
     report: &Report,
 ) -> Result<Draft, Memory>
-    requires place { IsLookedUp (plain_of tenancy.now) }
-    requires few { AreFewRequests (map case_of tenancy.now.cases.items) }
-    requires earlier { AreEarlier at.now.turn (map session_of tenancy.now.sessions.items) }
+    requires may_plan { MayPlan tenancy.now at.now asked.now }
     requires custodied { report.now.desk.items ≡ requests report.now.case.items }
     requires target { targets.target (live_plain at.now.time (plain_of tenancy.now)) asked.now.session (outline asked.now.command) ≡ targets.On (who_seen who) (case_of report.now) }
     ensures step { IfOk result (IsDraftOf tenancy.now.configuration.tenant (purged at.now.time (tables_of sealed.now.items (place_of tenancy.now))) (at_of at.now) asked.now (targets.On (who_seen who) (case_of report.now))) }
@@ -246,11 +235,7 @@ pub fn step_of(
     at: &TurnContext,
     asked: &Asked,
 ) -> Result<Draft, Memory>
-    requires place { IsLookedUp (plain_of tenancy.now) }
-    requires few { AreFewRequests (map case_of tenancy.now.cases.items) }
-    requires earlier { AreEarlier at.now.turn (map session_of tenancy.now.sessions.items) }
-    requires named { tenancy.now.configuration.tenant ≡ tenant_of_command asked.now.command }
-    requires fits { fits asked.now ≡ true }
+    requires may_plan { MayPlan tenancy.now at.now asked.now }
     ensures step { IfOk result (DraftsOver tenancy.now sealed.now.items at.now asked.now) }
     ensures fit { IfOk result (IsFitStep at.now.time tenancy.now) }
 {

@@ -1,16 +1,14 @@
 //! One turn over the tables of all tenants: what it has to keep is kept in one call, and then it purges and changes.
-ghost use Rattle.std.specs.Prelude.{◌≡◌, ◌≢◌, ◌<◌, ◌≤◌, ◌+◌, ℕ, None, Err, true, find, map, length, slice_index_or};
-ghost use Rattle.wb_base.specs.Outside.{Rose};
+ghost use Rattle.std.specs.Prelude.{◌≡◌, ◌<◌, ◌≤◌, ◌+◌, ℕ, None, true, find, map, length, slice_index_or};
 ghost use Rattle.wb_model.specs.Commands.{tenant_of as tenant_of_command, fits};
-ghost use Rattle.wb_model.specs.Rows.{rows_of};
 ghost use Rattle.wb_commands.specs.Plans.{IsRoomyFor};
-ghost use Rattle.wb_tables.specs.Kept.{place_of, plain_of, tenancy_of, sessions_at};
+ghost use Rattle.wb_tables.specs.Kept.{place_of, plain_of, sessions_at};
 ghost use Rattle.wb_tables.specs.Places.{ArePlaces, is_tenant, IsAt};
 ghost use Rattle.wb_tables.specs.declared.tenancy.Tenancy.{Tenancy as KeptTenancy};
 ghost use Rattle.wb_commands.specs.Made.{IsOwnMutation};
 ghost use Rattle.wb_desk.specs.Ready.{IsMadeAt};
 ghost use Rattle.wb_recovery.specs.SetUp.{AreSetUpRight};
-ghost use Rattle.wb_desk.specs.Turns.{IsTurnAt};
+ghost use Rattle.wb_desk.specs.Turns.{IsKeeping, IsTurnAt, rows_over};
 
 use crate::batch::{Lost, keep};
 use crate::needs::columns_of;
@@ -57,11 +55,7 @@ fn turn_at<K: Keeper>(
     requires place { IsAt (tenant_of_command asked.now.command) tenancies.old place }
     requires fits { fits asked.now ≡ true }
     ensures turn { IsTurnAt (map place_of tenancies.old) sealed.old.items at.now asked.now result (map place_of tenancies.new) sealed.new.items }
-    ensures kept { (K.end keeper.new).honest → (K.end keeper.old).holds (rows_of (map (tenancy_of sealed.old.items) (map place_of tenancies.old))) → (K.end keeper.new).holds (rows_of (map (tenancy_of sealed.new.items) (map place_of tenancies.new))) }
-    ensures back { (K.end keeper.new).honest → (K.end keeper.old).honest }
-    ensures later { (K.end keeper.old).count ≤ (K.end keeper.new).count }
-    ensures fault { result ≡ Err Lost.Keeper → Rose (K.end keeper.old).count (K.end keeper.new).count }
-    ensures stayed { result ≢ Err Lost.Keeper → (K.end keeper.new).count ≡ (K.end keeper.old).count }
+    ensures keeper { IsKeeping (K.end keeper.old) (K.end keeper.new) result (rows_over (map place_of tenancies.old) sealed.old.items) (rows_over (map place_of tenancies.new) sealed.new.items) }
 {
     let Ok(batched) = prepare_at(alloc, tenancies, place, sealed, at, asked) else {
         return Err(Lost::Memory);
@@ -90,11 +84,7 @@ fn turn_without<K: Keeper>(
     requires tenant { t ≡ tenant_of_command asked.now.command }
     requires absent { find (is_tenant t) (map place_of tenancies.old) ≡ None }
     ensures turn { IsTurnAt (map place_of tenancies.old) sealed.old.items at.now asked.now result (map place_of tenancies.new) sealed.new.items }
-    ensures kept { (K.end keeper.new).honest → (K.end keeper.old).holds (rows_of (map (tenancy_of sealed.old.items) (map place_of tenancies.old))) → (K.end keeper.new).holds (rows_of (map (tenancy_of sealed.new.items) (map place_of tenancies.new))) }
-    ensures back { (K.end keeper.new).honest → (K.end keeper.old).honest }
-    ensures later { (K.end keeper.old).count ≤ (K.end keeper.new).count }
-    ensures fault { result ≡ Err Lost.Keeper → Rose (K.end keeper.old).count (K.end keeper.new).count }
-    ensures stayed { result ≢ Err Lost.Keeper → (K.end keeper.new).count ≡ (K.end keeper.old).count }
+    ensures keeper { IsKeeping (K.end keeper.old) (K.end keeper.new) result (rows_over (map place_of tenancies.old) sealed.old.items) (rows_over (map place_of tenancies.new) sealed.new.items) }
 {
     let Ok(unnamed) = prepare_without(alloc, tenancies, t, at.time) else {
         return Err(Lost::Memory);
@@ -119,11 +109,7 @@ pub fn turn<K: Keeper>(
     requires places { (turns : ℕ) × (turns < at.now.turn) × ArePlaces turns 0 sealed.old.items (map place_of tenancies.old) }
     requires fits { fits asked.now ≡ true }
     ensures turn { IsTurnAt (map place_of tenancies.old) sealed.old.items at.now asked.now result (map place_of tenancies.new) sealed.new.items }
-    ensures kept { (K.end keeper.new).honest → (K.end keeper.old).holds (rows_of (map (tenancy_of sealed.old.items) (map place_of tenancies.old))) → (K.end keeper.new).holds (rows_of (map (tenancy_of sealed.new.items) (map place_of tenancies.new))) }
-    ensures back { (K.end keeper.new).honest → (K.end keeper.old).honest }
-    ensures later { (K.end keeper.old).count ≤ (K.end keeper.new).count }
-    ensures fault { result ≡ Err Lost.Keeper → Rose (K.end keeper.old).count (K.end keeper.new).count }
-    ensures stayed { result ≢ Err Lost.Keeper → (K.end keeper.new).count ≡ (K.end keeper.old).count }
+    ensures keeper { IsKeeping (K.end keeper.old) (K.end keeper.new) result (rows_over (map place_of tenancies.old) sealed.old.items) (rows_over (map place_of tenancies.new) sealed.new.items) }
 {
     let t = columns_of(&asked.command).tenant;
     match place_at(tenancies, t) {

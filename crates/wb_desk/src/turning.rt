@@ -1,7 +1,6 @@
 //! The plan of a turn, with room for all that it changes.
 ghost use Rattle.std.specs.Prelude.{◌≡◌, ℕ, List, true, map, IfOk};
 ghost use Rattle.wb_base.specs.Calendars.{Calendar as CalendarValue};
-ghost use Rattle.wb_model.specs.Commands.{tenant_of as tenant_of_command, fits};
 ghost use Rattle.wb_model.specs.Doings.{actor_of};
 ghost use Rattle.wb_model.specs.Host.{purged};
 ghost use Rattle.wb_model.specs.Tables.{is_there};
@@ -13,8 +12,9 @@ ghost use Rattle.wb_tables.specs.Configured.{IsSoundProposal};
 ghost use Rattle.wb_tables.specs.Indexed.{AreFewRequests};
 ghost use Rattle.wb_tables.specs.Kept.{case_of, place_of, plain_of, tables_of};
 ghost use Rattle.wb_tables.specs.Lives.{AreEarly};
-ghost use Rattle.wb_tables.specs.Logins.{AreEarlier, session_of, who_seen};
+ghost use Rattle.wb_tables.specs.Logins.{who_seen};
 ghost use Rattle.wb_tables.specs.Places.{IsLookedUp};
+ghost use Rattle.wb_desk.specs.Turns.{MayPlan};
 
 use crate::stepping::step_of;
 use std::alloc::Global;
@@ -187,12 +187,8 @@ pub fn plan_turn(
     at: &TurnContext,
     asked: &Asked,
 ) -> Result<TurnPlan, Memory>
-    requires place { IsLookedUp (plain_of tenancy.old) }
-    requires few { AreFewRequests (map case_of tenancy.old.cases.items) }
+    requires may_plan { MayPlan tenancy.old at.now asked.now }
     requires early { AreEarly (map case_of tenancy.old.cases.items) }
-    requires earlier { AreEarlier at.now.turn (map session_of tenancy.old.sessions.items) }
-    requires named { tenancy.old.configuration.tenant ≡ tenant_of_command asked.now.command }
-    requires fits { fits asked.now ≡ true }
     ensures plan { IfOk result (PlansTurn tenancy.old.configuration.tenant (purged at.now.time (tables_of sealed.old.items (place_of tenancy.old))) (at_of at.now) asked.now) }
     ensures roomy { IfOk result (λ plan. IsRoomyFor at.now.time tenancy.new sealed.new.spare plan.change) }
     ensures place { place_of tenancy.new ≡ place_of tenancy.old }

@@ -18,35 +18,35 @@ use Rattle.wb_desk.proofs.stepping.on.Goals as goal
 pub by_reader-requires-clause-there : goal.by_reader-requires-clause-there
 by_reader-requires-clause-there c =
     let p = live_plain c.args.at.now.time (plain_of c.args.tenancy.now) in
-    target_there p c.args.asked.now.session (outline c.args.asked.now.command) (who_seen c.args.who) (case_of c.args.report.now) (apart_filter has_number (is_live p.registry.settings c.args.at.now.time) (plain_of c.args.tenancy.now).cases c.requires.place.cases) c.requires.target
+    target_there p c.args.asked.now.session (outline c.args.asked.now.command) (who_seen c.args.who) (case_of c.args.report.now) (apart_filter has_number (is_live p.registry.settings c.args.at.now.time) (plain_of c.args.tenancy.now).cases c.requires.may_plan.place.cases) c.requires.target
 
 pub by_reader-requires-clause-few : goal.by_reader-requires-clause-few
 by_reader-requires-clause-few c =
     let p = live_plain c.args.at.now.time (plain_of c.args.tenancy.now) in
     let cases = (plain_of c.args.tenancy.now).cases in
     let lives = is_live p.registry.settings c.args.at.now.time in
-    let there = target_there p c.args.asked.now.session (outline c.args.asked.now.command) (who_seen c.args.who) (case_of c.args.report.now) (apart_filter has_number lives cases c.requires.place.cases) c.requires.target in
-    subst (λ rs. length rs ≤ 100) (sym c.requires.custodied) (few_there c.args.report.now.number p.cases (case_of c.args.report.now) (few_filtered lives cases c.requires.few) there)
+    let there = target_there p c.args.asked.now.session (outline c.args.asked.now.command) (who_seen c.args.who) (case_of c.args.report.now) (apart_filter has_number lives cases c.requires.may_plan.place.cases) c.requires.target in
+    subst (λ rs. length rs ≤ 100) (sym c.requires.custodied) (few_there c.args.report.now.number p.cases (case_of c.args.report.now) (few_filtered lives cases c.requires.may_plan.few) there)
 
 pub by_reader-requires-clause-live : goal.by_reader-requires-clause-live
 by_reader-requires-clause-live c =
     let p = live_plain c.args.at.now.time (plain_of c.args.tenancy.now) in
     let cases = (plain_of c.args.tenancy.now).cases in
     let lives = is_live p.registry.settings c.args.at.now.time in
-    found_passes lives c.args.report.now.number cases (case_of c.args.report.now) (target_there p c.args.asked.now.session (outline c.args.asked.now.command) (who_seen c.args.who) (case_of c.args.report.now) (apart_filter has_number lives cases c.requires.place.cases) c.requires.target)
+    found_passes lives c.args.report.now.number cases (case_of c.args.report.now) (target_there p c.args.asked.now.session (outline c.args.asked.now.command) (who_seen c.args.who) (case_of c.args.report.now) (apart_filter has_number lives cases c.requires.may_plan.place.cases) c.requires.target)
 
 pub by_reporter-requires-clause-there : goal.by_reporter-requires-clause-there
 by_reporter-requires-clause-there c =
     let p = live_plain c.args.at.now.time (plain_of c.args.tenancy.now) in
-    target_there p c.args.asked.now.session (outline c.args.asked.now.command) (who_seen c.args.who) (case_of c.args.report.now) (apart_filter has_number (is_live p.registry.settings c.args.at.now.time) (plain_of c.args.tenancy.now).cases c.requires.place.cases) c.requires.target
+    target_there p c.args.asked.now.session (outline c.args.asked.now.command) (who_seen c.args.who) (case_of c.args.report.now) (apart_filter has_number (is_live p.registry.settings c.args.at.now.time) (plain_of c.args.tenancy.now).cases c.requires.may_plan.place.cases) c.requires.target
 
 pub by_reporter-requires-clause-few : goal.by_reporter-requires-clause-few
 by_reporter-requires-clause-few c =
     let p = live_plain c.args.at.now.time (plain_of c.args.tenancy.now) in
     let cases = (plain_of c.args.tenancy.now).cases in
     let lives = is_live p.registry.settings c.args.at.now.time in
-    let there = target_there p c.args.asked.now.session (outline c.args.asked.now.command) (who_seen c.args.who) (case_of c.args.report.now) (apart_filter has_number lives cases c.requires.place.cases) c.requires.target in
-    subst (λ rs. length rs ≤ 100) (sym c.requires.custodied) (few_there c.args.report.now.number p.cases (case_of c.args.report.now) (few_filtered lives cases c.requires.few) there)
+    let there = target_there p c.args.asked.now.session (outline c.args.asked.now.command) (who_seen c.args.who) (case_of c.args.report.now) (apart_filter has_number lives cases c.requires.may_plan.place.cases) c.requires.target in
+    subst (λ rs. length rs ≤ 100) (sym c.requires.custodied) (few_there c.args.report.now.number p.cases (case_of c.args.report.now) (few_filtered lives cases c.requires.may_plan.few) there)
 
 pub by_reporter-requires-clause-suits : goal.by_reporter-requires-clause-suits
 by_reporter-requires-clause-suits c =

@@ -1,4 +1,4 @@
-use Rattle.std.proofs.Common.{◌≡◌, ◌≢◌, ◌<◌, [], length, map, refl, sym, ap, ◌∙◌, subst, arith}
+use Rattle.std.proofs.Common.{rules, ◌≡◌, ◌≢◌, ◌<◌, [], length, map, refl, sym, ap, ◌∙◌, subst, arith}
 use Rattle.std.specs.Prelude.{All, slice_index_or}
 use Rattle.wb_base.specs.KeptRows.{all_changed, IsGoodChange}
 use Rattle.wb_model.specs.Commands.{tenant_of}
@@ -50,17 +50,23 @@ returns-clause-turn g c =
     turn_over c.requires.places.0 (tenant_of c.args.asked.now.command) c.args.place c.args.at.now c.args.asked.now c.in-Ok.batched.plan c.args.sealed.now.items c.purge_all.new.sealed.items c.make_at.new.sealed.items c.args.tenancies.now c.purge_all.new.tenancies c.make_at.new.tenancies
     c.requires.places.2 c.requires.place refl c.in-Ok.ensures.plan purge c.make_at.ensures.made c.make_at.ensures.set_up c.make_at.ensures.sessions
 
-pub returns-clause-kept : goal.returns-clause-kept
-returns-clause-kept g c = λ h held.
-    let purge : IsPurge c.args.at.now.time (map place_of c.args.tenancies.now) c.args.sealed.now.items (map place_of c.purge_all.new.tenancies) c.purge_all.new.sealed.items = (purge_of c.args.at.now.time (map place_of c.args.tenancies.now) (map place_of c.prepare_at.new.tenancies) (map place_of c.purge_all.new.tenancies) c.args.sealed.now.items c.prepare_at.new.sealed.items c.purge_all.new.sealed.items
-    (sym c.prepare_at.ensures.tenants_left) (sym c.prepare_at.ensures.sealed_left) c.purge_all.ensures.places c.purge_all.ensures.hosts) in
-    subst (g.K.Keeper.end c.keep.new.keeper).holds
-    (ap (all_changed (rows_of (map (tenancy_of c.args.sealed.now.items) (map place_of c.args.tenancies.now)))) c.as_slice.ensures.value
-    ∙ rows_at c.requires.places.0 c.args.at.now.time c.args.place c.args.sealed.now.items c.purge_all.new.sealed.items c.make_at.new.sealed.items c.args.tenancies.now c.purge_all.new.tenancies c.make_at.new.tenancies c.in-Ok.batched.plan.change c.in-Ok.batched.batch.items c.requires.places.2 c.requires.place.within
-    (λ d. batch_same c.args.at.now.time c.args.place c.args.tenancies.now c.prepare_at.new.tenancies d c.in-Ok.batched.plan.change c.in-Ok.batched.batch.items c.prepare_at.ensures.tenants_left (c.in-Ok.ensures.batch d))
-    purge
-    (λ d. puttable c.args.at.now.time c.purge_all.new.sealed.spare (slice_index_or c.purge_all.new.tenancies c.args.place d) c.in-Ok.batched.plan.change
-    (room_made c.requires.places.0 c.args.at.now.time c.args.place c.prepare_at.new.sealed.spare c.purge_all.new.sealed.spare c.args.sealed.now.items c.args.tenancies.now c.prepare_at.new.tenancies c.purge_all.new.tenancies c.in-Ok.batched.plan.change
-    c.requires.places.2 c.prepare_at.ensures.tenants_left c.purge_all.ensures.kept c.purge_all.ensures.places c.requires.place.within c.purge_all.ensures.sealed_room c.in-Ok.ensures.room d))
-    c.make_at.ensures.made)
-    (c.in-Ok-keep.ensures.ok h (rows_of (map (tenancy_of c.args.sealed.now.items) (map place_of c.args.tenancies.now))) held)
+pub returns-clause-keeper : goal.returns-clause-keeper
+returns-clause-keeper g c = record {
+  kept = λ h held.
+      let purge : IsPurge c.args.at.now.time (map place_of c.args.tenancies.now) c.args.sealed.now.items (map place_of c.purge_all.new.tenancies) c.purge_all.new.sealed.items = (purge_of c.args.at.now.time (map place_of c.args.tenancies.now) (map place_of c.prepare_at.new.tenancies) (map place_of c.purge_all.new.tenancies) c.args.sealed.now.items c.prepare_at.new.sealed.items c.purge_all.new.sealed.items
+      (sym c.prepare_at.ensures.tenants_left) (sym c.prepare_at.ensures.sealed_left) c.purge_all.ensures.places c.purge_all.ensures.hosts) in
+      subst (g.K.Keeper.end c.keep.new.keeper).holds
+      (ap (all_changed (rows_of (map (tenancy_of c.args.sealed.now.items) (map place_of c.args.tenancies.now)))) c.as_slice.ensures.value
+      ∙ rows_at c.requires.places.0 c.args.at.now.time c.args.place c.args.sealed.now.items c.purge_all.new.sealed.items c.make_at.new.sealed.items c.args.tenancies.now c.purge_all.new.tenancies c.make_at.new.tenancies c.in-Ok.batched.plan.change c.in-Ok.batched.batch.items c.requires.places.2 c.requires.place.within
+      (λ d. batch_same c.args.at.now.time c.args.place c.args.tenancies.now c.prepare_at.new.tenancies d c.in-Ok.batched.plan.change c.in-Ok.batched.batch.items c.prepare_at.ensures.tenants_left (c.in-Ok.ensures.batch d))
+      purge
+      (λ d. puttable c.args.at.now.time c.purge_all.new.sealed.spare (slice_index_or c.purge_all.new.tenancies c.args.place d) c.in-Ok.batched.plan.change
+      (room_made c.requires.places.0 c.args.at.now.time c.args.place c.prepare_at.new.sealed.spare c.purge_all.new.sealed.spare c.args.sealed.now.items c.args.tenancies.now c.prepare_at.new.tenancies c.purge_all.new.tenancies c.in-Ok.batched.plan.change
+      c.requires.places.2 c.prepare_at.ensures.tenants_left c.purge_all.ensures.kept c.purge_all.ensures.places c.requires.place.within c.purge_all.ensures.sealed_room c.in-Ok.ensures.room d))
+      c.make_at.ensures.made)
+      (c.in-Ok-keep.ensures.ok h (rows_of (map (tenancy_of c.args.sealed.now.items) (map place_of c.args.tenancies.now))) held);
+  back = c.in-Ok-keep.ensures.back;
+  later = c.in-Ok-keep.ensures.later;
+  fault = λ e. cc;
+  stayed = λ e. search rules;
+}

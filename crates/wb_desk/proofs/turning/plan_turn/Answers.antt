@@ -20,7 +20,7 @@ write_in-requires-clause-there c =
     let p = live_plain c.args.at.now.time (plain_of x) in
     let to = target p c.args.asked.now.session (outline c.args.asked.now.command) in
     let h : IsWriting p (at_of c.args.at.now) c.args.asked.now to c.in-Writes.writing = subst (IsDraftOf x.configuration.tenant (purged c.args.at.now.time (tables_of c.args.sealed.now.items (place_of x))) (at_of c.args.at.now) c.args.asked.now to) c.in-Writes.is c.in_ok-plan.ensures.step in
-    there-found c.in-Writes.writing.number (plain_of x).cases ∙ ap is_some (writing_found x c.args.at.now.time (at_of c.args.at.now) c.args.asked.now to c.in-Writes.writing h c.requires.place.cases)
+    there-found c.in-Writes.writing.number (plain_of x).cases ∙ ap is_some (writing_found x c.args.at.now.time (at_of c.args.at.now) c.args.asked.now to c.in-Writes.writing h c.requires.may_plan.place.cases)
 
 pub returns-in-Writes-clause-plan : goal.returns-in-Writes-clause-plan
 returns-in-Writes-clause-plan c =
@@ -29,7 +29,7 @@ returns-in-Writes-clause-plan c =
     let t = purged c.args.at.now.time (tables_of c.args.sealed.now.items (place_of x)) in
     let to = target p c.args.asked.now.session (outline c.args.asked.now.command) in
     let h : IsWriting p (at_of c.args.at.now) c.args.asked.now to c.in-Writes.writing = subst (IsDraftOf x.configuration.tenant t (at_of c.args.at.now) c.args.asked.now to) c.in-Writes.is c.in_ok-plan.ensures.step in
-    let found = writing_found x c.args.at.now.time (at_of c.args.at.now) c.args.asked.now to c.in-Writes.writing h c.requires.place.cases in
+    let found = writing_found x c.args.at.now.time (at_of c.args.at.now) c.args.asked.now to c.in-Writes.writing h c.requires.may_plan.place.cases in
     IfOk-weaker c.write_in.result _ _ (λ plan f. written_plan x.configuration.tenant t (at_of c.args.at.now) c.args.asked.now to c.in-Writes.writing plan h (f h.case.trail found)) c.write_in.ensures.plan
 
 pub returns-in-Writes-clause-roomy : goal.returns-in-Writes-clause-roomy
@@ -38,7 +38,7 @@ returns-in-Writes-clause-roomy c =
     let p = live_plain c.args.at.now.time (plain_of x) in
     let to = target p c.args.asked.now.session (outline c.args.asked.now.command) in
     let h : IsWriting p (at_of c.args.at.now) c.args.asked.now to c.in-Writes.writing = subst (IsDraftOf x.configuration.tenant (purged c.args.at.now.time (tables_of c.args.sealed.now.items (place_of x))) (at_of c.args.at.now) c.args.asked.now to) c.in-Writes.is c.in_ok-plan.ensures.step in
-    let found = writing_found x c.args.at.now.time (at_of c.args.at.now) c.args.asked.now to c.in-Writes.writing h c.requires.place.cases in
+    let found = writing_found x c.args.at.now.time (at_of c.args.at.now) c.args.asked.now to c.in-Writes.writing h c.requires.may_plan.place.cases in
     let there = there-found c.in-Writes.writing.number p.cases ∙ ap is_some h.there in
     ok_both c.write_in.result
     (λ plan f g. record {
