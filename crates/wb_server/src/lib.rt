@@ -12,4 +12,4 @@ mod worker;
 
 pub use opening::open_by;
 pub use serving::{Served, serve};
-pub use stations::{ServeEnd, serve_all, serve_in_order};
+pub use stations::{ServeEnd, serve_by};

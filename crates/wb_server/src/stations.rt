@@ -3,7 +3,7 @@ ghost use Rattle.std.specs.Prelude.{◌≡◌, ◌<◌, ◌≤◌, All, vec_len,
 ghost use Rattle.wb_model.specs.Rows.{rows_of};
 ghost use Rattle.wb_tables.specs.Standing.{hosts_of};
 ghost use Rattle.wb_desk.specs.Hosted.{fresh};
-ghost use Rattle.wb_server.specs.Ended.{HasServed, ServedBy, ServedByLists, ServedByPasses};
+ghost use Rattle.wb_server.specs.Ended.{HasServed, ServedBy};
 
 use crate::attending::attend_stations;
 use std::alloc::Global;
@@ -104,13 +104,9 @@ where
     }
 }
 
-/// Serves a host at these stations, by workers that take turns by this lock.
-pub(crate) fn serve_by<
-    K: Keeper + Send,
-    Li: Listener + Send,
-    T: Ticker + Send,
-    R: Threads + Wait + Sync,
->(
+/// Serves a host at these stations, each by a worker in a thread of its own, until each worker ends; then the host is taken apart. The
+/// workers take turns by this lock. The stations come back in their order.
+pub fn serve_by<K: Keeper + Send, Li: Listener + Send, T: Ticker + Send, R: Threads + Wait + Sync>(
     rt: &R,
     alloc: Global,
     lock: Lock,
@@ -124,6 +120,9 @@ where
     requires some { (0 < vec_len stations.old) × (lock ≡ Lock.Ticket → vec_len stations.old ≤ 64) }
     requires kept { (K.end keeper).honest → (K.end keeper).holds (rows_of (hosts_of desk).list) }
     ensures stations { vec_len stations.new ≡ vec_len stations.old }
+    // By a mutex, the passes, one a station, took part in all turns of the host that was given. By tickets there is one history from that host, and
+    // what is left is its last state. It is split into lists, one a station: what came over the links of the station and was a turn is an entry of
+    // its list, in order.
     ensures served { IfOk result (λ e. ServedBy K.end Li.end T.end stations.old.items stations.new.items desk keeper lock e.closed) }
     ensures ended { IfOk result (λ e. HasServed K.end Li.end T.end stations.old.items stations.new.items desk keeper e) }
     ensures none { IfErr result (λ _. stations.new.items ≡ stations.old.items) }
@@ -133,56 +132,4 @@ where
     serve_on::<K, Brand, Brand, Li, T, R>(
         rt, alloc, lock, routes, desk, keeper, turns, numbers, stations,
     )
-}
-
-/// Serves a host at these stations, each by a worker in a thread of its own, until each worker ends; then the host is taken apart. The
-/// workers take turns by a mutex. The stations come back in their order.
-pub fn serve_all<K: Keeper + Send, Li: Listener + Send, T: Ticker + Send, R: Threads + Wait + Sync>(
-    rt: &R,
-    alloc: Global,
-    routes: &Routes,
-    desk: Desk,
-    keeper: K,
-    stations: &mut Vec<Station<Li, T>>,
-) -> Result<ServeEnd<K>, Memory>
-where
-    Li::End: Send,
-    requires some { 0 < vec_len stations.old }
-    requires kept { (K.end keeper).honest → (K.end keeper).holds (rows_of (hosts_of desk).list) }
-    ensures stations { vec_len stations.new ≡ vec_len stations.old }
-    // The passes, one a station, took part in all turns of the host that was given.
-    ensures served { IfOk result (λ e. ServedByPasses K.end Li.end T.end stations.old.items stations.new.items desk keeper e.closed) }
-    ensures ended { IfOk result (λ e. HasServed K.end Li.end T.end stations.old.items stations.new.items desk keeper e) }
-    ensures none { IfErr result (λ _. stations.new.items ≡ stations.old.items) }
-{
-    serve_by(rt, alloc, Lock::Mutex, routes, desk, keeper, stations)
-}
-
-/// Serves a host at these stations, each by a worker in a thread of its own, until each worker ends; then the host is taken apart. The
-/// workers take turns in the order of their tickets, so that all turns are one history. The stations come back in their order.
-pub fn serve_in_order<
-    K: Keeper + Send,
-    Li: Listener + Send,
-    T: Ticker + Send,
-    R: Threads + Wait + Sync,
->(
-    rt: &R,
-    alloc: Global,
-    routes: &Routes,
-    desk: Desk,
-    keeper: K,
-    stations: &mut Vec<Station<Li, T>>,
-) -> Result<ServeEnd<K>, Memory>
-where
-    Li::End: Send,
-    requires some { (0 < vec_len stations.old) × (vec_len stations.old ≤ 64) }
-    requires kept { (K.end keeper).honest → (K.end keeper).holds (rows_of (hosts_of desk).list) }
-    ensures stations { vec_len stations.new ≡ vec_len stations.old }
-    // From the host that was given there is one history, and what is left is its last state. It is split into lists, one a station: what came
-    // over the links of the station and was a turn is an entry of its list, in order.
-    ensures served { IfOk result (λ e. ServedByLists K.end Li.end T.end stations.old.items stations.new.items desk keeper e.closed) }
-    ensures ended { IfOk result (λ e. HasServed K.end Li.end T.end stations.old.items stations.new.items desk keeper e) }
-    ensures none { IfErr result (λ _. stations.new.items ≡ stations.old.items) }
-{
-    serve_by(rt, alloc, Lock::Ticket, routes, desk, keeper, stations)
 }

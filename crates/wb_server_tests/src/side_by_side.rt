@@ -12,7 +12,7 @@ use std::thread::Threads;
 use wb_base::{Failed, MemKeeper};
 use wb_cli::Lock;
 use wb_front::Station;
-use wb_server::{ServeEnd, serve_all, serve_in_order};
+use wb_server::{ServeEnd, serve_by};
 use wb_transport::{Link, Listener, MemTicker};
 use wb_wire::Routes;
 
@@ -168,11 +168,7 @@ fn serve_at<R: Threads + Wait + Sync>(
 {
     let routes = Routes::new(alloc)?;
     let (desk, keeper) = opened(alloc)?;
-    let ended = match lock {
-        Lock::Mutex => serve_all(rt, alloc, &routes, desk, keeper, stations),
-        Lock::Ticket => serve_in_order(rt, alloc, &routes, desk, keeper, stations),
-    };
-    match ended {
+    match serve_by(rt, alloc, lock, &routes, desk, keeper, stations) {
         Ok(ended) => Ok(ended),
         Err(_) => Err("no memory".into()),
     }
