@@ -1,6 +1,7 @@
 #!/bin/sh
-# Puts a host into service on Debian: the program, its setup, its unit, the pages and nginx. The first run leaves a setup to look
-# through, the second starts the host. Each later one is an upgrade: a setup, a certificate and reports that are there stay.
+# Puts a host into service on Debian: the program, its setup, its units, the pages and nginx. The first run leaves a setup to look
+# through, the second starts the host. Each later one is an upgrade: a setup, a certificate and reports that are there stay, and so
+# does a site or a unit that was edited, with the new one beside it as `.new`.
 #
 #   sudo deploy/install.sh report.example.org [PROGRAM]
 #
@@ -9,7 +10,7 @@
 set -eu
 umask 022
 
-[ $# -ge 1 ] || { sed -n '2,8s/^# \{0,1\}//p' "$0" >&2; exit 2; }
+[ $# -ge 1 ] || { sed -n '2,9s/^# \{0,1\}//p' "$0" >&2; exit 2; }
 here=$(cd "$(dirname "$0")/.." && pwd)
 name=$1
 program=${2:-$here/crates/whistle/out/whistle}
@@ -19,6 +20,19 @@ case $name in *[!a-z0-9.-]* | '') echo "install.sh: $name is no name of a host" 
 
 on_machine() { [ -z "$root" ]; }
 
+# Puts one file in the place of another. Where that is not what the last run had to put there, somebody edited it: it stays, and the
+# new one is put beside it.
+put() {
+    last=$installed/${2##*/}
+    if [ ! -e "$2" ] || cmp -s "$last" "$2"; then
+        install -D -m 644 "$1" "$2"
+    elif ! cmp -s "$1" "$2"; then
+        install -m 644 "$1" "$2.new"
+        echo "install.sh: $2 is not as the last run left it, and stays: what this version has is in $2.new"
+    fi
+    install -m 600 "$1" "$last"
+}
+
 if on_machine; then
     [ "$(id -u)" -eq 0 ] || { echo 'install.sh: run it as root' >&2; exit 1; }
     missing=
@@ -26,6 +40,10 @@ if on_machine; then
     [ -z "$missing" ] || DEBIAN_FRONTEND=noninteractive apt-get install -y --no-install-recommends $missing
     id whistle >/dev/null 2>&1 ||
         useradd --system --user-group --home-dir /nonexistent --no-create-home --shell /usr/sbin/nologin whistle
+fi
+
+if [ -s "$root/var/lib/whistle/reports.db" ]; then
+    echo 'install.sh: no backup is made here: one of the reports is to be there before an upgrade (docs/OPERATING.md)'
 fi
 
 # The program stands beside the old one until it is whole, so that a running host is not disturbed.
@@ -69,14 +87,17 @@ if [ ! -f "$certificate/fullchain.pem" ]; then
     echo "install.sh: $certificate has a certificate that no browser trusts: put yours there"
 fi
 
-site=$root/etc/nginx/sites-available/whistle
-install -d "$root/etc/nginx/sites-available" "$root/etc/nginx/sites-enabled"
-sed "s/report\.example\.org/$name/g" "$here/deploy/nginx.conf" > "$site.new" && mv "$site.new" "$site"
-ln -sfn ../sites-available/whistle "$root/etc/nginx/sites-enabled/whistle"
+# What each run had to put there is kept, so that the next one knows what was edited since.
+installed=$root/etc/whistle/installed
+install -d -m 700 "$installed"
+sed "s/report\.example\.org/$name/g" "$here/deploy/nginx.conf" > "$installed/site"
+put "$installed/site" "$root/etc/nginx/sites-available/whistle"
+install -d "$root/etc/nginx/sites-enabled"
+[ -e "$root/etc/nginx/sites-enabled/whistle" ] || ln -sfn ../sites-available/whistle "$root/etc/nginx/sites-enabled/whistle"
 
 for unit in whistle.service whistle-health.service whistle-health.timer whistle-erase.service whistle-erase.timer \
     whistle-notices.service whistle-notices.timer; do
-    install -D -m 644 "$here/deploy/$unit" "$root/etc/systemd/system/$unit"
+    put "$here/deploy/$unit" "$root/etc/systemd/system/$unit"
 done
 
 # What the host keeps of an organisation at its first start it keeps for good: so a fresh setup is looked through before.

@@ -72,6 +72,25 @@ def tree(folder):
     return found
 
 
+def write(path, text):
+    with open(path, "wb") as it:
+        it.write(text)
+
+
+def check_edits(machine, program):
+    """An upgrade leaves what was edited, with the new one beside it, and puts the new one in the place of what was not."""
+    site, unit = "etc/nginx/sites-available/whistle", "etc/systemd/system/whistle.service"
+    once = tree(machine.there)
+    write(f"{machine.there}/{site}", b"edited")
+    for path in (unit, "etc/whistle/installed/whistle.service"):
+        write(f"{machine.there}/{path}", b"as an older version had it")
+    said = machine.install(program)
+    assert f"{site} is not as the last run left it" in said and unit not in said, said
+    now = tree(machine.there)
+    assert now[f"{site}.new"] == once[site] and now[site][1] == b"edited", "an edited site does not stay"
+    assert now[unit] == once[unit] and f"{unit}.new" not in now, "a unit that nobody edited stays as it was"
+
+
 def check_installation(machine, program):
     """The installation can be run twice: the second run changes nothing, and each draws passwords of its own for a new folder."""
     first = machine.there
@@ -88,6 +107,7 @@ def check_installation(machine, program):
         assert re.search(rb'salt = "(.*)"', it.read()).group(1) not in setup[1]
     pages = {path for path in once if path.startswith("usr/share/whistle/web/")}
     assert all(re.search(r"\.(html|css|js|svg)$", path) for path in pages), pages
+    check_edits(machine, program)
     machine.there = first
     assert run("sh", f"{DEPLOY}/install.sh", "bad name", program, env={**os.environ, "DESTDIR": machine.there}).returncode == 2
 

@@ -1,4 +1,5 @@
 """A browser without JavaScript: the notice, and the report that it tells how to send."""
+import json
 import re
 import subprocess
 
@@ -26,13 +27,12 @@ def check_plain(machine):
 
 
 def send_as_told(machine, told):
-    """The line of the notice, with this machine's address and without the way over Tor, sends a report and shows its receipt."""
+    """The line of the notice, with this machine's address and without the way over Tor, sends a report and shows its receipt. It answers what is required."""
     body = re.search(r"-d '(.*)' https://ADDRESS-OF-THIS-PAGE(/t/1/reports)", told)
     questions = machine.ask("GET", "/t/1/contexts/1").body["form"]["steps"]
     required = {field["id"] for step in questions for field in step["fields"] if field["required"] and not field["identity"] and "show" not in field}
-    assert required == {"what", "areas", "ongoing", "danger"}
-    answers = body.group(1).replace('"what":"Your words"', '"what":"Sent with curl","areas":["food"],"ongoing":"no","danger":"no"')
-    words = ["curl", "--silent", "--insecure", "-d", answers, machine.origin + body.group(2)]
+    assert set(json.loads(body.group(1))["answers"]) == required
+    words = ["curl", "--silent", "--insecure", "-d", body.group(1), machine.origin + body.group(2)]
     reply = subprocess.run(words, check=True, capture_output=True, text=True).stdout
     receipt = re.search(r'"receipt":"([0-9]{16})"', reply).group(1)
     assert machine.login(1, receipt=receipt)
