@@ -1,5 +1,5 @@
 //! Receipts and session secrets, from the random words of a turn.
-ghost use Rattle.std.specs.Prelude.{◌≡◌, ◌<◌, ◌^◌, ◌+◌, ◌*◌, ◌%◌};
+ghost use Rattle.std.specs.Prelude.{◌≡◌, ◌<◌, ◌+◌, ◌*◌, ◌%◌};
 ghost use Rattle.hex.specs.Hex.{encode_lower};
 ghost use Rattle.wb_base.specs.Secrets.{receipt_text, secret_text, last_digits, both as both_of};
 

@@ -1,5 +1,5 @@
 //! How many sessions each principal has.
-ghost use Rattle.std.specs.Prelude.{◌≡◌, ◌+◌, ◌<◌, ◌≤◌, ℕ, [], IsOk, OnOk, IfErr, cond};
+ghost use Rattle.std.specs.Prelude.{◌≡◌, ◌+◌, ◌<◌, ◌≤◌, [], IsOk, OnOk, IfErr, cond};
 ghost use Rattle.wb_base.specs.declared.callers.Principal.{Principal as Caller};
 ghost use Rattle.wb_access.specs.SessionCounts.{key_of, count_in};
 ghost use Rattle.wb_access.specs.Sessions.{same_principal};

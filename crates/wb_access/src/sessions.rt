@@ -1,10 +1,10 @@
 //! The standing sessions of all tenants.
-ghost use Rattle.std.specs.Prelude.{◌≡◌, ◌+◌, ◌<◌, ◌≤◌, [], length, All, IsOk, OnOk, IfErr, find, filter, not, count_by, nat_lt, ◌==◌, if◌then◌else◌};
+ghost use Rattle.std.specs.Prelude.{◌≡◌, ◌+◌, ◌<◌, ◌≤◌, [], All, IsOk, OnOk, IfErr, find, filter, not, count_by, nat_lt, ◌==◌, if◌then◌else◌};
 ghost use Rattle.std.specs.Option.{ok_or, option_copied};
 ghost use Rattle.std.specs.Ordering.{nat_cmp};
 ghost use Rattle.wb_list.specs.Keyed.{IsAscending, without_first};
 ghost use Rattle.wb_access.specs.SessionCounts.{AreCounted};
-ghost use Rattle.wb_access.specs.Sessions.{same_principal, is_of, is_shown, is_standing, lasts as lasts_at, session_shown, opened};
+ghost use Rattle.wb_access.specs.Sessions.{is_of, is_shown, is_standing, lasts as lasts_at, session_shown, opened};
 
 use crate::session_counts::SessionCounts;
 use crate::{AccessFault, digest};

@@ -1,7 +1,6 @@
 //! A keeper of rows in memory.
-ghost use Rattle.std.specs.Prelude.{◌≡◌, ◌↔◌, ◌+◌, ◌<◌, ◌≤◌, length, List, All, IsTrue, IfOk, OnOk, OnErr, ⊤};
+ghost use Rattle.std.specs.Prelude.{◌≡◌, ◌↔◌, ◌+◌, ◌<◌, ◌≤◌, length, All, IsTrue, IfOk, OnOk, OnErr, ⊤};
 ghost use Rattle.wb_list.specs.Keyed.{IsAscending};
-ghost use Rattle.wb_base.specs.declared.rows.Row.{Row as KeptRow};
 ghost use Rattle.wb_base.specs.Outside.{KeeperHasCause};
 ghost use Rattle.wb_base.specs.KeptRows.{key_cmp, key_of, changed, all_changed, IsGoodChange};
 ghost use Rattle.wb_base.specs.MemoryEnds.{KeeperState, fails_next, after_keeping};

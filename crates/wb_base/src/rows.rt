@@ -1,5 +1,4 @@
 //! Kept rows and their changes.
-ghost use Rattle.std.specs.Prelude.{◌≡◌};
 
 use crate::{Number, Tenant, Text};
 use std::cmp::Ordering;

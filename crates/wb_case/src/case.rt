@@ -1,5 +1,5 @@
 //! A report.
-ghost use Rattle.std.specs.Prelude.{◌≡◌, ◌+◌, ◌<◌, ◌≤◌, ◌++◌, ◌∷◌, [], OnOk, IfOk, IfErr, ℕ, true};
+ghost use Rattle.std.specs.Prelude.{◌≡◌, ◌+◌, ◌<◌, ◌≤◌, ◌++◌, ◌∷◌, [], OnOk, IfOk, IfErr, true};
 ghost use Rattle.wb_model.specs.Trails.{label as label_by};
 ghost use Rattle.wb_model.specs.Legal.{Reckoning, is_legal, is_next, last_at};
 ghost use Rattle.wb_model.specs.declared.act.CaseFault.TheVariants as faults;

@@ -1,5 +1,5 @@
 //! The users who read a report.
-ghost use Rattle.std.specs.Prelude.{◌≡◌, ◌+◌, ◌≤◌, ◌<◌, ◌++◌, ◌==◌, not, [], length, filter, insert, OnOk};
+ghost use Rattle.std.specs.Prelude.{◌≡◌, ◌+◌, ◌≤◌, ◌<◌, ◌==◌, not, [], length, filter, insert, OnOk};
 ghost use Rattle.std.specs.List.{list_any};
 ghost use Rattle.wb_model.specs.Trails.{with_reader};
 

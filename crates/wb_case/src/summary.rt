@@ -1,5 +1,5 @@
 //! What a trail says so far, kept beside it.
-ghost use Rattle.std.specs.Prelude.{◌≡◌, ◌+◌, ◌≤◌, ◌<◌, ◌++◌, ◌∷◌, ◌^◌, [], length, OnOk, IfOk};
+ghost use Rattle.std.specs.Prelude.{◌≡◌, ◌+◌, ◌≤◌, ◌<◌, ◌++◌, ◌∷◌, ◌^◌, [], OnOk, IfOk};
 ghost use Rattle.wb_model.specs.Trails.{readers_by, remark_places};
 ghost use Rattle.wb_case.specs.Summaries.{IsSummary, IsAfter, needed_by};
 

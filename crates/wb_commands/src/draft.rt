@@ -1,5 +1,5 @@
 //! What is left to do for a plan.
-ghost use Rattle.std.specs.Prelude.{◌≡◌, IfOk};
+ghost use Rattle.std.specs.Prelude.{IfOk};
 ghost use Rattle.wb_commands.specs.Steps.{IsTold};
 ghost use Rattle.wb_views.specs.Refused.{told_of};
 

@@ -1,5 +1,5 @@
 //! The requests of one report.
-ghost use Rattle.std.specs.Prelude.{◌≡◌, ◌<◌, ◌≤◌, ◌++◌, ◌∷◌, [], List, length, map, false, true, Some, None, OnOk, IfOk, IfErr};
+ghost use Rattle.std.specs.Prelude.{◌≡◌, ◌<◌, ◌≤◌, ◌++◌, ◌∷◌, [], List, length, false, true, Some, None, OnOk, IfOk, IfErr};
 ghost use Rattle.std.specs.Option.{option_map};
 ghost use Rattle.wb_model.specs.declared.access.State.TheVariants as states;
 ghost use Rattle.wb_model.specs.declared.act.CustodyFault.TheVariants as faults;

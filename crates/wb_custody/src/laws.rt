@@ -1,5 +1,5 @@
 //! A law of the requests of legal trails, a function with no body.
-ghost use Rattle.std.specs.Prelude.{◌≡◌, ◌≤◌, ℕ, ℤ, List, length, true};
+ghost use Rattle.std.specs.Prelude.{◌≡◌, ◌≤◌, ℕ, List, length, true};
 ghost use Rattle.wb_model.specs.declared.entry.Entry.{Entry};
 ghost use Rattle.wb_model.specs.Access.{requests};
 ghost use Rattle.wb_model.specs.Legal.{Reckoning, is_legal, is_next, right_actor};

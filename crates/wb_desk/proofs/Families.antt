@@ -36,7 +36,6 @@ use Rattle.wb_model.specs.Refusing.{refuses_where}
 use Rattle.wb_model.specs.Requests.{Outcome, Unchecked, outline, outcome, identity_outcome, late_fault, sealed_part, secret_of}
 use Rattle.wb_model.specs.AskingForms.{form_of_trail}
 use Rattle.wb_model.specs.Rules.{refusal_alone, change_alone, answer_alone}
-use Rattle.wb_model.specs.Settings as settings
 use Rattle.wb_model.specs.Settings.{Proposal, proposal_told}
 use Rattle.wb_model.specs.ShortViews.{done_view}
 use Rattle.wb_model.specs.Submissions.{drawing, outcome_refusal}

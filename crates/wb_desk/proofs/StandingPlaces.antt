@@ -1,5 +1,5 @@
 -- What a desk keeps of its tenants follows from the past that it stands for.
-use Rattle.std.proofs.Common.{◌≡◌, inl, inr, ℕ, ℤ, ◌<◌, ◌≤◌, ◌+◌, true, false, List, [], ◌∷◌, map, find, None, refl, sym, ap, ◌∙◌, subst, arith}
+use Rattle.std.proofs.Common.{◌≡◌, inl, inr, ℕ, ◌<◌, ◌≤◌, ◌+◌, true, false, List, [], ◌∷◌, map, find, None, refl, sym, ap, ◌∙◌, subst, arith}
 use Rattle.std.proofs.lemmas.Bool.Decides.{nat_tests}
 use Rattle.wb_base.specs.Days.{IsOffset}
 use Rattle.wb_case.proofs.EarlyDays.{received_early, acknowledged_early}

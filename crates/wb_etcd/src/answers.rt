@@ -1,5 +1,5 @@
 //! What the answers of a store tell.
-ghost use Rattle.std.specs.Prelude.{◌≡◌, ◌++◌, Some, List, decimal, option_map, IfOk, IfSome, OnOk, unwrap_or, option_and_then};
+ghost use Rattle.std.specs.Prelude.{◌≡◌, ◌++◌, Some, List, decimal, option_map, IfOk, OnOk, unwrap_or};
 ghost use Rattle.std.specs.String.{string_bytes};
 ghost use Rattle.serde_json.specs.View.{view, items_view};
 ghost use Rattle.wb_base.specs.declared.rows.Row.{Row as KeptRow};

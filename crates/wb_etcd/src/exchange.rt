@@ -1,11 +1,10 @@
 //! One exchange with a store.
-ghost use Rattle.std.specs.Prelude.{◌≡◌, ◌++◌, ℕ, List, [], Some, None, length, map, IfOk, OnOk, OnErr};
+ghost use Rattle.std.specs.Prelude.{◌≡◌, ◌++◌, ℕ, List, [], Some, None, IfOk, OnOk, OnErr};
 ghost use Rattle.std.specs.Io.KnownBytes.{Appends};
 ghost use Rattle.serde_json.specs.View.{view};
 ghost use Rattle.wb_transport.specs.Lines.{Line, IsLine};
 ghost use Rattle.wb_etcd.specs.Answers.{IsAnswer};
-ghost use Rattle.wb_etcd.specs.Transactions.{request_text};
-ghost use Rattle.wb_transport.specs.Dials.{Dialed, after_close};
+ghost use Rattle.wb_transport.specs.Dials.{Dialed};
 ghost use Rattle.wb_etcd.specs.Exchanges.{connection, exchanged, Asks};
 
 use crate::requests::request;

@@ -1,5 +1,5 @@
 //! What a store is asked.
-ghost use Rattle.std.specs.Prelude.{◌≡◌, ◌+◌, ◌<◌, ◌++◌, ◌∷◌, [], codes, length, nat_le, IfOk, OnOk, sum_by};
+ghost use Rattle.std.specs.Prelude.{◌≡◌, ◌+◌, ◌<◌, nat_le, IfOk, sum_by};
 ghost use Rattle.std.specs.String.{string_bytes};
 ghost use Rattle.wb_etcd.specs.KeyTexts.{IsRange, Keys};
 ghost use Rattle.wb_etcd.specs.Transactions.{base64_text, put_text, delete_text, change_text, operations, changes_text, transaction_text, batch_text, take_over_text, one_text, range_text, request_text};

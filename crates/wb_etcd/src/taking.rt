@@ -1,5 +1,5 @@
 //! How a host takes the rows of a store, and how it changes them.
-ghost use Rattle.std.specs.Prelude.{◌≡◌, ◌≤◌, ◌<◌, ◌-◌, Some, None, [], IsSome, IfOk, OnOk, OnErr, Err, length, slice_get, sum_by, map};
+ghost use Rattle.std.specs.Prelude.{◌≡◌, ◌≤◌, ◌<◌, ◌-◌, Some, None, [], IsSome, IfOk, OnOk, Err, sum_by};
 ghost use Rattle.wb_list.specs.Keyed.{IsAscending};
 ghost use Rattle.wb_base.specs.KeptRows.{key_cmp, key_of};
 ghost use Rattle.wb_base.specs.declared.faults.KeepErr.{KeepErr as KeepError};

@@ -1,8 +1,8 @@
 //! What expires by a day.
-ghost use Rattle.std.specs.Prelude.{◌≡◌, ◌∷◌, ℤ, filter, map, List, IfOk, OnOk};
+ghost use Rattle.std.specs.Prelude.{◌≡◌, ℤ, filter, map, List, IfOk, OnOk};
 ghost use Rattle.std.specs.List.Sorted.{IsSortedBy};
 ghost use Rattle.wb_export.specs.Csv.{IsCsvLine};
-ghost use Rattle.wb_export.specs.Forecasts.{IsForecast, expires_before, expires_by, expires_on, expiring, forecast_header, forecast_line, forecast_text};
+ghost use Rattle.wb_export.specs.Forecasts.{IsForecast, expires_before, expires_by, expires_on, expiring, forecast_line, forecast_text};
 ghost use Rattle.wb_export.specs.declared.forecasts.Expiring.{Expiring as Row};
 ghost use Rattle.wb_rows.specs.Reports.{case_report};
 ghost use Rattle.wb_rows.specs.Held.{held_by};

@@ -3,7 +3,7 @@ ghost use Rattle.std.specs.Prelude.{◌≡◌, ◌<◌, ◌≤◌, ◌&&◌, nat
 ghost use Rattle.std.specs.List.{list_all};
 ghost use Rattle.serde_json.specs.View.{view};
 ghost use Rattle.serde_json.specs.Find.{get, as_str};
-ghost use Rattle.wb_base.specs.FormShape.{size as size_of, has_only as only_these, count_of, flag_at as flag_under, max_at as max_under, number_at};
+ghost use Rattle.wb_base.specs.FormShape.{size as size_of, has_only as only_these, flag_at as flag_under, max_at as max_under, number_at};
 ghost use Rattle.wb_base.specs.FormRanges.{are_points, is_least, is_id as id_test, is_id_byte as id_byte_test, is_label as label_test};
 
 use serde_json::Value;

@@ -1,12 +1,12 @@
 //! The reply to one request: a turn of the host behind the gate, or the refusal of bytes that ask nothing.
-ghost use Rattle.std.specs.Prelude.{◌≡◌, ◌↔◌, ◌++◌, true, false, Some, None, Option, IfOk, OnOk, OnErr, IfSome, length, if◌then◌else◌};
+ghost use Rattle.std.specs.Prelude.{◌≡◌, ◌++◌, Some, None, Option, IfOk, OnOk, OnErr, if◌then◌else◌};
 ghost use Rattle.std.specs.Io.KnownBytes.{Appends};
 ghost use Rattle.wb_base.specs.Outside.{AppendsFront, HasCause};
 ghost use Rattle.wb_model.specs.declared.command.Asked.{Asked as AskedOf};
 ghost use Rattle.wb_model.specs.Readings.{Asks, Reads, closes_always};
 ghost use Rattle.wb_transport.specs.Lines.{Tick};
 ghost use Rattle.wb_wire.specs.Responses.{refusal as refusal_of, reply_of};
-ghost use Rattle.wb_front.specs.Served.{IsReply, Loses, closing, reply_bytes, tick_of};
+ghost use Rattle.wb_front.specs.Served.{closing, reply_bytes};
 ghost use Rattle.wb_front.specs.Answers.{IsRepliedTo};
 
 use std::alloc::Global;

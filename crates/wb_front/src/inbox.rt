@@ -1,7 +1,6 @@
 //! The bytes of a connection that were read and are not answered yet.
-ghost use Rattle.std.specs.Prelude.{◌≡◌, ◌≤◌, ◌<◌, ◌+◌, ◌++◌, [], length, take, drop, IfOk, OnErr, nat_eq, if◌then◌else◌};
-ghost use Rattle.std.specs.Io.{ReadsAtMost};
-ghost use Rattle.std.specs.Io.KnownBytes.{ReadConsumes, IsAtEnd};
+ghost use Rattle.std.specs.Prelude.{◌≡◌, ◌≤◌, ◌<◌, ◌+◌, [], length, take, drop, IfOk, OnErr, nat_eq, if◌then◌else◌};
+ghost use Rattle.std.specs.Io.KnownBytes.{IsAtEnd};
 ghost use Rattle.wb_base.specs.Outside.{HasCause};
 ghost use Rattle.wb_front.specs.Arrivals.{Flows, IsUnfinished, HasArrived, IsSeen};
 

@@ -11,7 +11,7 @@ use Rattle.wb_model.specs.Host.{Tables}
 use Rattle.wb_model.specs.Legal.{ascends, AreLegal, Reckoning, reckoning}
 use Rattle.wb_model.specs.Opened.{AreOpened, Opened}
 use Rattle.wb_model.specs.Openings.{no_settings, empty_tables}
-use Rattle.wb_model.specs.Tenants.{tenant_at, Tenancy, Hosts}
+use Rattle.wb_model.specs.Tenants.{tenant_at, Hosts}
 use Rattle.wb_model.specs.Past.{Past, Opening, Turn, registry, last, held, at_of, alone_in}
 use Rattle.wb_model.specs.PastTurns.{what_at}
 use Rattle.wb_model.specs.Pasts.{AllOpened, seen, part, tenants, has_tenant, held_tenancy, standing_hosts, what_in}

@@ -9,9 +9,9 @@ use Rattle.wb_model.specs.declared.event.What.TheVariants.{Did, Gap, Idle, Lost}
 use Rattle.wb_model.specs.Tables.{Registry, is_there}
 use Rattle.wb_model.specs.Requests.{Frame}
 use Rattle.wb_model.specs.Changes.{TurnContext, Change, Nothing, Draws, Begins, Notes, Deletes, LogsIn, LogsOut, Configures}
-use Rattle.wb_model.specs.Host.{Tables, noted, cases_after, made, change_of, reply_by, ruling}
+use Rattle.wb_model.specs.Host.{Tables, reply_by, ruling}
 use Rattle.wb_model.specs.Tenants.{tenant_at, without_tenant}
-use Rattle.wb_model.specs.Past.{change_at, change_in, trail_of, numbers, trail, case_of, Past, Opening, Turn, turns, now, at_of, report_of, about, alone_in, registry, last, drew, live, live_reports, logins, stands, standing_sessions, plain, tables, is_lost, held}
+use Rattle.wb_model.specs.Past.{Past, Turn, now, at_of, alone_in, registry, last, drew, live, plain, tables, is_lost, held}
 use Rattle.wb_model.specs.PastTurns.{at_frame, reply_at}
 use Rattle.wb_model.specs.Opened.{Opened}
 use Rattle.wb_model.specs.Pasts.{AllOpened, seen, part, has_tenant, time, standing_hosts, reply_in, what_in, with_turn, with_loss}

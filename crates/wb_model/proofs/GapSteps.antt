@@ -19,7 +19,7 @@ use Rattle.wb_model.specs.OnReports.{change_on}
 use Rattle.wb_model.specs.Rules.{change_alone}
 use Rattle.wb_model.proofs.Effects.{set_is}
 use Rattle.wb_model.specs.Host.{is_draw, registry_after, made, remaining}
-use Rattle.wb_model.specs.Past.{Past, Opening, Turn, turns, now, at_of, who_of, report_of, about, alone_by, change_by, alone_in, change_in, secret_in, registry, alone_at, drew, last, drawn_at, day, drawn, numbering, numbers_after, numbers, grown, lives_at, trail_of, trail, change_at, live, given, sealed, case_of, live_reports, recent, standing_sessions, plain, tables}
+use Rattle.wb_model.specs.Past.{Past, who_of, report_of, about, alone_by, change_by, alone_in, change_in, secret_in, last, numbers_after, numbers, grown, trail_of, given}
 use Rattle.wb_model.specs.Absence.{is_beginning, is_on}
 use Rattle.wb_model.proofs.Found.{same_number, other_number, filter_twice}
 use Rattle.wb_model.proofs.Leaving.{filter_swap}

@@ -29,7 +29,7 @@ use Rattle.wb_model.specs.Trails.{received, acknowledged, is_extended, expires, 
 use Rattle.wb_model.specs.Tables.{Registry}
 use Rattle.wb_model.specs.Faults.{case_told, custody_told}
 use Rattle.wb_model.specs.Acts.{closed, same_context, context_closed, not_external, extended, full, case_fault, act_deed}
-use Rattle.wb_model.specs.Moves.{unless_state, decided, not_granted, custody_fault, effective, move_deed}
+use Rattle.wb_model.specs.Moves.{unless_state, decided, custody_fault, effective, move_deed}
 use Rattle.wb_model.specs.Changes.{TurnContext}
 use Rattle.wb_model.specs.Requests.{Outcome}
 use Rattle.wb_model.specs.Submissions.{submission_entry}

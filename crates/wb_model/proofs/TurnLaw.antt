@@ -22,7 +22,7 @@ use Rattle.wb_model.specs.OnReports.{change_on}
 use Rattle.wb_model.proofs.Effects.{IsToldBy, told, outlined}
 use Rattle.wb_model.specs.Rules.{change_alone, verdict_on}
 use Rattle.wb_model.specs.Host as host
-use Rattle.wb_model.specs.Host.{Sealed, Tables, Host, purged, is_draw, registry_after, cases_after, plain_after, sealed_after, changed, reply_by, ruling, tables_after, reply_to, host_after}
+use Rattle.wb_model.specs.Host.{Tables, Host, registry_after, cases_after, changed, reply_by, ruling, tables_after}
 use Rattle.wb_model.specs.Past.{Past, Turn, now, at_of, report_of, about, change_by, secret_in, registry, alone_at, drew, last, drawn_at, day, drawn, numbering, numbers, trail_of, trail, change_at, sealed, case_of, live_reports, logins, stands_by, is_ended, plain, tables}
 use Rattle.wb_model.specs.PastTurns.{at_frame, verdict_at, reply_at, target_at, principal, did, what_by, what_at}
 use Rattle.wb_model.specs.Opened.{Opened}

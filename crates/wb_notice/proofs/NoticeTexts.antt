@@ -9,13 +9,11 @@ use Rattle.jiff_core.proofs.CalendarLemmas.{days_in_month_bounds}
 use Rattle.json.specs.Print.{escape, escape_byte}
 use Rattle.serde_json.specs.Data.{string}
 use Rattle.serde_json.specs.Written.{has_float, members_text}
-use Rattle.wb_base.specs.AnswerList.{is_text}
 use Rattle.wb_base.specs.DateTexts.{date_text, read_date, two_digits}
-use Rattle.wb_base.specs.Days.{IsDay, date_at, date_of}
+use Rattle.wb_base.specs.Days.{IsDay, date_of}
 use Rattle.wb_base.specs.declared.rows.Row.{Row}
 use Rattle.wb_model.specs.Fits.{is_between}
 use Rattle.wb_model.specs.Json.{members_of, whole}
-use Rattle.wb_model.proofs.Receipts.{same_text}
 use Rattle.wb_row_codec.specs.Good.{is_dated, is_tenant}
 use Rattle.wb_row_codec.specs.Shapes.{day_named}
 use Rattle.wb_terms.proofs.CivilDates.{good_date, year_bound}

@@ -1,4 +1,4 @@
-ghost use Rattle.std.specs.Prelude.{◌≡◌, ℕ, IfOk};
+ghost use Rattle.std.specs.Prelude.{ℕ, IfOk};
 ghost use Rattle.wb_model.specs.KeptRules.{AreKept};
 ghost use Rattle.wb_rows.specs.Held.{held_by};
 ghost use Rattle.wb_rows.specs.Openings.{tables_of, time_of};

@@ -1,5 +1,5 @@
 //! The reports that are kept, each under its tenant.
-ghost use Rattle.std.specs.Prelude.{◌≡◌, ◌<◌, ℕ, true, find, map, Some, IfOk, IfErr, OnOk};
+ghost use Rattle.std.specs.Prelude.{◌≡◌, ◌<◌, ℕ, true, find, map, Some, IfOk, OnOk};
 ghost use Rattle.std.specs.List.{AllByRecursion, list_all};
 ghost use Rattle.wb_model.specs.Access.{requests};
 ghost use Rattle.wb_model.specs.Legal.{Reckoning, ascends_from, is_legal};

@@ -1,5 +1,4 @@
 //! The bodies of the routes that act on reports and sessions.
-ghost use Rattle.std.specs.Prelude.{◌≡◌};
 ghost use Rattle.serde_json.specs.View.{view};
 ghost use Rattle.wb_model.specs.Bodies as bodies;
 ghost use Rattle.wb_json.specs.Gives.{Gives};

@@ -1,5 +1,5 @@
 //! Contexts and forms of a tenant, as rows have them.
-ghost use Rattle.std.specs.Prelude.{◌≡◌, ◌≤◌, IfOk, true, length};
+ghost use Rattle.std.specs.Prelude.{◌≡◌, ◌≤◌, IfOk, true};
 ghost use Rattle.serde_json.specs.View.{view};
 ghost use Rattle.wb_base.specs.FormFaults.{is_good};
 ghost use Rattle.wb_model.specs.Bodies.{under};

@@ -1,5 +1,5 @@
 //! The entry of a trail, as a row has it.
-ghost use Rattle.std.specs.Prelude.{◌≡◌, option_map};
+ghost use Rattle.std.specs.Prelude.{option_map};
 ghost use Rattle.serde_json.specs.View.{view};
 ghost use Rattle.wb_model.specs.Bodies.{under, whole};
 ghost use Rattle.wb_model.specs.DeedFields as table;

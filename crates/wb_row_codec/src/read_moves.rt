@@ -1,5 +1,4 @@
 //! The deeds of a report's follow-up and of requests for its identity, as rows have them.
-ghost use Rattle.std.specs.Prelude.{◌≡◌};
 ghost use Rattle.serde_json.specs.View.{view};
 ghost use Rattle.wb_model.specs.Bodies.{under};
 ghost use Rattle.wb_model.specs.DeedFields as table;

@@ -17,7 +17,7 @@ use Rattle.wb_model.specs.declared.registry.Lists.{Lists}
 use Rattle.wb_model.specs.declared.registry.UserItem.{UserItem}
 use Rattle.wb_model.specs.Openings.{registry_of}
 use Rattle.wb_model.specs.Settings.{is_recipient, form_key as version_place}
-use Rattle.wb_model.specs.SetUps.{AreSetUp, are_apart, has_form, has_recipients, has_tenant, is_context_item, is_form_item, is_recipient_of, is_tenant_item, is_user_item, same_user_name}
+use Rattle.wb_model.specs.SetUps.{AreSetUp, has_form, has_recipients, is_recipient_of, same_user_name}
 use Rattle.wb_model.specs.SetUps as set_ups
 use Rattle.wb_model.specs.Tables.{same_role}
 use Rattle.wb_model.proofs.Found.{find_passing}

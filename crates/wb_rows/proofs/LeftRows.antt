@@ -15,7 +15,7 @@ use Rattle.wb_model.specs.Pasts.{AllOpened, standing_hosts, time}
 use Rattle.wb_model.specs.Readable.{IsOwn, AreReadable}
 use Rattle.wb_model.specs.Reopened.{left_time, without_sessions}
 use Rattle.wb_model.specs.Rows as model_rows
-use Rattle.wb_model.specs.Rows.{row, format_row, tenants_rows, settings_data, numbering_data, user_data, context_data, entries_from, of_tenants, settings_rows, numbering_rows, user_rows, form_rows, context_rows, entry_rows, answer_rows}
+use Rattle.wb_model.specs.Rows.{row, format_row, tenants_rows, settings_data, user_data, context_data, entries_from, of_tenants, settings_rows, numbering_rows, user_rows, form_rows, context_rows, entry_rows, answer_rows}
 use Rattle.wb_model.specs.Tables.{Case}
 use Rattle.wb_model.specs.Tenants.{Tenancy}
 use Rattle.wb_model.proofs.Found.{Held as In}

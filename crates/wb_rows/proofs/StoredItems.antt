@@ -42,7 +42,7 @@ use Rattle.wb_model.specs.AnswerRanges.{are_answers}
 use Rattle.wb_model.specs.Readable.{is_byte, are_bytes, are_dates, is_date, is_count, is_withheld, is_stored, is_stored_tenant}
 use Rattle.wb_model.proofs.ReadAnswers.{text_read, got_read, answers_fit}
 use Rattle.wb_terms.proofs.ReadExactly.{read_date-bounds}
-use Rattle.wb_base.proofs.Options.{then_some, map_some, if_some, kept}
+use Rattle.wb_base.proofs.Options.{then_some, map_some, kept}
 
 -- ---- the parts of a row
 

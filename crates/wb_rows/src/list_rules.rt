@@ -5,7 +5,7 @@ ghost use Rattle.wb_base.specs.KeptRows.{key_of};
 ghost use Rattle.wb_model.specs.Openings.{registry_of};
 ghost use Rattle.wb_model.specs.Settings.{is_recipient as is_recipient_in};
 ghost use Rattle.wb_model.specs.SetUps.{same_user_name};
-ghost use Rattle.wb_rows.specs.Blame.{first_breaking, first_repeated as first_repeated_in};
+ghost use Rattle.wb_rows.specs.Blame.{first_breaking};
 ghost use Rattle.wb_rows.specs.ListRules.{has_tenant_rows as has_tenant_rows_in, has_version as has_version_in, follows as follows_in, is_right_context as is_right_context_in, list_fault as list_fault_of};
 ghost use Rattle.wb_rows.specs.Places.{user_key, form_key, context_key};
 

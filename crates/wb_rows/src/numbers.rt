@@ -1,7 +1,7 @@
 //! Whether numbers were drawn, and numberings are such as draws leave.
-ghost use Rattle.std.specs.Prelude.{◌≡◌, ◌==◌, ◌&&◌, ◌||◌, not, is_some, true, find};
+ghost use Rattle.std.specs.Prelude.{◌≡◌, ◌==◌, ◌&&◌, not, is_some, true, find};
 ghost use Rattle.std.specs.List.{list_all};
-ghost use Rattle.std.specs.Option.{option_copied, option_map};
+ghost use Rattle.std.specs.Option.{option_copied};
 ghost use Rattle.wb_model.specs.Opened.{is_numbering as is_numbering_in};
 ghost use Rattle.wb_model.specs.Trails.{submission_in};
 ghost use Rattle.wb_rows.specs.ReportRules.{is_numbering_of, is_drawn as is_drawn_in, is_by_draw as is_by_draw_in, is_right_numbering as is_right_numbering_in};

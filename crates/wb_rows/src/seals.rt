@@ -3,7 +3,6 @@ ghost use Rattle.std.specs.Prelude.{◌≡◌, ◌==◌, ◌&&◌, not, length, 
 ghost use Rattle.std.specs.List.{list_all};
 ghost use Rattle.std.specs.Option.{option_copied, option_map};
 ghost use Rattle.wb_base.specs.FormFaults.{is_good};
-ghost use Rattle.wb_custody.specs.SealedAnswers.{answers_of};
 ghost use Rattle.wb_model.specs.Openings.{registry_of};
 ghost use Rattle.wb_model.specs.Requests.{late_fault};
 ghost use Rattle.wb_model.specs.SetUps.{is_form_item};

@@ -1,5 +1,5 @@
 -- Salts and digests of what is kept with what a setup adds are of their lengths, and holidays are dates, where both are.
-use Rattle.std.proofs.Common.{◌≡◌, ◌==◌, not, true, refl}
+use Rattle.std.proofs.Common.{◌≡◌, not, true}
 use Rattle.std.proofs.lemmas.Bool.{and_parts, and_from}
 use Rattle.std.specs.Cmp.{nat_cmp_total}
 use Rattle.std.specs.List.{list_all}

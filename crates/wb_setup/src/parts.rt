@@ -1,5 +1,5 @@
 //! Lists in a setup.
-ghost use Rattle.std.specs.Prelude.{◌≡◌, Some, None, Option};
+ghost use Rattle.std.specs.Prelude.{Some, None, Option};
 ghost use Rattle.toml.specs.Data.{Data};
 ghost use Rattle.toml.specs.View.{view, items_view};
 ghost use Rattle.wb_setup.specs.TomlValues.{under, all_of, list_of, if_listed};

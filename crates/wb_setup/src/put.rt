@@ -4,7 +4,7 @@ ghost use Rattle.std.specs.Ordering.{nat_cmp};
 ghost use Rattle.wb_list.specs.Keyed.{IsAscending};
 ghost use Rattle.wb_model.specs.Settings.{ascending as ascending_of};
 ghost use Rattle.wb_setup.specs.Keys.{AreInOrder, tenant_key, key_cmp, user_key, version_key, context_key};
-ghost use Rattle.wb_setup.specs.Setups.{tenant_item as tenant_item_of, user_item as user_item_of, context_item as context_item_of, put_tenant, put_user, put_users as put_users_of, put_form, put_context, put_contexts as put_contexts_of, lists_of as lists_by};
+ghost use Rattle.wb_setup.specs.Setups.{tenant_item as tenant_item_of, user_item as user_item_of, context_item as context_item_of, put_tenant, put_users as put_users_of, put_form, put_contexts as put_contexts_of, lists_of as lists_by};
 
 use crate::given::{GivenContext, GivenTenant, GivenUser};
 use crate::ordered::{add, nothing};

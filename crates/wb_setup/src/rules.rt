@@ -6,8 +6,7 @@ ghost use Rattle.std.specs.Result.{result_ok};
 ghost use Rattle.wb_model.specs.Bodies.{form as form_by};
 ghost use Rattle.wb_model.specs.SetUps.{are_apart};
 ghost use Rattle.wb_model.specs.Fits.{are_distinct as distinct_test};
-ghost use Rattle.wb_model.specs.Tables.{same_role};
-ghost use Rattle.wb_setup.specs.Rules.{same_tenant, same_user, same_name, same_form, same_context, is_form_of, is_reader, has_form as has_form_test, has_reader as has_reader_test, fits_readers as fits_readers_test, rule_2 as rule_2_of, rule_3 as rule_3_of, rule_4 as rule_4_of, rule_5 as rule_5_of, rule_7 as rule_7_of, rule_8 as rule_8_of, rule_9 as rule_9_of, form_in as form_of, first_version as first_version_of, first_versions as first_versions_of, forms_of as all_forms_of};
+ghost use Rattle.wb_setup.specs.Rules.{same_tenant, same_user, same_name, same_form, same_context, has_form as has_form_test, has_reader as has_reader_test, fits_readers as fits_readers_test, rule_2 as rule_2_of, rule_3 as rule_3_of, rule_4 as rule_4_of, rule_5 as rule_5_of, rule_7 as rule_7_of, rule_8 as rule_8_of, rule_9 as rule_9_of, form_in as form_of, first_version as first_version_of, first_versions as first_versions_of, forms_of as all_forms_of};
 ghost use Rattle.wb_json.specs.Gives.{Gives};
 
 use crate::given::{GivenContext, GivenForm, GivenTenant, GivenUser};

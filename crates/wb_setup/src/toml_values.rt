@@ -1,8 +1,8 @@
 //! Looking into TOML values.
-ghost use Rattle.std.specs.Prelude.{◌≡◌, ◌≤◌, ◌<◌, ◌≤ℤ◌, ℕ, Some, None, IfOk, IfErr, Err, map, length};
+ghost use Rattle.std.specs.Prelude.{◌≡◌, ◌≤◌, ◌<◌, ◌≤ℤ◌, Some, None, IfOk, Err, map, length};
 ghost use Rattle.std.specs.List.{list_all};
 ghost use Rattle.toml.specs.Data.{as_bool, as_str, table};
-ghost use Rattle.toml.specs.View.{view, items_view, table_view};
+ghost use Rattle.toml.specs.View.{view, items_view};
 ghost use Rattle.wb_model.specs.Bodies.{no_rights};
 ghost use Rattle.wb_model.specs.Fits.{is_lower_hex as lower_hex_test};
 ghost use Rattle.wb_setup.specs.TomlValues.{document, size as size_of, has_only as only_these, under, text, number, whole};

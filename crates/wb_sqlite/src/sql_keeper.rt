@@ -1,5 +1,5 @@
 //! A keeper of rows over a connection.
-ghost use Rattle.std.specs.Prelude.{◌≡◌, ◌≤◌, false, [], List, All, IfOk, OnOk, OnErr, IsTrue};
+ghost use Rattle.std.specs.Prelude.{◌≡◌, false, [], List, All, IfOk, OnOk, OnErr, IsTrue};
 ghost use Rattle.sqlite.specs.Held.{state};
 ghost use Rattle.sqlite.specs.State.{HasCleanDisk};
 ghost use Rattle.sqlite.specs.Steps.{IsEmpty, over_memory};

@@ -1,5 +1,5 @@
 //! Reads and writes that a signal may interrupt, and the count of calls that failed.
-ghost use Rattle.std.specs.Prelude.{◌≡◌, ◌+◌, Ok, is_err, if◌then◌else◌, MatchResult, IsErr, OnOk, OnErr};
+ghost use Rattle.std.specs.Prelude.{◌≡◌, Ok, is_err, if◌then◌else◌, MatchResult, IsErr, OnOk, OnErr};
 ghost use Rattle.std.specs.Io.{ReadsAtMost, WritesAtMost};
 ghost use Rattle.std.specs.Io.KnownBytes.{Appends, ReadConsumes, WriteAppends};
 ghost use Rattle.wb_base.specs.Outside.{AppendsFront, HasCause, one_more};

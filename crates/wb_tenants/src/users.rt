@@ -6,7 +6,6 @@ ghost use Rattle.wb_model.specs.Openings.{registry_of};
 ghost use Rattle.wb_model.specs.Refusing.{refuses_where};
 ghost use Rattle.wb_model.specs.Rows.{row, user_data};
 ghost use Rattle.wb_model.specs.Settings.{disables, times_disabled, password_digest, role_fixed, user_fault as user_fault_in, user_item as user_item_of};
-ghost use Rattle.wb_model.specs.Tables.{user as user_in};
 ghost use Rattle.wb_tenants.specs.Sets.{HasTenant, set_user as user_set, with_user};
 
 use crate::Registry;

@@ -4,7 +4,7 @@ use Rattle.jiff_core.specs.declared.civil.date.Date.{Date}
 use Rattle.jiff_core.specs.declared.span.Span.{Span}
 use Rattle.jiff_core.specs.declared.unit.Unit.TheVariants.{Month, Day, Hour, Minute, Second, Millisecond, Microsecond, Nanosecond}
 use Rattle.jiff_core.specs.Date.{epoch_day}
-use Rattle.jiff_core.specs.Span.{IsOnly, magnitude, span_months, span_days, clock_days}
+use Rattle.jiff_core.specs.Span.{IsOnly, span_months, span_days, clock_days}
 use Rattle.jiff_core.proofs.SignedLemmas.{signed_arith}
 use Rattle.jiff_span.specs.Add.{date_add, CanAddToDate}
 use Rattle.jiff_span.specs.Months.{add_months}

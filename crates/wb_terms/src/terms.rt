@@ -2,7 +2,7 @@
 ghost use Rattle.std.specs.Prelude.{◌≡◌, ◌≤◌, ◌≤ℤ◌, ◌+ℤ◌, pos, neg_ℤ, IfSome};
 ghost use Rattle.jiff_core.specs.Calendar.{IsBetween};
 ghost use Rattle.wb_base.specs.Calendars.{end, after_weekend as next_open, after_holiday as next_after};
-ghost use Rattle.wb_base.specs.Days.{IsDay, IsEarlyDay};
+ghost use Rattle.wb_base.specs.Days.{IsEarlyDay};
 ghost use Rattle.wb_base.specs.Terms.{feedback_months as months_of, ack_due as ack_due_of, expiry as expiry_of, feedback_due as feedback_due_of};
 
 use crate::days::{date_of, days_after, months_after};

@@ -1,5 +1,5 @@
 //! How a lock is made.
-ghost use Rattle.std.specs.Prelude.{◌≡◌, ◌≤◌, [], false, All, IfOk, IfErr, vec_len};
+ghost use Rattle.std.specs.Prelude.{◌≡◌, ◌≤◌, [], All, IfOk, IfErr, vec_len};
 
 use crate::entry::{Guarded, View};
 use crate::lock::TicketLock;

@@ -1,5 +1,5 @@
 //! The steps of a seat at the shared words: draw a ticket, wait for its turn, take the value out, and bring it back.
-ghost use Rattle.std.specs.Prelude.{◌≡◌, ℕ, ◌<◌, ◌≤◌, ◌+◌, ◌^◌, ◌++◌, [], ◌∷◌, true, false, Some, None, MatchBool, MatchOption};
+ghost use Rattle.std.specs.Prelude.{◌≡◌, ℕ, ◌<◌, ◌≤◌, ◌+◌, ◌^◌, [], ◌∷◌, true, false, Some, None, MatchBool, MatchOption};
 ghost use Rattle.wb_ticket_lock.specs.Contents.{Content};
 ghost use Rattle.wb_ticket_lock.specs.Histories.{with_ticket, with_turn, entered, times, places};
 

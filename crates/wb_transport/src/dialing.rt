@@ -1,5 +1,5 @@
 //! What connects to endpoints.
-ghost use Rattle.std.specs.Prelude.{◌≡◌, ◌<◌, ℕ, Option, Some, None, IfOk, OnErr};
+ghost use Rattle.std.specs.Prelude.{◌≡◌, ◌<◌, Some, None, IfOk, OnErr};
 ghost use Rattle.wb_base.specs.Outside.{HasCause};
 ghost use Rattle.wb_transport.specs.Lines.{Line, IsLine};
 ghost use Rattle.wb_transport.specs.Dials.{DialEnd, Dialed, given, after_call, after_close};

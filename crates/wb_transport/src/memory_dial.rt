@@ -1,5 +1,5 @@
 //! A dialer in memory.
-ghost use Rattle.std.specs.Prelude.{◌≡◌, ◌<◌, ◌-◌, ◌++◌, ◌∷◌, [], List, Some, None, is_some, IfOk, OnErr};
+ghost use Rattle.std.specs.Prelude.{◌≡◌, ◌<◌, ◌-◌, [], Some, None, is_some, IfOk, OnErr};
 ghost use Rattle.wb_base.specs.Outside.{HasCause};
 ghost use Rattle.wb_transport.specs.Lines.{Line, IsLine};
 ghost use Rattle.wb_transport.specs.Dials.{Dialed, given, after_call, after_close};

@@ -1,9 +1,9 @@
 //! A listener in memory.
-ghost use Rattle.std.specs.Prelude.{◌≡◌, ◌↔◌, ◌<◌, ◌-◌, ◌+◌, ◌++◌, ◌∷◌, [], List, Some, map, IsErr, IsTrue, IfOk, IfSome, IfNone, OnErr};
+ghost use Rattle.std.specs.Prelude.{◌≡◌, ◌↔◌, ◌<◌, ◌-◌, ◌+◌, ◌++◌, ◌∷◌, [], Some, IsErr, IsTrue, IfOk, IfSome, IfNone, OnErr};
 ghost use Rattle.wb_base.specs.Outside.{HasCause};
 ghost use Rattle.wb_base.specs.MemoryEnds.{fails_next, after_call};
 ghost use Rattle.wb_transport.specs.Lines.{HasGiven, IsLine, Line, Lines};
-ghost use Rattle.wb_transport.specs.MemoryLinks.{LinkState, ListenerState, lines_of, link_end, listener_end};
+ghost use Rattle.wb_transport.specs.MemoryLinks.{ListenerState, lines_of, link_end, listener_end};
 
 use crate::links::Listener;
 use crate::memory_link::MemLink;

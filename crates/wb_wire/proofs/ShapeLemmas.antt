@@ -1,5 +1,5 @@
 -- What the body of a route asks fits, and it never asks for the host's health.
-use Rattle.std.proofs.Common.{◌≡◌, ℕ, ◌==◌, not, nat_le, Bool, true, false, List, [], length, Option, Some, None, IfSome, option_map, option_and_then, refl, sym, ap, subst, ◌∙◌, codes, if◌then◌else◌, inl, inr, arith}
+use Rattle.std.proofs.Common.{◌≡◌, ℕ, ◌==◌, not, nat_le, Bool, true, false, List, [], length, Option, Some, None, IfSome, option_map, option_and_then, refl, sym, ap, ◌∙◌, codes, if◌then◌else◌, inl, inr, arith}
 use Rattle.std.specs.Option.{option_map_or}
 use Rattle.std.specs.Str.{is_utf8}
 use Rattle.std.proofs.lemmas.Bool.{cases_Bool, and_parts}

@@ -2,7 +2,7 @@
 ghost use Rattle.std.specs.Prelude.{◌≡◌, length, map, reverse, All};
 ghost use Rattle.httparse.specs.Grammar.{skip_ows};
 ghost use Rattle.httparse.specs.Spans.{header_bytes, IsHeaderWithin};
-ghost use Rattle.wb_model.specs.Heads.{values, is_close as close_test, says_close as close_said, closes_by};
+ghost use Rattle.wb_model.specs.Heads.{is_close as close_test, says_close as close_said, closes_by};
 
 use crate::cuts::cut;
 use crate::fields::has_name;

@@ -1,5 +1,5 @@
 //! The bytes of replies that need no memory.
-ghost use Rattle.std.specs.Prelude.{◌≡◌, ◌≤◌, ◌+◌, ◌++◌, length, codes, decimal, unwrap_or};
+ghost use Rattle.std.specs.Prelude.{◌≡◌, ◌≤◌, ◌+◌, ◌++◌, length, codes, unwrap_or};
 ghost use Rattle.http.specs.StatusCode.{reason_phrase, status_text};
 ghost use Rattle.std.specs.List.{flat_map};
 ghost use Rattle.wb_model.specs.Replies.{head_text, output_line, allow_line, close_line};

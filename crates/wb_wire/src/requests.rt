@@ -1,6 +1,6 @@
 //! Requests read from their bytes (RFC 9112).
-ghost use Rattle.std.specs.Prelude.{◌≡◌, ◌≢◌, ◌==◌, ◌||◌, ◌≤◌, length, map, take, drop, true, false, All, IfOk, IfErr, Ok, Err, Some, None, option_map};
-ghost use Rattle.httparse.specs.Spans.{header_bytes, IsHeaderWithin};
+ghost use Rattle.std.specs.Prelude.{◌≡◌, ◌≢◌, ◌==◌, ◌||◌, length, true, false, All, IfOk, IfErr, Ok, Err, Some, None, option_map};
+ghost use Rattle.httparse.specs.Spans.{IsHeaderWithin};
 ghost use Rattle.wb_model.specs.declared.command.Asked.{Asked as AskedOf};
 ghost use Rattle.wb_model.specs.declared.command.Command.{Command as CommandOf};
 ghost use Rattle.wb_model.specs.RouteBodies.{bare as bare_of};

@@ -2,7 +2,7 @@
 ghost use Rattle.std.specs.Prelude.{◌≡◌, ◌+◌, ◌≤◌, length, codes, true, OnOk};
 ghost use Rattle.matchit.specs.Route.{parse_route};
 ghost use Rattle.wb_base.specs.AnswerList.{is_text};
-ghost use Rattle.wb_model.specs.Routes.{number_of_path, router as router_of, with_read, with_patterns};
+ghost use Rattle.wb_model.specs.Routes.{number_of_path, with_read, with_patterns};
 ghost use Rattle.wb_wire.specs.Fitting.{fits_in, all_fit};
 ghost use Rattle.wb_wire.specs.Paths.{patterns_of};
 
