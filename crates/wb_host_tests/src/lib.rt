@@ -2,6 +2,8 @@
 #![tactic(auto)]
 
 #[cfg(test)]
+mod formats;
+#[cfg(test)]
 mod hosts;
 #[cfg(test)]
 mod row_texts;

@@ -157,8 +157,8 @@ const ROWS: &[(Place, &str)] = &[
     ((7, 1, 1, 0), r#"{"name":"Eve"}"#),
 ];
 
-// Keeps a row.
-fn keep(keeper: &mut MemKeeper, row: Row) -> Result<(), Fail> {
+/// Keeps a row.
+pub fn keep(keeper: &mut MemKeeper, row: Row) -> Result<(), Fail> {
     if row.key.kind > 7 || row.key.kind == 7 && row.key.b != 0 {
         return Err("a key".into());
     }

@@ -46,7 +46,7 @@ fn asked(alloc: Global, routes: &Routes, text: &str) -> Result<Asked, Fail>
     }
 }
 
-// The turn of a request, so many seconds after the start of 2025 in UTC.
+/// The turn of a request, so many seconds after the start of 2025 in UTC.
 pub fn turn(
     alloc: Global,
     routes: &Routes,
