@@ -1,1 +1,1 @@
-mod AskedRows
+mod PickedRows

@@ -1,12 +1,12 @@
 -- What a request that looks at something is shown.
-use Rattle.std.specs.Prelude.{◌≡◌, ℕ, Option, Some, List, [], Bool, true, false, unwrap_or}
+use Rattle.std.specs.Prelude.{◌≡◌, ◌&&◌, ℕ, Option, Some, List, [], Bool, true, false, unwrap_or}
 use Rattle.wb_model.specs.declared.body.Told.{Told}
 use Rattle.wb_model.specs.declared.registry.ContextItem.{ContextItem}
 use Rattle.wb_model.specs.declared.registry.FormItem.{FormItem}
 use Rattle.wb_model.specs.Changes.{TurnContext}
 use Rattle.wb_model.specs.Effects as effects
 use Rattle.wb_model.specs.Effects.{Effect}
-use Rattle.wb_model.specs.Commands.{effect_of}
+use Rattle.wb_model.specs.Commands.{Need, Anyone, Staff, effect_of, is_reading, kind_of, need}
 use Rattle.wb_model.specs.Json.{told}
 use Rattle.wb_model.specs.Refusals.{not_found}
 use Rattle.wb_model.specs.Rules.{shown}
@@ -19,27 +19,29 @@ use Rattle.wb_model.specs.Requests.{outline}
 use Rattle.wb_model.specs.Access.{in_force}
 use Rattle.wb_model.specs.Views.{identity_view as identity_data}
 use Rattle.wb_model.specs.declared.command.Command.{Command}
-use Rattle.wb_model.specs.declared.command.Command.TheVariants as commands
 use Rattle.wb_base.specs.declared.callers.Presented.{Presented}
 use Rattle.wb_custody.specs.SealedAnswers.{answers_of}
 use Rattle.wb_custody.specs.declared.sealed.SealedItem.{SealedItem}
 use Rattle.wb_tables.specs.Kept.{live_plain, plain_of}
 use Rattle.wb_tables.specs.TurnContexts.{at_of}
 
+-- a command asks no session
+abbrev is_for_all : Need → Bool
+is_for_all Anyone = true
+is_for_all _ = false
+
+-- a command is for users of a role, on no report
+abbrev is_for_users : Need → Bool
+is_for_users (Staff role) = true
+is_for_users _ = false
+
 -- anyone is shown something
 abbrev pub is_shown_to_all : Command → Bool
-is_shown_to_all commands.Health = true
-is_shown_to_all (commands.Public t) = true
-is_shown_to_all (commands.ContextOf t c) = true
-is_shown_to_all _ = false
+is_shown_to_all command = is_reading (kind_of command) && is_for_all (need command)
 
 -- a user is shown something that is no single report
 abbrev pub is_shown_to_users : Command → Bool
-is_shown_to_users (commands.List t) = true
-is_shown_to_users (commands.DueList t) = true
-is_shown_to_users (commands.Requests t) = true
-is_shown_to_users (commands.Admin t) = true
-is_shown_to_users _ = false
+is_shown_to_users command = is_reading (kind_of command) && is_for_users (need command)
 
 -- the request looks at something, which may not be there
 abbrev pub IsLook : Effect → Type 0

@@ -122,18 +122,13 @@ fn list(alloc: Global, tenancy: &Tenancy, at: &TurnContext, user: UserId) -> Res
     Ok(ok(list_view(alloc, rows.as_slice())?))
 }
 
-// What is due on the live reports that a user reads, report by report.
-fn dues_of(
-    alloc: Global,
-    cases: &[BoxedReport],
-    today: Day,
-    user: UserId,
-) -> Result<Vec<Due>, Memory>
-    ensures { IfOk result (λ rows. rows.items ≡ rows_of.dues (rows_of.readable user (filter (lives_on today) (map case_of cases.now)))) }
+// What is due on the live reports that a user reads, report by report. It looks at those alone on which something is due.
+fn dues_of(alloc: Global, cases: &Cases, today: Day, user: UserId) -> Result<Vec<Due>, Memory>
+    ensures { IfOk result (λ rows. rows.items ≡ rows_of.dues (rows_of.readable user (filter (lives_on today) (map case_of cases.now.items)))) }
 {
     let mut rows = Vec::new(alloc);
-    for filed in cases {
-        let report = filed.report();
+    for at in 0..cases.due_len() {
+        let report = cases.due_at(at);
         if is_listed(report, today, user) {
             push_dues(&mut rows, report.number, &report.case)?;
         }
@@ -147,7 +142,7 @@ fn dues(alloc: Global, tenancy: &Tenancy, at: &TurnContext, user: UserId) -> Res
     ensures { IfOk result (λ t. t ≡ told 200 (lists.due_view (rows_of.all_due (rows_of.readable user (live_plain at.now.time (plain_of tenancy.now)).cases)) (day_at at.now.time tenancy.now.configuration.registry.settings.offset))) }
 {
     let today = today_at(tenancy, at.time);
-    let mut rows = dues_of(alloc, tenancy.cases.as_slice(), today, user)?;
+    let mut rows = dues_of(alloc, &tenancy.cases, today, user)?;
     sort_dues(&mut rows)?;
     Ok(ok(due_view(alloc, rows.as_slice(), today)?))
 }

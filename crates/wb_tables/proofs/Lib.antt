@@ -6,11 +6,11 @@ pub mod Lookups
 pub mod NotedReports
 pub mod PlacesAt
 pub mod Purges
-mod AskedNumbers
-mod AskedReports
 mod Configurations
 mod DeadNumbers
 mod EarlyReports
 mod LateSessions
+mod NumberedReports
 mod ReceiptTables
+mod ReportNumbers
 mod SessionLists

@@ -1,15 +1,18 @@
--- The reports of a tenant, and the indexes of the days on which they expire and of those that have requests.
+-- The reports of a tenant, and the indexes of the days on which they expire, of those that have requests and of those on which something is due.
 use Rattle.std.specs.Prelude.{◌≡◌, ◌≤◌, ℕ, ℤ, ◌==◌, not, Bool, true, false, List, [], ◌∷◌, length, map, filter, if◌then◌else◌}
 use Rattle.std.specs.List.{list_any, list_all}
+use Rattle.std.specs.Ordering.{nat_cmp}
 use Rattle.wb_base.specs.declared.kind.Kind.TheVariants.{Expiry}
+use Rattle.wb_list.specs.Keyed.{has_key, insert_item}
 use Rattle.wb_model.specs.Access.{requests}
 use Rattle.wb_model.specs.Opened.{Apart}
 use Rattle.wb_model.specs.Tables.{Case, has_number}
 use Rattle.wb_model.specs.Trails.{expires}
+use Rattle.wb_model.specs.ViewRows.{dues_of}
 use Rattle.wb_terms.specs.Index.{same_term}
 use Rattle.wb_terms.specs.declared.term_index.Term.{Term}
 use Rattle.wb_tables.specs.Lives.{lives_on, is_dead}
-use Rattle.wb_tables.specs.declared.asked.Asked.{Asked}
+use Rattle.wb_tables.specs.declared.numbered.Numbered.{Numbered}
 use Rattle.wb_tables.specs.declared.tenancy.Report.{Report}
 
 -- what is seen of the table: whose reports they are, the reports, and the room for more
@@ -62,6 +65,19 @@ AreFewRequests (c ∷ cs) = (length (requests c.trail) ≤ 100) × AreFewRequest
 abbrev pub has_requests : Case → Bool
 has_requests c = not (length (requests c.trail) == 0)
 
--- the index has the numbers of the reports that have requests, in their order
-abbrev pub AreAsked : List Case → List Asked → Type 0
-AreAsked cs asked = map (λ (a : Asked). a.number) asked ≡ map (λ (c : Case). c.number) (filter has_requests cs)
+-- ---- what is due
+
+-- something is due on a report
+abbrev pub has_dues : Case → Bool
+has_dues c = not (length (dues_of c.number c.trail) == 0)
+
+-- ---- the indexes of those that pass a test
+
+-- the index has their numbers, in their order
+abbrev pub AreNumbersOf : (Case → Bool) → List Case → List Numbered → Type 0
+AreNumbersOf passes cs index = map (λ (n : Numbered). n.number) index ≡ map (λ (c : Case). c.number) (filter passes cs)
+
+-- the index with a number that belongs to it, or without one that does not
+abbrev pub number_where : Bool → ℕ → List Numbered → List Numbered
+number_where true n index = insert_item nat_cmp (λ (k : Numbered). k.number) index (record { number = n })
+number_where false n index = filter (λ k. not (has_key nat_cmp (λ (k : Numbered). k.number) n k)) index

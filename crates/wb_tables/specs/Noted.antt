@@ -16,6 +16,8 @@ use Rattle.wb_model.specs.declared.entry.Entry.{Entry}
 use Rattle.wb_model.specs.Access.{requests}
 use Rattle.wb_model.specs.Legal.{right_actor}
 use Rattle.wb_model.specs.Trails.{has_identity, expires, submission_in}
+use Rattle.wb_tables.specs.Indexed.{has_dues}
+use Rattle.wb_tables.specs.Lives.{case_of}
 use Rattle.wb_tables.specs.declared.noting.NotedEntry.{NotedEntry}
 use Rattle.wb_tables.specs.declared.tenancy.Report.{Report}
 
@@ -48,10 +50,11 @@ pub record IsMoved (at : ℕ) (by : Actor) (move : Move) (old new : Report) (ans
   pub plan : custody.GivesPlan (length old.case.items) (has_identity old.case.items) old.desk.items at by move answer
   pub roomy : IfOk answer (λ e. HasRoomToNote e new)
 
--- an entry was noted, before which the report expired on one day and after which on another, and after which it has requests or none
+-- an entry was noted, before which the report expired on one day and after which on another, and after which it has requests or none, and something is due on it or not
 pub record IsNoted (e : Entry) (old new : Report) (answer : NotedEntry) : Type 0 where
   pub items : new.case.items ≡ old.case.items ++ e ∷ []
   pub requests : (before : List Entry) → old.desk.items ≡ requests before → new.desk.items ≡ requests (before ++ e ∷ [])
   pub before_is : answer.before ≡ expires old.case.items
   pub after_is : answer.after ≡ expires new.case.items
   pub asked_is : answer.has_requests ≡ not (length new.desk.items == 0)
+  pub due_is : answer.has_dues ≡ has_dues (case_of new)

@@ -1,4 +1,4 @@
-//! The reports of a tenant, the days on which they expire, and their receipts.
+//! The reports of a tenant, the days on which they expire, those that have requests or something due, and their receipts.
 ghost use Rattle.std.specs.Prelude.{◌≡◌, ◌+◌, ◌<◌, ◌≤◌, ◌++◌, ◌∷◌, [], ℕ, true, false, not, length, map, filter, slice_get, List, None, Some, IfOk, OnOk, OnErr, IfSome, OnSome, IfNone, option_map};
 ghost use Rattle.std.specs.List.{list_any};
 ghost use Rattle.std.specs.Option.{option_copied};
@@ -13,16 +13,16 @@ ghost use Rattle.wb_model.specs.Opened.{AtMost};
 ghost use Rattle.wb_model.specs.Tables.{has_number, is_there, others, report as report_by, with_receipt as with_receipt_by};
 ghost use Rattle.wb_model.specs.Trails.{has_identity, submitted};
 ghost use Rattle.wb_model.specs.declared.entry.Entry.{Entry as EntryData};
-ghost use Rattle.wb_tables.specs.Indexed.{AreCustodied, AreExpired, AreFewRequests, IsTakenOut, expiry_of, has_requests, moved};
+ghost use Rattle.wb_tables.specs.Indexed.{AreCustodied, AreExpired, AreFewRequests, IsTakenOut, expiry_of, has_dues as has_dues_by, has_requests, moved};
 ghost use Rattle.wb_tables.specs.Lives.{AreEarly, HasEarlyDays, case_of, lives_on};
 ghost use Rattle.wb_tables.specs.Noted.{IsReadyNote};
 ghost use Rattle.wb_tables.specs.Receipted.{HasOwnReceipt, is_submitted};
 ghost use Rattle.wb_terms.specs.Index.{same_term};
 ghost use Rattle.wb_terms.specs.declared.term_index.Term.{Term as TermData};
 
-use crate::asked::{Asked, put_asked};
 use crate::boxed_report::{BoxedReport, report_in};
-use crate::noting::{Acting, Moving, Noting, expires};
+use crate::noting::{Acting, Moving, Noting, expires, has_dues};
+use crate::numbered::{Numbered, put_where};
 use crate::tenancy::Report;
 use std::alloc::Global;
 use std::marker::Model;
@@ -33,27 +33,28 @@ use wb_model::{Act, Actor, CaseFault, CustodyFault, Deed, Entry, Move};
 use wb_terms::{Term, TermIndex};
 
 /// The reports of a tenant, in the order of their numbers. Those that do not live on a day, those that have requests for
-/// their identity, and that with a receipt, are found without a walk over the others.
+/// their identity, those on which something is due, and that with a receipt, are found without a walk over the others.
 #[derive(Drop)]
 pub struct Cases {
     tenant: Tenant,
     cases: Sorted<BoxedReport>,
-    asked: Sorted<Asked>,
+    asked: Sorted<Numbered>,
+    due: Sorted<Numbered>,
     terms: TermIndex,
     receipts: ReceiptBox,
 }
 
 impl Model for Cases {
     ghost use Rattle.std.specs.Prelude.{map, min};
-    ghost use Rattle.wb_tables.specs.Indexed.{Reports, IsIndexed, AreCustodied, AreAsked};
+    ghost use Rattle.wb_tables.specs.Indexed.{Reports, IsIndexed, AreCustodied, AreNumbersOf, has_requests, has_dues};
     ghost use Rattle.wb_tables.specs.Lives.{case_of};
     ghost use Rattle.wb_tables.specs.Receipted.{AreReceipted};
 
     ghost Value = { Reports };
 
-    ghost view = { λ c. record { tenant = c.tenant; items = c.cases.items; spare = min (min c.cases.spare c.asked.spare) (min c.terms.spare c.receipts.spare) } };
+    ghost view = { λ c. record { tenant = c.tenant; items = c.cases.items; spare = min (min c.cases.spare (min c.asked.spare c.due.spare)) (min c.terms.spare c.receipts.spare) } };
 
-    ghost invariant = { λ c. IsIndexed c.tenant (map case_of c.cases.items) c.terms.items × AreCustodied c.cases.items × AreReceipted c.tenant (map case_of c.cases.items) c.receipts.items × AreAsked (map case_of c.cases.items) c.asked.items };
+    ghost invariant = { λ c. IsIndexed c.tenant (map case_of c.cases.items) c.terms.items × AreCustodied c.cases.items × AreReceipted c.tenant (map case_of c.cases.items) c.receipts.items × AreNumbersOf has_requests (map case_of c.cases.items) c.asked.items × AreNumbersOf has_dues (map case_of c.cases.items) c.due.items };
 }
 
 // The day on which a report expires, as a term.
@@ -104,6 +105,7 @@ impl Cases {
             tenant,
             cases: Sorted::new(alloc),
             asked: Sorted::new(alloc),
+            due: Sorted::new(alloc),
             terms: TermIndex::new(alloc),
             receipts: ReceiptBox::new(alloc),
         }
@@ -156,6 +158,26 @@ impl Cases {
         }
     }
 
+    /// On how many reports something is due.
+    pub fn due_len(&self) -> usize
+        ensures { result ≡ length (filter has_dues_by (map case_of self.now.items)) }
+    {
+        self.due.len()
+    }
+
+    /// The report at a place among those on which something is due, counted from 0 in the order of their numbers, found by
+    /// binary search.
+    pub fn due_at(&self, at: usize) -> &Report
+        requires there { at < length (filter has_dues_by (map case_of self.now.items)) }
+        ensures { slice_get (filter has_dues_by (map case_of self.now.items)) at ≡ Some (case_of result.now) }
+    {
+        let number = self.due.get(at).number;
+        match report_in(self.cases.find(&number.get())) {
+            Some(report) => report,
+            None => unreachable!(),
+        }
+    }
+
     /// Makes room for one more report, or one more entry of one.
     pub fn reserve(&mut self) -> Result<(), Memory>
         ensures tenant { self.new.tenant ≡ self.old.tenant }
@@ -165,6 +187,7 @@ impl Cases {
     {
         self.terms.reserve(1)?;
         self.asked.reserve(1)?;
+        self.due.reserve(1)?;
         if self.receipts.reserve().is_err() {
             return Err(Memory);
         }
@@ -189,8 +212,10 @@ impl Cases {
         let term = expiry(self.tenant, report);
         let number = report.number;
         let has_requests = report.desk.len() != 0;
+        let has_dues = has_dues(report);
         self.cases.add(filed);
-        put_asked(&mut self.asked, number, has_requests);
+        put_where(&mut self.asked, number, has_requests);
+        put_where(&mut self.due, number, has_dues);
         self.terms.add(term);
         self.receipts.add(self.tenant, digest, number);
     }
@@ -259,7 +284,8 @@ impl Cases {
             kind: Kind::Expiry,
         };
         move_term(&mut self.terms, term, noted.after);
-        put_asked(&mut self.asked, number, noted.has_requests);
+        put_where(&mut self.asked, number, noted.has_requests);
+        put_where(&mut self.due, number, noted.has_dues);
     }
 
     /// The numbers of the reports that do not live on this day. It takes no memory where there are none.
@@ -286,6 +312,7 @@ impl Cases {
             unreachable!();
         };
         self.asked.take(&number.get());
+        self.due.take(&number.get());
         self.terms.remove(&expiry(self.tenant, report));
         self.receipts.remove(self.tenant, &digest);
     }

@@ -1,7 +1,6 @@
 //! The tables of all tenants: what is kept, looked up at a time, purged and counted. They know no route.
 #![tactic(auto)]
 
-mod asked;
 mod boxed_report;
 mod cases;
 mod configuration;
@@ -9,6 +8,7 @@ mod counts;
 mod dead;
 mod deletion;
 mod noting;
+mod numbered;
 mod proposal;
 mod purge;
 mod reports;

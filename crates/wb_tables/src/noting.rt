@@ -1,12 +1,14 @@
 //! What is planned and done on a report in its place in the table.
 ghost use Rattle.std.specs.Prelude.{◌≡◌};
 ghost use Rattle.wb_model.specs.Trails.{expires as expires_by};
+ghost use Rattle.wb_tables.specs.Indexed.{has_dues as has_dues_by};
+ghost use Rattle.wb_tables.specs.Lives.{case_of};
 
 use crate::boxed_report::BoxedReport;
 use crate::tenancy::Report;
 use wb_base::{Calendar, Day, Moment};
 use wb_list::ItemChange;
-use wb_model::{Act, Actor, CaseFault, CustodyFault, Entry, Move};
+use wb_model::{Act, Actor, CaseFault, CustodyFault, Entry, Move, Status};
 
 /// An act that is planned on a tenant's calendar.
 #[derive(Drop)]
@@ -74,12 +76,13 @@ impl ItemChange<BoxedReport> for Moving {
 pub(crate) struct Noting(pub(crate) Entry);
 
 /// What the indexes have of a report and an entry: the days on which it expired before the entry and expires after it,
-/// and whether it has requests after it.
+/// and whether it has requests after it, and something is due on it.
 #[derive(Clone, Copy)]
 pub(crate) struct NotedEntry {
     pub(crate) before: Day,
     pub(crate) after: Day,
     pub(crate) has_requests: bool,
+    pub(crate) has_dues: bool,
 }
 
 // The day on which a report expires.
@@ -87,6 +90,14 @@ pub(crate) fn expires(report: &Report) -> Day
     ensures { result ≡ expires_by report.now.case.items }
 {
     report.case.summary().expires
+}
+
+// Whether something is due on a report: it is open, and was not acknowledged or got no feedback.
+pub(crate) fn has_dues(report: &Report) -> bool
+    ensures { result ≡ has_dues_by (case_of report.now) }
+{
+    let summary = report.case.summary();
+    summary.status != Status::Closed && (summary.acknowledged.is_none() || !summary.feedback_given)
 }
 
 impl ItemChange<BoxedReport> for Noting {
@@ -107,6 +118,7 @@ impl ItemChange<BoxedReport> for Noting {
             before,
             after: expires(report),
             has_requests: report.desk.len() != 0,
+            has_dues: has_dues(report),
         }
     }
 }

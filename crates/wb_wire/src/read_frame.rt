@@ -9,7 +9,7 @@ use std::alloc::{AllocError, Global};
 use wb_base::Source;
 use wb_list::Items;
 
-/// The longest line of a frame has 95 bytes.
+/// The longest line of a frame has 87 bytes before its line feed.
 pub const LINE_ROOM: usize = 96;
 
 /// How the reading of a line ended.

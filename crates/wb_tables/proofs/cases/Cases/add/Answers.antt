@@ -1,18 +1,15 @@
 use Rattle.std.proofs.Common.{◌≡◌, ◌<◌, ◌++◌, ◌==◌, ◌&&◌, ◌∷◌, [], ℕ, List, length, map, find, Some, None, not, cond, sym, ap, ◌∙◌, subst}
-use Rattle.std.specs.Ordering.{nat_cmp}
 use Rattle.wb_access.specs.Receipts.{number_of}
 use Rattle.wb_base.specs.Secrets.{same_digest}
 use Rattle.wb_base.specs.declared.words.Digest.{Digest}
-use Rattle.wb_list.specs.Keyed.{insert_item}
 use Rattle.wb_model.specs.Opened.{AtMost}
-use Rattle.wb_tables.specs.Indexed.{Reports, IsIndexed, AreCustodied, AreAsked, expiry_of}
+use Rattle.wb_tables.specs.Indexed.{Reports, IsIndexed, AreCustodied, AreNumbersOf, expiry_of, has_dues, has_requests, number_where}
 use Rattle.wb_tables.specs.Lives.{case_of}
 use Rattle.wb_tables.specs.Receipted.{AreReceipted, HasOwnReceipt}
-use Rattle.wb_tables.specs.declared.asked.Asked.{Asked}
 use Rattle.wb_tables.specs.declared.tenancy.Report.{Report}
 use Rattle.wb_terms.specs.Index.{same_term}
 use Rattle.wb_terms.specs.declared.term_index.Term.{Term}
-use Rattle.wb_tables.proofs.AskedReports.{asked_more}
+use Rattle.wb_tables.proofs.NumberedReports.{numbers_more}
 use Rattle.wb_tables.proofs.CaseLists.{absent_above, insert_above, map_push}
 use Rattle.wb_tables.proofs.Indexes.{free_term, indexed_more}
 use Rattle.wb_tables.proofs.NotedReports.{custodied_pushed}
@@ -50,9 +47,14 @@ invariant_of-self c =
       subst (λ (cs : List _). AreReceipted c.self.inside.tenant cs c.add-3.new.self.items) (sym (ap (map case_of) more ∙ map_push c.self.inside.cases.items c.args.filed))
           (receipted_more c.self.inside.tenant (map case_of c.self.inside.cases.items) c.self.inside.receipts.items c.add-3.new.self.items (case_of c.args.filed) c.in-Some.digest c.self.invariant.2 (given_is c.as_slice.result.now c.args.filed.case.items c.in-Some.digest (c.as_slice.ensures ∙ (c.trail.ensures ∙ ap (λ (r : Report). r.case.items) c.report-report.ensures)) c.requires.submitted c.in-Some.ensures) own c.requires.submitted
           (subst (λ (r : Report). (t : ℕ) (e : Digest) → number_of t e c.add-3.new.self.items ≡ cond ((c.self.inside.tenant == t) && same_digest c.in-Some.digest e) (Some r.number) (number_of t e c.self.inside.receipts.items)) c.report-report.ensures c.add-3.ensures.found)),
-      subst (λ (cs : List _). AreAsked cs c.put_asked.new.index.items) (sym (ap (map case_of) more ∙ map_push c.self.inside.cases.items c.args.filed))
-          (asked_more a.0 (map case_of c.self.inside.cases.items) c.self.inside.asked.items c.put_asked.new.index.items c.args.filed c.len-has_requests.result c.self.invariant.3 c.requires.custodied a.1.0 a.1.1 (c.len-has_requests.ensures ∙ ap (λ (r : Report). length r.desk.items) c.report-report.ensures)
-          (subst (λ (r : Report). c.put_asked.new.index.items ≡ cond (not (c.len-has_requests.result == 0)) (insert_item nat_cmp (λ (x : Asked). x.number) c.self.inside.asked.items (record { number = r.number })) c.self.inside.asked.items) c.report-report.ensures c.put_asked.ensures.items)),
+      subst (λ (cs : List _). AreNumbersOf has_requests cs c.put_where.new.index.items) (sym (ap (map case_of) more ∙ map_push c.self.inside.cases.items c.args.filed))
+          (numbers_more has_requests a.0 (map case_of c.self.inside.cases.items) c.self.inside.asked.items c.put_where.new.index.items c.args.filed _ c.self.invariant.3 a.1.0 a.1.1
+          (ap (λ k. not (k == 0)) (c.len-has_requests.ensures ∙ (ap (λ (r : Report). length r.desk.items) c.report-report.ensures ∙ ap length c.requires.custodied)))
+          (subst (λ (r : Report). c.put_where.new.index.items ≡ number_where (not (c.len-has_requests.result == 0)) r.number c.self.inside.asked.items) c.report-report.ensures c.put_where.ensures.items)),
+      subst (λ (cs : List _). AreNumbersOf has_dues cs c.put_where-2.new.index.items) (sym (ap (map case_of) more ∙ map_push c.self.inside.cases.items c.args.filed))
+          (numbers_more has_dues a.0 (map case_of c.self.inside.cases.items) c.self.inside.due.items c.put_where-2.new.index.items c.args.filed c.has_dues-has_dues.result c.self.invariant.4 a.1.0 a.1.1
+          (c.has_dues-has_dues.ensures ∙ ap (λ (r : Report). has_dues (case_of r)) c.report-report.ensures)
+          (subst (λ (r : Report). c.put_where-2.new.index.items ≡ number_where c.has_dues-has_dues.result r.number c.self.inside.due.items) c.report-report.ensures c.put_where-2.ensures.items)),
     )
 
 pub returns-clause-items : goal.returns-clause-items

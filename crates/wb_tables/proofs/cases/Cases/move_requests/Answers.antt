@@ -1,7 +1,7 @@
 use Rattle.std.proofs.Common.{◌≡◌, map, find, Some, sym, ap, ◌∙◌, subst}
 use Rattle.std.specs.Ordering.{nat_cmp}
 use Rattle.wb_list.specs.Keyed.{has_key}
-use Rattle.wb_tables.specs.Indexed.{Reports, IsIndexed, AreCustodied, AreAsked}
+use Rattle.wb_tables.specs.Indexed.{Reports, IsIndexed, AreCustodied, AreNumbersOf, has_dues, has_requests}
 use Rattle.wb_tables.specs.Lives.{case_of}
 use Rattle.wb_tables.specs.Receipted.{AreReceipted}
 use Rattle.wb_tables.proofs.CaseLists.{number_of}
@@ -23,7 +23,8 @@ invariant_of-self c =
       subst (λ cs. IsIndexed c.self.inside.tenant cs c.self.inside.terms.items) (sym same) c.self.invariant.0,
       subst AreCustodied (sym made.5) (moved_custodied c.args.number c.args.at c.args.by c.args.move_ c.self.inside.cases.items made.0 made.1 c.change.result c.self.invariant.1 found made.4),
       subst (λ cs. AreReceipted c.self.inside.tenant cs c.self.inside.receipts.items) (sym same) c.self.invariant.2,
-      subst (λ cs. AreAsked cs c.self.inside.asked.items) (sym same) c.self.invariant.3,
+      subst (λ cs. AreNumbersOf has_requests cs c.self.inside.asked.items) (sym same) c.self.invariant.3,
+      subst (λ cs. AreNumbersOf has_dues cs c.self.inside.due.items) (sym same) c.self.invariant.4,
     )
 
 pub returns-clause-cases : goal.returns-clause-cases

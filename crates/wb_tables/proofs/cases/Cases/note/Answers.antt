@@ -1,10 +1,10 @@
 use Rattle.std.proofs.Common.{◌≡◌, map, find, Some, sym, ap, ◌∙◌, subst}
 use Rattle.std.specs.Ordering.{nat_cmp}
 use Rattle.wb_list.specs.Keyed.{has_key}
-use Rattle.wb_tables.specs.Indexed.{Reports, IsIndexed, AreCustodied, AreAsked}
+use Rattle.wb_tables.specs.Indexed.{Reports, IsIndexed, AreCustodied, AreNumbersOf, has_dues, has_requests}
 use Rattle.wb_tables.specs.Lives.{case_of}
 use Rattle.wb_tables.specs.Receipted.{AreReceipted}
-use Rattle.wb_tables.proofs.AskedReports.{asked_noted}
+use Rattle.wb_tables.proofs.NumberedReports.{has_requests_is, numbers_noted}
 use Rattle.wb_tables.proofs.CaseLists.{number_of}
 use Rattle.wb_tables.proofs.NotedReports.{before_there, after_free, noted_cases, noted_index, noted_custodied}
 use Rattle.wb_tables.proofs.ReceiptTables.{receipted_noted}
@@ -31,8 +31,11 @@ invariant_of-self c =
       subst AreCustodied (sym made.5) (noted_custodied c.args.number c.args.entry c.self.inside.cases.items made.0 made.1 c.change-noted.result c.self.invariant.1 found made.4),
       subst (λ cs. AreReceipted c.self.inside.tenant cs c.self.inside.receipts.items) (sym (ap (map case_of) made.5 ∙ noted_cases c.args.number c.args.entry c.self.inside.cases.items made.0 made.1 c.change-noted.ensures.ascending found made.3 made.4.items))
           (receipted_noted c.self.inside.tenant c.args.number c.args.entry (map case_of c.self.inside.cases.items) c.self.inside.receipts.items c.requires.ready.later c.self.invariant.2),
-      subst (λ cs. AreAsked (map case_of cs) c.put_asked.new.index.items) (sym made.5)
-          (asked_noted c.args.number c.args.entry c.self.inside.cases.items c.self.inside.asked.items c.put_asked.new.index.items made.0 made.1 c.change-noted.result c.self.invariant.3 c.self.invariant.1 c.change-noted.ensures.ascending found made.3 made.4 c.put_asked.ensures.items),
+      subst (λ cs. AreNumbersOf has_requests (map case_of cs) c.put_where.new.index.items) (sym made.5)
+          (numbers_noted has_requests c.args.number c.self.inside.cases.items c.self.inside.asked.items c.put_where.new.index.items made.0 made.1 c.change-noted.result.has_requests c.self.invariant.3 c.change-noted.ensures.ascending found made.3
+          (has_requests_is c.args.number c.args.entry c.self.inside.cases.items made.0 made.1 c.change-noted.result c.self.invariant.1 found made.4) c.put_where.ensures.items),
+      subst (λ cs. AreNumbersOf has_dues (map case_of cs) c.put_where-2.new.index.items) (sym made.5)
+          (numbers_noted has_dues c.args.number c.self.inside.cases.items c.self.inside.due.items c.put_where-2.new.index.items made.0 made.1 c.change-noted.result.has_dues c.self.invariant.4 c.change-noted.ensures.ascending found made.3 made.4.due_is c.put_where-2.ensures.items),
     )
 
 pub returns-clause-cases : goal.returns-clause-cases

@@ -2,10 +2,10 @@ use Rattle.std.proofs.Common.{◌≡◌, map, find, Some, None, ap, sym, ◌∙�
 use Rattle.std.specs.Ordering.{nat_cmp}
 use Rattle.wb_list.specs.Keyed.{has_key}
 use Rattle.wb_model.specs.Tables.{has_number}
-use Rattle.wb_tables.specs.Indexed.{Reports, expiry_of}
+use Rattle.wb_tables.specs.Indexed.{Reports, expiry_of, has_dues, has_requests}
 use Rattle.wb_tables.specs.Lives.{case_of}
 use Rattle.wb_tables.specs.declared.tenancy.Report.{Report}
-use Rattle.wb_tables.proofs.AskedReports.{asked_left}
+use Rattle.wb_tables.proofs.NumberedReports.{numbers_left}
 use Rattle.wb_tables.proofs.CaseLists.{number_of}
 use Rattle.wb_tables.proofs.Indexes.{removed, none_left, left_cases, left_custodied}
 use Rattle.wb_tables.proofs.NotedReports.{report_is}
@@ -46,7 +46,8 @@ invariant_of-self-2 c =
       rw (cases, c.remove.ensures.items, term) (removed c.self.inside.tenant (map case_of items) c.self.inside.terms.items c.self.invariant.0 c.args.number (case_of filed) there),
       left_custodied c.args.number items c.take.new.self.items left c.self.invariant.1,
       rw cases (receipted_left c.self.inside.tenant c.args.number (map case_of items) c.self.inside.receipts.items c.remove-2.new.self.items (case_of filed) c.in-Some-receipt.digest c.self.invariant.0.apart c.self.invariant.2 there is c.remove-2.ensures.found),
-      rw cases (asked_left c.args.number (map case_of items) c.self.inside.asked.items c.take-2.new.self.items (rw c.get-2.ensures.value at c.take-2.ensures.others) c.self.invariant.3),
+      rw cases (numbers_left has_requests c.args.number (map case_of items) c.self.inside.asked.items c.take-2.new.self.items (rw c.get-2.ensures.value at c.take-2.ensures.others) c.self.invariant.3),
+      rw cases (numbers_left has_dues c.args.number (map case_of items) c.self.inside.due.items c.take-3.new.self.items (rw c.get-3.ensures.value at c.take-3.ensures.others) c.self.invariant.4),
     )
 
 pub returns-clause-left : goal.returns-clause-left

@@ -1,23 +1,22 @@
 -- The numbers of the reports that pass a test, in their order, after a change of the table.
-use Rattle.std.proofs.Common.{◌≡◌, ℕ, zero, suc, ◌<◌, ◌≤◌, ◌++◌, Bool, true, false, cond, not, List, [], ◌∷◌, map, find, Option, Some, None, refl, sym, ap, ◌∙◌, arith}
+use Rattle.std.proofs.Common.{◌≡◌, ℕ, zero, suc, ◌<◌, ◌≤◌, ◌++◌, Bool, true, false, cond, not, List, [], ◌∷◌, map, Option, Some, None, refl, sym, ap, ◌∙◌, arith}
 use Rattle.std.specs.Prelude.{◌==◌, filter, slice_get}
 use Rattle.std.specs.List.{AllByRecursion}
 use Rattle.std.specs.List.Sorted.{IsStrictlySortedBy}
 use Rattle.std.specs.Option.{option_map}
-use Rattle.std.specs.Ordering.{nat_cmp, is_eq, match_ordering}
+use Rattle.std.specs.Ordering.{nat_cmp, match_ordering}
 use Rattle.std.specs.Cmp.{nat_cmp_is}
 use Rattle.std.specs.declared.cmp.Ordering.{Ordering}
 use Rattle.std.specs.declared.cmp.Ordering.TheVariants.{Less, Equal, Greater}
 use Rattle.std.proofs.lemmas.Bool.Decides.{nat_tests}
 use Rattle.std.proofs.lemmas.Cmp.{ranked}
 use Rattle.std.proofs.lemmas.Option.{slice_get-map}
-use Rattle.wb_list.specs.Keyed.{IsAscending, has_key, insert_item}
+use Rattle.wb_list.specs.Keyed.{IsAscending, insert_item}
 use Rattle.wb_model.specs.Opened.{Apart, AtMost}
 use Rattle.wb_model.specs.Tables.{Case, has_number, report, others}
 use Rattle.wb_tables.specs.Lives.{case_of}
 use Rattle.wb_tables.specs.declared.tenancy.Report.{Report as KeptCase}
 use Rattle.wb_tables.proofs.CaseLists.{number_of}
-use Rattle.wb_tables.proofs.NotedReports.{none_above}
 
 -- the numbers with one more at its place
 abbrev pub put_number : List ℕ → ℕ → List ℕ
@@ -71,35 +70,50 @@ module _ (p : Case → Bool) where
           let less : y.number < c.number = ranked c.number y.number Greater (sym side) in
           rw (e, is) (put_first c.number y.number cs ascending.0 (omega (arith, less)))
 
-  one_more : (c : Case) (cs ds : List Case) → numbers cs ≡ numbers ds → numbers (c ∷ cs) ≡ numbers (c ∷ ds)
-  one_more c cs ds e = by (p c)
-    where
-      by : (b : Bool) → map number (cond b (c ∷ filter p cs) (filter p cs)) ≡ map number (cond b (c ∷ filter p ds) (filter p ds))
-      by true = ap (λ ks. c.number ∷ ks) e
-      by false = e
+  -- the numbers without one
+  abbrev pub without : ℕ → List ℕ → List ℕ
+  without n ks = filter (λ k. not (k == n)) ks
 
-  other_first : (c d : Case) (cs : List Case) → c.number ≡ d.number → p c ≡ p d → numbers (c ∷ cs) ≡ numbers (d ∷ cs)
-  other_first c d cs same is = ap (λ b. map number (cond b (c ∷ filter p cs) (filter p cs))) is ∙ by (p d)
+  -- without one below all, they are as they were
+  above_stay : (m n : ℕ) (cs : List KeptCase) → AllByRecursion (λ k. nat_cmp m k ≡ Less) (map number_of cs) → n ≤ m → without n (numbers (map case_of cs)) ≡ numbers (map case_of cs)
+  above_stay m n [] all le = refl
+  above_stay m n (c ∷ cs) all le = by (p (case_of c)) (above_stay m n cs all.1 le)
     where
-      by : (b : Bool) → map number (cond b (c ∷ filter p cs) (filter p cs)) ≡ map number (cond b (d ∷ filter p cs) (filter p cs))
-      by true = ap (λ k. k ∷ numbers cs) same
-      by false = refl
+      by : (b : Bool) → without n (numbers (map case_of cs)) ≡ numbers (map case_of cs)
+          → without n (map number (cond b (case_of c ∷ filter p (map case_of cs)) (filter p (map case_of cs)))) ≡ map number (cond b (case_of c ∷ filter p (map case_of cs)) (filter p (map case_of cs)))
+      by true later =
+          let less : m < c.number = ranked m c.number Less (sym all.0) in
+          let other : (c.number == n) ≡ false = grind (arith, nat_tests, less, le) in
+          rw other (ap (λ ks. c.number ∷ ks) later)
+      by false later = later
 
-  -- one that passes as it passed before leaves them
-  pub stay : (cs : List KeptCase) (x y : KeptCase) → IsAscending nat_cmp number_of cs → find (has_key nat_cmp number_of y.number) cs ≡ Some x → y.number ≡ x.number → p (case_of y) ≡ p (case_of x) → numbers (map case_of (insert_item nat_cmp number_of cs y)) ≡ numbers (map case_of cs)
+  -- one that does not pass takes its number out
+  pub gone : (cs : List KeptCase) (y : KeptCase) → IsAscending nat_cmp number_of cs → p (case_of y) ≡ false → without y.number (numbers (map case_of cs)) ≡ numbers (map case_of (insert_item nat_cmp number_of cs y))
   unfolding IsStrictlySortedBy
-  stay [] x y ascending found same is = absurd (grind (arith, found))
-  stay (c ∷ cs) x y ascending found same is = by (λ e. stay cs x y ascending.1 e same is) (nat_cmp c.number y.number) refl found
+  gone [] y ascending is = sym (first_fails (case_of y) [] is)
+  gone (c ∷ cs) y ascending is = by (nat_cmp c.number y.number) refl (p (case_of c)) refl (gone cs y ascending.1 is)
     where
-      by : (find (has_key nat_cmp number_of y.number) cs ≡ Some x → numbers (map case_of (insert_item nat_cmp number_of cs y)) ≡ numbers (map case_of cs)) → (r : Ordering) → nat_cmp c.number y.number ≡ r → cond (is_eq r) (Some c) (find (has_key nat_cmp number_of y.number) cs) ≡ Some x
-          → numbers (map case_of (match_ordering r (c ∷ insert_item nat_cmp number_of cs y) (y ∷ cs) (y ∷ c ∷ cs))) ≡ numbers (case_of c ∷ map case_of cs)
-      by later Less side e = one_more (case_of c) (map case_of (insert_item nat_cmp number_of cs y)) (map case_of cs) (later e)
-      by later Equal side e =
-          let here : x ≡ c = cc e in
-          other_first (case_of y) (case_of c) (map case_of cs) (same ∙ ap number_of here) (is ∙ ap (λ z. p (case_of z)) here)
-      by later Greater side e =
+      by : (r : Ordering) → nat_cmp c.number y.number ≡ r → (b : Bool) → p (case_of c) ≡ b → without y.number (numbers (map case_of cs)) ≡ numbers (map case_of (insert_item nat_cmp number_of cs y))
+          → without y.number (numbers (case_of c ∷ map case_of cs)) ≡ numbers (map case_of (match_ordering r (c ∷ insert_item nat_cmp number_of cs y) (y ∷ cs) (y ∷ c ∷ cs)))
+      by Less side true e later =
+          let less : c.number < y.number = ranked c.number y.number Less (sym side) in
+          let other : (c.number == y.number) ≡ false = grind (arith, nat_tests, less) in
+          rw (e, other) (ap (λ ks. c.number ∷ ks) later)
+      by Less side false e later = rw e later
+      by Equal side true e later =
+          let same : c.number ≡ y.number = ranked c.number y.number Equal (sym side) in
+          let hit : (c.number == y.number) ≡ true = grind (arith, nat_tests, same) in
+          rw (e, hit, is) (above_stay c.number y.number cs ascending.0 (omega (arith, same)))
+      by Equal side false e later =
+          let same : y.number ≤ c.number = omega (arith, ranked c.number y.number Equal (sym side)) in
+          rw (e, is) (above_stay c.number y.number cs ascending.0 same)
+      by Greater side true e later =
           let less : y.number < c.number = ranked c.number y.number Greater (sym side) in
-          absurd (cc (e, none_above c.number y.number cs ascending.0 less))
+          let other : (c.number == y.number) ≡ false = grind (arith, nat_tests, less) in
+          rw (e, other, is) (ap (λ ks. c.number ∷ ks) (above_stay c.number y.number cs ascending.0 (omega (arith, less))))
+      by Greater side false e later =
+          let less : y.number < c.number = ranked c.number y.number Greater (sym side) in
+          rw (e, is) (above_stay c.number y.number cs ascending.0 (omega (arith, less)))
 
   -- ---- one more, and one less
 
@@ -114,18 +128,24 @@ module _ (p : Case → Bool) where
           rw (e, less) (ap (λ ks. d.number ∷ ks) later)
       by false e later = rw e later
 
-  -- one that does not pass leaves them
-  pub not_last : (cs : List Case) (c : Case) → p c ≡ false → numbers cs ≡ numbers (cs ++ c ∷ [])
-  not_last [] c is = sym (first_fails c [] is)
-  not_last (d ∷ cs) c is = one_more d cs (cs ++ c ∷ []) (not_last cs c is)
+  -- and one that does not pass is not there
+  pub not_last : (last : ℕ) (cs : List Case) (c : Case) → AtMost last cs → last < c.number → p c ≡ false → without c.number (numbers cs) ≡ numbers (cs ++ c ∷ [])
+  not_last last [] c most lt is = sym (first_fails c [] is)
+  not_last last (d ∷ cs) c most lt is = by (p d) refl (not_last last cs c most.1 lt is)
+    where
+      by : (b : Bool) → p d ≡ b → without c.number (numbers cs) ≡ numbers (cs ++ c ∷ []) → without c.number (numbers (d ∷ cs)) ≡ numbers (d ∷ (cs ++ c ∷ []))
+      by true e later =
+          let other : (d.number == c.number) ≡ false = grind (arith, nat_tests, most.0, lt) in
+          rw (e, other) (ap (λ ks. d.number ∷ ks) later)
+      by false e later = rw e later
 
   -- without those of a number
-  pub left : (n : ℕ) (cs : List Case) → filter (λ k. not (k == n)) (numbers cs) ≡ numbers (others n cs)
+  pub left : (n : ℕ) (cs : List Case) → without n (numbers cs) ≡ numbers (others n cs)
   left n [] = refl
   left n (c ∷ cs) = by (p c) refl (c.number == n) refl (left n cs)
     where
-      by : (b : Bool) → p c ≡ b → (d : Bool) → (c.number == n) ≡ d → filter (λ k. not (k == n)) (numbers cs) ≡ numbers (others n cs)
-          → filter (λ k. not (k == n)) (numbers (c ∷ cs)) ≡ numbers (cond (not d) (c ∷ others n cs) (others n cs))
+      by : (b : Bool) → p c ≡ b → (d : Bool) → (c.number == n) ≡ d → without n (numbers cs) ≡ numbers (others n cs)
+          → without n (numbers (c ∷ cs)) ≡ numbers (cond (not d) (c ∷ others n cs) (others n cs))
       by true e true f later = rw (e, f) later
       by true e false f later = rw (e, f) (ap (λ ks. c.number ∷ ks) later)
       by false e true f later = rw e later
