@@ -11,6 +11,7 @@ mod MoreTurns
 mod Numbers
 mod OwnSessions
 mod PastTurns
+mod Reopened
 mod Requests
 mod Rooms
 mod SessionCounts

@@ -1,11 +1,12 @@
 -- What a host begins with that is opened over what is kept and a setup.
-use Rattle.std.specs.Prelude.{◌≡◌, ℕ, List, Ok}
+use Rattle.std.specs.Prelude.{◌≡◌, ℕ, List, Ok, filter}
 use Rattle.wb_base.specs.declared.rows.Row.{Row}
 use Rattle.wb_model.specs.declared.registry.Lists.{Lists}
 use Rattle.wb_model.specs.Past.{Past, Opening}
-use Rattle.wb_model.specs.Pasts.{AllOpened}
+use Rattle.wb_model.specs.Pasts.{AllOpened, has_tenant as stood}
+use Rattle.wb_model.specs.Reopened.{left_hosts, left_time}
 use Rattle.wb_model.specs.SetUps.{tenant_ids}
-use Rattle.wb_model.specs.Tenants.{Hosts}
+use Rattle.wb_model.specs.Tenants.{Hosts, Tenancy}
 use Rattle.wb_rows.specs.declared.faults.RowFault.{RowFault}
 use Rattle.wb_rows.specs.declared.faults.RowFault.TheVariants.{BadRow, BadSet, Memory}
 use Rattle.wb_rows.specs.Held.{Held}
@@ -45,6 +46,12 @@ pub record IsOpenedBy (loaded : List Row) (setup : List ℕ) (start : Past AllOp
   pub opening : AllOpened
   pub over : IsOpeningOver lists held opening
   pub opens : start ≡ Opening opening
+
+-- a host before its first turn where one was left: at the greatest moment that is kept. Of its tenants those that stood are as they were left
+pub record IsReopened (before : Past AllOpened) (hosts : Hosts) : Type 0 where
+  pub turns : hosts.turns ≡ 0
+  pub now : hosts.now ≡ left_time before
+  pub list : filter (λ (x : Tenancy). stood before x.id) hosts.list ≡ (left_hosts before).list
 
 -- ---- faults
 

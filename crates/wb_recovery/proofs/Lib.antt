@@ -1,6 +1,6 @@
+pub mod NewTenants
 pub mod OpenedPlaces
 mod KeptReports
 mod LaterMoments
-mod NewTenants
 mod OwnRows
 mod OwnSettings

@@ -86,7 +86,7 @@ module _ (at : ℕ) (xs : List Tenancy) (up : ascends (ids xs) ≡ true) (readab
   pub sealed_back : (x : Tenancy) → In x xs → (n : ℕ) → (held_of xs).sealed x.id n ≡ x.tables.sealed n
   sealed_back x h n = ap (λ (o : Option Tenancy). option_map_or (λ (z : Tenancy). z.tables.sealed n) o None) (found x h)
 
-  tables_back : (x : Tenancy) → In x xs → tables_of (held_of xs) x.id ≡ without_sessions x.tables
+  pub tables_back : (x : Tenancy) → In x xs → tables_of (held_of xs) x.id ≡ without_sessions x.tables
   tables_back x h = λ i. record {
     plain = record { registry = registry_back xs up own order x h i; numbering = numbering_back x h i; cases = cases_back x h i; sessions = [] };
     sealed = λ n. sealed_back x h n i;

@@ -18,6 +18,7 @@ mod KeptMoments
 mod KeptReceipts
 mod KeptSetUp
 mod KeptTables
+mod LeftHosts
 mod LeftItems
 mod LeftRows
 mod LeftTables

@@ -5,12 +5,15 @@ use Rattle.wb_row_codec.specs.declared.item.NumberingItem.{NumberingItem}
 use Rattle.wb_model.specs.LeftLists.{of_each, lists_of}
 use Rattle.wb_model.specs.ByVerdicts.{AreByVerdicts}
 use Rattle.wb_model.specs.Past.{Past}
-use Rattle.wb_model.specs.Pasts.{AllOpened, part, has_tenant, standing_hosts, time}
+use Rattle.wb_model.specs.Pasts.{AllOpened, part, tenants, has_tenant, standing_hosts, time}
 use Rattle.wb_model.specs.Readable.{AreRanged, OpensReadable}
+use Rattle.wb_model.specs.Reopened.{left_tables, left_time}
+use Rattle.wb_model.specs.SetUps.{tenant_ids}
 use Rattle.wb_model.specs.Tables.{Case}
 use Rattle.wb_model.specs.Tenants.{Tenancy, has_id}
 use Rattle.wb_rows.specs.Reports.{Report}
 use Rattle.wb_rows.specs.Held.{Held}
+use Rattle.wb_rows.specs.Openings.{tables_of, time_of}
 
 abbrev pub numbering_item : Tenancy → NumberingItem
 numbering_item x = record { tenant = x.id; numbering = x.tables.plain.numbering }
@@ -32,6 +35,12 @@ held_of xs = record {
 -- what the hosts of a past hold
 abbrev pub left : Past AllOpened → Held
 left past = held_of (standing_hosts past).list
+
+-- that is what they left: their tenants, the greatest moment that is kept, and each tenant's tables without sessions
+pub record HoldsWhatIsLeft (past : Past AllOpened) (h : Held) : Type 0 where
+  pub tenants : tenant_ids h.lists ≡ tenants past
+  pub time : time_of h ≡ left_time past
+  pub tables : (t : ℕ) → has_tenant past t ≡ true → tables_of h t ≡ left_tables past t
 
 -- a past whose rows are read back: verdicts made it, of requests in their ranges and at moments in theirs, from an opening whose rows are
 pub record IsReadBack (past : Past AllOpened) : Type 0 where

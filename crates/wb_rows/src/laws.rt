@@ -19,7 +19,7 @@ ghost use Rattle.wb_rows.specs.Held.{Held};
 ghost use Rattle.wb_rows.specs.HeldRows.{rows_of as rows_held, rows_in};
 ghost use Rattle.wb_rows.specs.HeldItems.{items_of};
 ghost use Rattle.wb_rows.specs.Judged.{judged};
-ghost use Rattle.wb_rows.specs.Left.{left, IsReadBack};
+ghost use Rattle.wb_rows.specs.Left.{left, HoldsWhatIsLeft, IsReadBack};
 ghost use Rattle.wb_rows.specs.Openings.{with_setup, AreReadableIn, HasNothingElse};
 ghost use Rattle.wb_setup.specs.Joined.{joined};
 ghost use Rattle.std.specs.List.{list_all};
@@ -38,13 +38,14 @@ pub fn what_was_written_in_format_1_is_read()
 {}
 
 /// The rows that the hosts of a past leave are refused by no rule, and are read as what the hosts hold: tables that keep the
-/// rules, with each value in its range.
+/// rules, with each value in its range. What they hold is what they left: all but sessions, at the greatest moment.
 ///
 /// Verdicts made the past, of requests in their ranges and at moments in theirs, from an opening whose rows are read back.
 pub fn what_hosts_leave_is_read()
     ensures good { (past : Past AllOpened) → IsReadBack past → AreGood (left_time past) (left past) }
     ensures rows { (past : Past AllOpened) → IsReadBack past → rows_held (left past) ≡ rows past }
     ensures read { (past : Past AllOpened) → IsReadBack past → judged (rows past) ≡ Ok (left past) }
+    ensures left { (past : Past AllOpened) → IsReadBack past → HoldsWhatIsLeft past (left past) }
 {}
 
 /// What a host is opened with, over tables that were read and a setup, is such that the rows of its hosts are read back.
