@@ -14,8 +14,8 @@ use Rattle.wb_front.specs.declared.answers.Replied.{Replied}
 use Rattle.wb_front.specs.declared.connection.Ended.{Ended}
 use Rattle.wb_front.specs.declared.connection.Ended.TheVariants as ended
 use Rattle.wb_front.specs.Answers.{IsRepliedTo, IsFatal}
-use Rattle.wb_front.specs.Arrivals.{Flows}
-use Rattle.wb_front.specs.Endings.{IsOpenYet, IsEnded, SendsRefusal}
+use Rattle.wb_front.specs.Arrivals.{Flows, IsUnfinished}
+use Rattle.wb_front.specs.Endings.{IsOpenYet, IsWaiting, IsEnded, SendsRefusal}
 use Rattle.wb_wire.specs.Responses.{refusal, reply_of}
 use Rattle.wb_front.specs.Served.{Exchange, IsExchange, IsReply, replies, reply_bytes, said, sides_at, Sides, HasExchanged, HasReplied}
 use Rattle.wb_front.proofs.Serving.{read_on, served_more, sent_more, refused_more, stay_more, length_more}
@@ -37,8 +37,8 @@ module _ {O : Type 0} (Ran : O → Frame → Told → O → Type 0) (a : Sides O
   within : length xs ≤ 1000
   within = omega (arith, room)
 
-  waiting : IsOpenYet Ran a read xs held'
-  waiting = record { replied = record { served = served; sent = sent }; stay = yet.stay }
+  waiting : IsWaiting Ran a read xs held'
+  waiting = record { yet = record { replied = record { served = served; sent = sent }; stay = yet.stay }; room = room }
 
   -- no more bytes came, between two requests
   pub at_end : IsCut held' Nothing → IsAtEnd link'.left → IsEnded Ran a read ended.Closed
@@ -47,6 +47,10 @@ module _ {O : Type 0} (Ran : O → Frame → Told → O → Type 0) (a : Sides O
   -- or inside one
   pub in_part : IsCut held' Part → IsAtEnd link'.left → IsEnded Ran a read ended.CutShort
   in_part cut ends = (xs, held', (waiting, cut, ends), within)
+
+  -- the link failed
+  pub no_more : IsUnfinished held' → IsEnded Ran a read ended.ReadFault
+  no_more cut = (xs, held', (waiting, cut), within)
 
   -- the ticker failed
   pub no_tick : (size : ℕ) (bytes : List ℕ) (asked : Asked) (clock' : Clock) (own' : O) → bytes ≡ take size held' → Reads bytes (Asks asked) → clock'.left ≡ clock.left → own' ≡ own → IsEnded Ran a (sides_at link' clock' own') ended.ClockFault

@@ -29,12 +29,12 @@ tells_by : {O : Type 0} (Ran : O → Frame → Told → O → Type 0) (a b : Sid
 tells_by Ran a b xs held l g bytes left got h sent = let one = still_left Ran a b xs held l left h in let two = grown a.got b.got g bytes got sent in (one.0, two.0, one.1, two.1)
 
 tells_so : {O : Type 0} (Ran : O → Frame → Told → O → Type 0) (a b : Sides O) (xs : List Exchange) (held l g : List ℕ) (how : Ended) → a.left ≡ Some l → a.got ≡ Some g → EndsSo Ran a b xs held how → StillTells b
-tells_so Ran a b xs held l g ended.Closed left got (inl h) = tells_by Ran a b xs held l g _ left got h.0.replied.served h.0.replied.sent
+tells_so Ran a b xs held l g ended.Closed left got (inl h) = tells_by Ran a b xs held l g _ left got h.0.yet.replied.served h.0.yet.replied.sent
 tells_so Ran a b xs held l g ended.Closed left got (inr h) = tells_by Ran a b xs held l g _ left got h.0.served h.0.sent
-tells_so Ran a b xs held l g ended.CutShort left got h = tells_by Ran a b xs held l g _ left got h.0.replied.served h.0.replied.sent
-tells_so Ran a b xs held l g ended.ReadFault left got h = tells_by Ran a b xs held l g _ left got h.0.replied.served h.0.replied.sent
+tells_so Ran a b xs held l g ended.CutShort left got h = tells_by Ran a b xs held l g _ left got h.0.yet.replied.served h.0.yet.replied.sent
+tells_so Ran a b xs held l g ended.ReadFault left got h = tells_by Ran a b xs held l g _ left got h.0.yet.replied.served h.0.yet.replied.sent
 tells_so Ran a b xs held l g ended.WriteFault left got h = tells_by Ran a b xs held l g _ left got h.0 h.1.sent
-tells_so Ran a b xs held l g ended.ClockFault left got h = tells_by Ran a b xs held l g _ left got h.0.replied.served h.0.replied.sent
+tells_so Ran a b xs held l g ended.ClockFault left got h = tells_by Ran a b xs held l g _ left got h.0.yet.replied.served h.0.yet.replied.sent
 tells_so Ran a b xs held l g ended.Spent left got h = tells_by Ran a b xs held l g _ left got h.0.replied.served h.0.replied.sent
 tells_so Ran a b xs held l g (ended.Refused fault) left got (inl h) = tells_by Ran a b xs held l g _ left got h.served h.sent
 tells_so Ran a b xs held l g (ended.Refused fault) left got (inr h) = tells_by Ran a b xs held l g _ left got h.0.served h.0.sent

@@ -19,6 +19,11 @@ pub record IsOpenYet {O : Type 0} (Ran : O → Frame → Told → O → Type 0) 
   pub replied : HasReplied Ran a b xs held
   pub stay : StayOpen xs
 
+-- so it is after fewer than a thousand exchanges: one more request would have its reply
+pub record IsWaiting {O : Type 0} (Ran : O → Frame → Told → O → Type 0) (a b : Sides O) (xs : List Exchange) (held : List ℕ) : Type 0 where
+  pub yet : IsOpenYet Ran a b xs held
+  pub room : length xs < 1000
+
 -- the last exchange closes, and no fault that ends a connection is the reason
 abbrev pub IsClosed : List Exchange → Type 0
 IsClosed xs = (x : Exchange) × ClosesLast xs x × IsFatal None x.reply x.tick
@@ -47,11 +52,11 @@ pub record IsCutOff {O : Type 0} (a b : Sides O) (xs : List Exchange) (held : Li
 
 -- by the exchanges that were made and the bytes that were read besides
 abbrev pub EndsSo : {O : Type 0} → (O → Frame → Told → O → Type 0) → Sides O → Sides O → List Exchange → List ℕ → Ended → Type 0
-EndsSo Ran a b xs held ended.Closed = (IsOpenYet Ran a b xs held × (held ≡ []) × IsAtEnd b.left) ⊎ (HasReplied Ran a b xs held × IsClosed xs)
-EndsSo Ran a b xs held ended.CutShort = IsOpenYet Ran a b xs held × IsCut held Part × IsAtEnd b.left
-EndsSo Ran a b xs held ended.ReadFault = IsOpenYet Ran a b xs held × IsUnfinished held
+EndsSo Ran a b xs held ended.Closed = (IsWaiting Ran a b xs held × (held ≡ []) × IsAtEnd b.left) ⊎ (HasReplied Ran a b xs held × IsClosed xs)
+EndsSo Ran a b xs held ended.CutShort = IsWaiting Ran a b xs held × IsCut held Part × IsAtEnd b.left
+EndsSo Ran a b xs held ended.ReadFault = IsWaiting Ran a b xs held × IsUnfinished held
 EndsSo Ran a b xs held ended.WriteFault = HasExchanged Ran a b xs held × IsCutOff a b xs held
-EndsSo Ran a b xs held ended.ClockFault = IsOpenYet Ran a b xs held × AsksNext held
+EndsSo Ran a b xs held ended.ClockFault = IsWaiting Ran a b xs held × AsksNext held
 EndsSo Ran a b xs held ended.Spent = IsOpenYet Ran a b xs held × (length xs ≡ 1000)
 EndsSo Ran a b xs held (ended.Refused fault) = IsRefusedHead Ran a b fault xs held ⊎ (HasReplied Ran a b xs held × IsRefusedLast fault xs)
 EndsSo Ran a b xs held ended.Memory = b ≡ a

@@ -6,7 +6,7 @@ use Rattle.wb_front.specs.Endings.{IsOpenYet}
 use Rattle.wb_front.specs.Served.{Exchange, Sides, sides_at}
 use Rattle.wb_front.proofs.Serving.{nothing_yet, length_more}
 use Rattle.wb_front.proofs.Sending.{as_said}
-use Rattle.wb_front.proofs.Connecting.{at_end, in_part, no_tick, refused, write_cut, closed, more}
+use Rattle.wb_front.proofs.Connecting.{at_end, in_part, no_more, no_tick, refused, write_cut, closed, more}
 use Rattle.wb_front.proofs.connection.serve_connection.Goals as goal
 
 pub returns-in_default-clause-ended : goal.returns-in_default-clause-ended
@@ -16,6 +16,13 @@ pub loop-before-init : goal.loop-before-init
 loop-before-init g c =
     let a : Sides _ = sides_at (g.L.Link.end c.args.link.now) (g.T.Ticker.end c.args.ticker.now) c.args.own.now in
     (([], subst (IsOpenYet (λ own frame told own'. g.G.Gate.ran own frame told own') a a []) (sym c.in-Ok.ensures) (nothing_yet (λ own frame told own'. g.G.Gate.ran own frame told own') a), refl), refl, c.requires.of, refl, refl)
+
+pub returns-in_default-next-clause-ended : goal.returns-in_default-next-clause-ended
+returns-in_default-next-clause-ended g c =
+    let a : Sides _ = sides_at (g.L.Link.end c.args.link.now) (g.T.Ticker.end c.args.ticker.now) c.args.own.now in
+    let inv = c.loop-before.invariant.0 in
+    no_more (λ own frame told own'. g.G.Gate.ran own frame told own') a (g.L.Link.end c.loop-before.link) (g.T.Ticker.end c.loop-before.ticker) c.loop-before.own inv.0 c.loop-before.inbox inv.1 (omega (arith, inv.2, c.loop-before-test.true)) c.next.new.self (g.L.Link.end c.next.new.link) c.in_default-next.ensures.flows c.in_default-next.ensures.got
+    c.in_default-next.ensures.unfinished
 
 pub returns-in-End-clause-ended : goal.returns-in-End-clause-ended
 returns-in-End-clause-ended g c =

@@ -38,6 +38,20 @@ returns-in-Ok-clause-served g c =
       ),
     )
 
+pub returns-in-Ok-clause-ended : goal.returns-in-Ok-clause-ended
+returns-in-Ok-clause-ended g c =
+    let closed = c.in-Ok.closed in
+    let opened = c.in-Ok.ensures.opened in
+    record {
+      later = subst (λ (d : Standing). IsLater d closed.turns closed.desk) c.requires.opened opened.2;
+      turns = opened.0 ∙ ap (λ (d : Standing). d.turns + closed.turns) c.requires.opened;
+      numbers = opened.1 ∙ ap (λ (d : Standing). numbers_of (hosts_of d) + closed.numbers) c.requires.opened;
+      left = c.in_ok-all-in-Mutex.ensures.left;
+      failed = c.in_ok-all-in-Mutex.ensures.failed;
+      kept = c.in-Ok.ensures.kept;
+      honest = λ h. c.requires.honest.1 (c.in-Ok.ensures.honest h);
+    }
+
 pub returns-in-Ok-close_tickets-clause-served : goal.returns-in-Ok-close_tickets-clause-served
 returns-in-Ok-close_tickets-clause-served g c =
     let t = c.in-Ok-over.tickets in
