@@ -43,11 +43,14 @@ HidesInReply t r h f told = (k : Hosts) (b : Frame) → AllHostsAlike t r h k �
 abbrev pub HidesInHosts : ℕ → ℕ → Hosts → Frame → Hosts → Type 0
 HidesInHosts t r h f h' = (k : Hosts) (b : Frame) → AllHostsAlike t r h k → OneLaterAlike t r h f b → AllHostsAlike t r h' (hosts_after k b)
 
+-- and where the turn is the submission that makes the report, so are both for two that differ in its identity answers alone
+abbrev pub HidesInSubmission : ℕ → ℕ → Hosts → Frame → Told → Hosts → Type 0
+HidesInSubmission t r h f told h' = (b : Frame) → FirstAlike t r h f b → f.asked.close ≡ b.asked.close → (is_report_reader t r h f ≡ false → told ≡ hosts_reply h b) × AllHostsAlike t r h' (hosts_after h b)
+
 pub record IsSealed (t r : ℕ) (h : Hosts) (f : Frame) (told : Told) (h' : Hosts) : Type 0 where
   pub reply : HidesInReply t r h f told
   pub hosts : HidesInHosts t r h f h'
-  -- and so it is where the turn is the submission that makes the report
-  pub first : (b : Frame) → FirstAlike t r h f b → f.asked.close ≡ b.asked.close → (is_report_reader t r h f ≡ false → told ≡ hosts_reply h b) × AllHostsAlike t r h' (hosts_after h b)
+  pub first : HidesInSubmission t r h f told h'
 
 -- where report r of tenant t is not live after it, the desk stands for the past in which its submission only drew a number
 abbrev pub IsAbsent : ℕ → ℕ → Hosts → Frame → Hosts → Type 0

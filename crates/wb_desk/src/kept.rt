@@ -16,8 +16,7 @@ use std::sync::ledger::{Blank, Book, Ledger, Share};
 use wb_base::{Keeper, Moment, Words, limits};
 use wb_model::{
     Asked, Command, Told, a_host_opens_again, a_turn_is_not_answered_as_spent,
-    alike_scripts_get_the_same_replies, an_accepted_submission_draws_a_number,
-    hosts_stand_for_their_past, verdicts_keep_trails_legal,
+    an_accepted_submission_draws_a_number, verdicts_keep_trails_legal,
 };
 
 /// A desk and its keeper, with the book of its turns (A) and that of the numbers that it drew (B). Its type says over which desk they were
@@ -138,8 +137,6 @@ impl<K: Keeper, A: Origin, B: Ledger> Kept<K, A, B> {
     {
         an_accepted_submission_draws_a_number();
         a_turn_is_not_answered_as_spent();
-        alike_scripts_get_the_same_replies();
-        hosts_stand_for_their_past();
         self.desk.stands();
         self.turn_book.audit(&mut pass.turn_share);
         self.number_book.audit(&mut pass.number_share);

@@ -11,10 +11,28 @@ use Rattle.wb_model.specs.Pasts.{AllOpened, standing_hosts}
 use Rattle.wb_model.specs.Playing.{IsPlaceOf, ArePlacesOf, written}
 use Rattle.wb_model.specs.Readings.{Reading, Asks, Reads}
 use Rattle.wb_model.specs.Rows.{rows, rows_but}
-use Rattle.wb_model.specs.Scripts.{Place, Reply, frame_of, play, script_replies, past_after}
+use Rattle.wb_model.specs.Scripts.{Place, Reply, Played, frame_of, play, script_replies, past_after}
 use Rattle.wb_model.specs.ScriptsAlike.{AskAlike, PlaceAlike, AllPlacesAlike, FollowWhere, PlacesAlike, is_accepted, hidden_replies}
-use Rattle.wb_promise.specs.Headline.{FramesAsk, frame_asking, FrameAlike, AllFramesAlike, FramesFollow, ScriptFramesAlike, AreLostAlike, AreAnsweredAlike, KeepsIdentities}
+use Rattle.wb_promise.specs.Headline.{FramesAsk, frame_asking, FrameAlike, AllFramesAlike, FramesFollow, ScriptFramesAlike, AreLostAlike, is_accepted_at, AreAnsweredTheSame, HidesSubmission, KeepsIdentities}
+use Rattle.wb_promise.proofs.RefusedSubmissions.{played_same}
 use Rattle.wb_desk.specs.Openings.{IsOpenedBy}
+
+-- ---- scripts that end the same
+
+-- the replies are the same, and the past at the end
+abbrev EndTheSame : Past AllOpened → List Place → Past AllOpened → List Place → Type 0
+EndTheSame past ps other qs = (script_replies past ps ≡ script_replies other qs) × (past_after past ps ≡ past_after other qs)
+
+-- so do the same places from one past
+same_start : (past other : Past AllOpened) (ps qs : List Place) → past ≡ other → ps ≡ qs → EndTheSame past ps other qs
+same_start past other ps qs e same = ((λ i. script_replies (e i) (same i)), (λ i. past_after (e i) (same i)))
+
+-- and places at the first of which the same is played, where the rest do
+same_after : (past other : Past AllOpened) (p q : Place) (ps qs : List Place) → play past p ≡ play other q → EndTheSame (play past p).past ps (play other q).past qs → EndTheSame past (p ∷ ps) other (q ∷ qs)
+same_after past other p q ps qs e rest = ((λ i. (e i).reply ∷ rest.0 i), rest.1)
+
+answered_the_same : (past : Past AllOpened) (ps qs : List Place) → EndTheSame past ps past qs → AreAnsweredTheSame past past ps qs
+answered_the_same past ps qs same = record { replies = ap (map written) same.0; rows = ap rows same.1 }
 
 -- ---- bytes are read in one way
 module _ (one_reading : (bytes : List ℕ) (a b : Reading) → Reads bytes a → Reads bytes b → a ≡ b) where
@@ -86,6 +104,29 @@ module _ (one_reading : (bytes : List ℕ) (a b : Reading) → Reads bytes a →
   alike_places zero t r past (f ∷ fs) (g ∷ gs) (p ∷ ps) [] x y a l = absurd y
   alike_places (suc i) t r past (f ∷ fs) (g ∷ gs) (p ∷ ps) [] x y a l = absurd y
 
+  -- where the submission was not accepted, the scripts end the same
+  same_ends : (i t r : ℕ) (past : Past AllOpened) (fs gs : List ScriptFrame) (ps qs : List Place) → ArePlacesOf fs ps → ArePlacesOf gs qs → AreLostAlike ps qs → ScriptFramesAlike i t r past fs ps gs → is_accepted_at i past ps ≡ false → EndTheSame past ps past qs
+  same_ends zero t r past (f ∷ fs) (g ∷ gs) (p ∷ ps) (q ∷ qs) x y a l off =
+      let ask = ask_places (FirstAlike t r (standing_hosts past)) f g p q x.0 y.0 a.0 l.0 in
+      let played : play past p ≡ play past q = played_same t r past p q ask (x.0.drawn ∙ (l.0.words ∙ sym y.0.drawn)) off in
+      let rest : fs ≡ gs = subst (λ b. FramesFollow b t r (play past p).past fs ps gs) off l.1 in
+      same_after past past p q ps qs played (same_start (play past p).past (play past q).past ps qs (ap (λ (z : Played). z.past) played) (same_places fs gs ps qs x.1 y.1 a.1 rest))
+  same_ends (suc i) t r past (f ∷ fs) (g ∷ gs) (p ∷ ps) (q ∷ qs) x y a l off =
+      by (of_one f g p q x.0 y.0 a.0 l.0) (same_ends i t r (play past p).past fs gs ps qs x.1 y.1 a.1 l.1 off)
+    where
+      by : p ≡ q → EndTheSame (play past p).past ps (play past p).past qs → EndTheSame past (p ∷ ps) past (q ∷ qs)
+      by e rest = subst (λ z. EndTheSame past (p ∷ ps) past (z ∷ qs)) e (same_after past past p p ps qs refl rest)
+  same_ends zero t r past [] gs ps qs x y a l off = absurd l
+  same_ends (suc i) t r past [] gs ps qs x y a l off = absurd l
+  same_ends zero t r past (f ∷ fs) [] [] qs x y a l off = absurd x
+  same_ends zero t r past (f ∷ fs) [] (p ∷ ps) qs x y a l off = absurd l
+  same_ends (suc i) t r past (f ∷ fs) [] [] qs x y a l off = absurd x
+  same_ends (suc i) t r past (f ∷ fs) [] (p ∷ ps) qs x y a l off = absurd l
+  same_ends zero t r past (f ∷ fs) (g ∷ gs) [] qs x y a l off = absurd x
+  same_ends (suc i) t r past (f ∷ fs) (g ∷ gs) [] qs x y a l off = absurd x
+  same_ends zero t r past (f ∷ fs) (g ∷ gs) (p ∷ ps) [] x y a l off = absurd y
+  same_ends (suc i) t r past (f ∷ fs) (g ∷ gs) (p ∷ ps) [] x y a l off = absurd y
+
   -- and alike scripts get the same replies, and leave the same rows, over each past that the rows and the setup open
   module _ (one_start : (loaded : List Row) (setup : List ℕ) (start other : Past AllOpened) → IsOpenedBy loaded setup start → IsOpenedBy loaded setup other → start ≡ other)
       (by_replies : (i t r : ℕ) (past : Past AllOpened) (places others : List Place) → PlacesAlike i t r past places others → hidden_replies t r past places (script_replies past places) ≡ hidden_replies t r past places (script_replies past others))
@@ -93,7 +134,10 @@ module _ (one_reading : (bytes : List ℕ) (a b : Reading) → Reads bytes a →
     pub keeps : (loaded : List Row) (setup : List ℕ) (start : Past AllOpened) (frames : List ScriptFrame) (places : List Place) → IsOpenedBy loaded setup start → ArePlacesOf frames places → KeepsIdentities loaded setup start frames places
     keeps loaded setup start frames places opened placed i t r other others theirs played alike =
         let same = alike_places i t r start frames others places theirs placed played.placed played.lost alike in
-        subst (λ past. AreAnsweredAlike t r start past places theirs) (one_start loaded setup start other opened played.opened) (record {
-          replies = ap (map (λ (x : Option Reply). option_map written x)) (by_replies i t r start places theirs same);
-          rows = by_rows i t r start places theirs same;
+        subst (λ past. HidesSubmission i t r start past places theirs) (one_start loaded setup start other opened played.opened) (record {
+          alike = record {
+            replies = ap (map (λ (x : Option Reply). option_map written x)) (by_replies i t r start places theirs same);
+            rows = by_rows i t r start places theirs same;
+          };
+          refused = λ off. answered_the_same start places theirs (same_ends i t r start frames others places theirs placed played.placed played.lost alike off);
         })

@@ -5,6 +5,7 @@ mod JudgedRows
 mod LeftRows
 mod OlderScripts
 mod OneStart
+mod RefusedSubmissions
 mod ReportsLeft
 mod RowsWithout
 mod SubmissionLemmas

@@ -81,11 +81,27 @@ pub record ArePlayed (loaded : List Row) (setup : List ℕ) (places : List Place
   pub placed : ArePlacesOf others theirs
   pub lost : AreLostAlike places theirs
 
+-- whether the submission at place i was accepted
+abbrev pub is_accepted_at : ℕ → Past AllOpened → List Place → Bool
+is_accepted_at i past [] = false
+is_accepted_at zero past (p ∷ ps) = is_accepted past p p.reading
+is_accepted_at (suc i) past (p ∷ ps) = is_accepted_at i (play past p).past ps
+
+-- each reply is byte for byte the same, to whoever asks, and so are all rows at the end
+pub record AreAnsweredTheSame (start other : Past AllOpened) (places theirs : List Place) : Type 0 where
+  pub replies : map written (script_replies start places) ≡ map written (script_replies other theirs)
+  pub rows : rows (past_after start places) ≡ rows (past_after other theirs)
+
+-- the scripts are answered alike; and the same where the submission at place i was refused or lost, so that there is no report r of it
+pub record HidesSubmission (i t r : ℕ) (start other : Past AllOpened) (places theirs : List Place) : Type 0 where
+  pub alike : AreAnsweredAlike t r start other places theirs
+  pub refused : is_accepted_at i start places ≡ false → AreAnsweredTheSame start other places theirs
+
 -- over the same kept rows and setup: each script that differs in the valid identity answers of one report alone, which is submitted in it, is
--- answered alike
+-- answered alike, and the same where that submission was not accepted
 abbrev pub KeepsIdentities : List Row → List ℕ → Past AllOpened → List ScriptFrame → List Place → Type 0
 KeepsIdentities loaded setup start frames places = (i t r : ℕ) (other : Past AllOpened) (others : List ScriptFrame) (theirs : List Place) →
-    ArePlayed loaded setup places other others theirs → ScriptFramesAlike i t r start frames places others → AreAnsweredAlike t r start other places theirs
+    ArePlayed loaded setup places other others theirs → ScriptFramesAlike i t r start frames places others → HidesSubmission i t r start other places theirs
 
 -- ---- the script in which a submission only drew a number
 

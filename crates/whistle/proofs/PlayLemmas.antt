@@ -1,5 +1,5 @@
 -- Turn after turn.
-use Rattle.std.proofs.Common.{◌≡◌, ◌<◌, ◌+◌, ℕ, List, [], ◌∷◌, ◌++◌, length, refl, sym, ap, ◌∙◌, append_assoc, append-nil, subst, arith, Option, Some, None, Ok, IfSome, inr, length-append}
+use Rattle.std.proofs.Common.{◌≡◌, ◌<◌, ◌≤◌, ◌+◌, ◌^◌, ℕ, List, [], ◌∷◌, ◌++◌, length, refl, sym, ap, ◌∙◌, append_assoc, append-nil, subst, arith, Option, Some, None, Ok, IfSome, inr, length-append}
 use Rattle.std.specs.List.{AllByRecursion}
 use Rattle.std.specs.Io.KnownBytes.{Appends, Consumes, IsAtEnd}
 use Rattle.std.proofs.KnownBytes.{Appends-trans, Consumes-trans, Appends-nil}
@@ -97,14 +97,15 @@ pub record InRun (source : SourceEnd) (sink : SinkEnd) (keeper : KeeperEnd) (sou
   pub told : Appends sink.held sink'.held (output (script_replies start places))
   pub number : reader.given ≡ length frames
   pub size : reader.taken ≡ length (script_text setup frames)
+  pub within : reader.taken ≤ 2 ^ 40
   pub goes_on : reader.stopped ≡ None
   pub turns : HasPlayed keeper keeper' loaded setup start frames places
   pub stands : StandsFor hosts (past_after start places)
 
 -- before the first turn
 pub at_start : (source : SourceEnd) (sink : SinkEnd) (keeper : KeeperEnd) (source' : SourceEnd) (keeper' : KeeperEnd) (hosts : Hosts) (reader : Progress) (begins : Begins keeper keeper' source source' reader hosts) → AllAsPromised begins.loaded begins.setup begins.start
-    → judged (rows begins.start) ≡ Ok (left_of begins.start) → InRun source sink keeper source' sink keeper' hosts reader
-at_start source sink keeper source' keeper' hosts reader begins promise read = record {
+    → judged (rows begins.start) ≡ Ok (left_of begins.start) → reader.taken ≤ 2 ^ 40 → InRun source sink keeper source' sink keeper' hosts reader
+at_start source sink keeper source' keeper' hosts reader begins promise read within = record {
   loaded = begins.loaded;
   setup = begins.setup;
   start = begins.start;
@@ -118,6 +119,7 @@ at_start source sink keeper source' keeper' hosts reader begins promise read = r
   told = Appends-nil sink.held;
   number = ap (λ (p : Progress). p.given) begins.goes_on;
   size = omega (arith, ap (λ (p : Progress). p.taken) begins.goes_on, ap length (append-nil (setup_text begins.setup)));
+  within = within;
   goes_on = ap (λ (p : Progress). p.stopped) begins.goes_on;
   turns = none_played begins.loaded begins.setup begins.start keeper promise keeper' begins.opens.later begins.opens.kept read;
   stands = begins.opens.stands;
@@ -144,9 +146,13 @@ module _ {source : SourceEnd} {sink : SinkEnd} {keeper : KeeperEnd} {source' : S
     played : HasPlayed keeper keeper'' was.loaded was.setup was.start (more was.frames frame) (more was.places turn.place)
     played = one_more was.loaded was.setup was.start keeper was.promise keeper' was.frames was.places was.turns keeper'' turn.back after frame answer turn.place turn.is turn.read
 
+    -- what is taken with it
+    size_more : length (script_text was.setup (more was.frames frame)) ≡ reader.taken + length (frame_text frame)
+    size_more = omega (arith, was.size, ap length (script_more was.setup was.frames frame), length-append (script_text was.setup was.frames) (frame_text frame))
+
     -- its reply was written
-    pub advance : Appends sink'.held sink''.held (written (reply_of answer)) → (reader' : Progress) → reader' ≡ after_next reader (Some frame) → InRun source sink keeper source'' sink'' keeper'' after reader'
-    advance told reader' goes = record {
+    pub advance : Appends sink'.held sink''.held (written (reply_of answer)) → (reader' : Progress) → reader' ≡ after_next reader (Some frame) → reader'.taken ≤ 2 ^ 40 → InRun source sink keeper source'' sink'' keeper'' after reader'
+    advance told reader' goes within = record {
       loaded = was.loaded;
       setup = was.setup;
       start = was.start;
@@ -159,18 +165,19 @@ module _ {source : SourceEnd} {sink : SinkEnd} {keeper : KeeperEnd} {source' : S
       taken = took_all;
       told = subst (Appends sink.held sink''.held) (sym (output_more was.start was.places turn.place)) (Appends-trans sink.held sink'.held sink''.held _ _ was.told (subst (λ r. Appends sink'.held sink''.held (written r)) turn.is.reply told));
       number = omega (arith, was.number, length_more was.frames frame, ap (λ (r : Progress). r.given) goes);
-      size = omega (arith, was.size, ap length (script_more was.setup was.frames frame), length-append (script_text was.setup was.frames) (frame_text frame), ap (λ (r : Progress). r.taken) goes);
+      size = omega (arith, size_more, ap (λ (r : Progress). r.taken) goes);
+      within = within;
       goes_on = ap (λ (r : Progress). r.stopped) goes ∙ was.goes_on;
       turns = played;
       stands = stands_more was.start was.places turn.place after turn.is.stands;
     }
 
     -- its reply was not wholly written
-    pub stuck : AppendsFront sink'.held sink''.held (written (reply_of answer)) → Rose sink.count sink''.count → Ran source source'' sink sink'' keeper keeper'' WriteFault
-    stuck told failed = ran_on source'' sink'' keeper'' WriteFault (
+    pub stuck : (reader' : Progress) → reader' ≡ after_next reader (Some frame) → reader'.taken ≤ 2 ^ 40 → AppendsFront sink'.held sink''.held (written (reply_of answer)) → Rose sink.count sink''.count → Ran source source'' sink sink'' keeper keeper'' WriteFault
+    stuck reader' goes within told failed = ran_on source'' sink'' keeper'' WriteFault (
       more was.frames frame,
       more was.places turn.place,
-      record { good = good_more was.frames frame was.good turn.took.0; begins = begins_with source.left source''.left _ took_all; turns = played },
+      record { good = good_more was.frames frame was.good turn.took.0; begins = begins_with source.left source''.left _ took_all; within = omega (arith, size_more, ap (λ (r : Progress). r.taken) goes, within); turns = played },
       failed,
       took_all,
       record { before = was.places; last = turn.place; order = refl; front = told.0; rest = told.1; cut = ap written (sym turn.is.reply) ∙ told.2; told = Appends-trans sink.held sink'.held sink''.held _ _ was.told told.3 },
@@ -179,13 +186,13 @@ module _ {source : SourceEnd} {sink : SinkEnd} {keeper : KeeperEnd} {source' : S
   -- no more frame was taken
   module _ (source'' : SourceEnd) where
     wrote : Wrote source source'' sink sink' keeper keeper' was.loaded was.setup was.start was.frames was.places
-    wrote = record { played = record { good = was.good; begins = begins_with source.left source'.left _ was.taken; turns = was.turns }; written = was.told }
+    wrote = record { played = record { good = was.good; begins = begins_with source.left source'.left _ was.taken; within = omega (arith, was.size, was.within); turns = was.turns }; written = was.told }
 
     took : (part : List ℕ) → Consumes source'.left source''.left part → Consumes source.left source''.left (script_text was.setup was.frames ++ part)
     took part more = Consumes-trans source.left source'.left source''.left (script_text was.setup was.frames) part was.taken more
 
     took_then : TookSome NoFrame reader.taken source'.left source''.left → TookThen source source'' sink sink' keeper keeper' was.loaded was.setup was.start was.frames
-    took_then part = (part.0, took part.0 part.1, part.2)
+    took_then part = (part.0, took part.0 part.1, part.2, omega (arith, was.size, part.3, length-append (script_text was.setup was.frames) part.0))
 
     -- since the input ended
     pub ended : TookNext source'.left source''.left None → Ran source source'' sink sink' keeper keeper' Done

@@ -1,5 +1,5 @@
 -- What a run did, by its status.
-use Rattle.std.specs.Prelude.{ℕ, ◌≡◌, ◌+◌, ◌^◌, ◌⊎◌, List, [], ◌∷◌, ◌++◌, length, IfSome, Some, Ok, ◌<◌}
+use Rattle.std.specs.Prelude.{ℕ, ◌≡◌, ◌+◌, ◌^◌, ◌⊎◌, List, [], ◌∷◌, ◌++◌, length, IfSome, Some, Ok, ◌<◌, ◌≤◌}
 use Rattle.std.specs.List.{AllByRecursion}
 use Rattle.std.specs.Io.KnownBytes.{Appends, Consumes, Keeps}
 use Rattle.wb_base.specs.declared.rows.Row.{Row}
@@ -32,10 +32,11 @@ script_text setup frames = setup_text setup ++ texts frames
 module _ (source source' : SourceEnd) (sink sink' : SinkEnd) (keeper keeper' : KeeperEnd) where
   -- of a host that was opened over these loaded rows with this setup, and stands for this past before its first turn
   module _ (loaded : List Row) (setup : List ℕ) (start : Past AllOpened) where
-    -- the input begins with the setup and these frames, and the host played them as these places
+    -- the input begins with the setup and these frames, which have at most 2^40 bytes, and the host played them as these places
     pub record PlayedFrames (frames : List ScriptFrame) (places : List Place) : Type 0 where
       pub good : AllByRecursion IsFrame frames
       pub begins : IfSome source.left (λ text. (rest : List ℕ) × (text ≡ script_text setup frames ++ rest))
+      pub within : length (script_text setup frames) ≤ 2 ^ 40
       pub turns : HasPlayed keeper keeper' loaded setup start frames places
 
     -- and wrote each reply
@@ -53,11 +54,11 @@ module _ (source source' : SourceEnd) (sink sink' : SinkEnd) (keeper keeper' : K
       pub cut : written (play (past_after start before) last).reply ≡ front ++ rest
       pub told : Appends sink.held sink'.held (output (script_replies start before) ++ front)
 
-    -- the setup and these frames were taken, and then bytes that no whole frame begins
+    -- the setup and these frames were taken, and then bytes that no whole frame begins, at most 2^40 in all
     abbrev pub TookThen : List ScriptFrame → Type 0
-    TookThen frames = (part : List ℕ) × Consumes source.left source'.left (script_text setup frames ++ part) × NoFrame part
+    TookThen frames = (part : List ℕ) × Consumes source.left source'.left (script_text setup frames ++ part) × NoFrame part × (length (script_text setup frames ++ part) ≤ 2 ^ 40)
 
-    -- so were 2^40 bytes in all, and one more
+    -- the same, with 2^40 bytes in all and one more after them
     abbrev pub TookTooMuch : List ScriptFrame → Type 0
     TookTooMuch frames = (part : List ℕ) × (next : ℕ) × Consumes source.left source'.left (script_text setup frames ++ part ++ next ∷ []) × NoFrame part × (length (script_text setup frames ++ part) ≡ 2 ^ 40)
 

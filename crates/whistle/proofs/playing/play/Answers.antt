@@ -15,7 +15,7 @@ loop-frame-init g c =
     let begins = c.in-Ok.ensures.ok in
     record {
       in_run = at_start (g.S.Source.end c.args.source.now) (g.W.Sink.end c.args.sink.now) (g.K.Keeper.end c.args.keeper.now) _ _ (hosts_of c.in-Ok.desk) c.open.new.reader begins
-          (c.each_script_is_as_promised.ensures begins.loaded begins.setup begins.start begins.opens.opened) (c.a_desk_leaves_rows_that_are_read.ensures c.in-Ok.desk begins.start c.stands.ensures begins.opens.stands);
+          (c.each_script_is_as_promised.ensures begins.loaded begins.setup begins.start begins.opens.opened) (c.a_desk_leaves_rows_that_are_read.ensures c.in-Ok.desk begins.start c.stands.ensures begins.opens.stands) c.open.ensures.limit;
       few = omega (arith, ap (λ (h : Hosts). h.turns) (begins.opens.stands ∙ ap standing_hosts begins.opens.opened.opens));
       limit = c.open.ensures.limit;
       back = c.open.ensures.back;
@@ -41,7 +41,7 @@ loop-frame-preserved g c =
     let was = c.loop-frame.invariant in
     let goes = rw c.in-Ok-Some.field-0-is at c.in-Ok-Some.ensures.goes_on in
     record {
-      in_run = advance was.in_run _ (turned g (goal.at.loop-frame-preserved g c).After-answer_frame-answer) c.in-Ok-write_response.ensures.ok c.next.new.self goes;
+      in_run = advance was.in_run _ (turned g (goal.at.loop-frame-preserved g c).After-answer_frame-answer) c.in-Ok-write_response.ensures.ok c.next.new.self goes c.next.ensures.limit;
       few = omega (arith, c.answer_frame-answer.ensures.turns, was.few, ap (λ (p : Progress). p.taken) goes, some_bytes c.in-Ok-Some.frame);
       limit = c.next.ensures.limit;
       back = λ h. was.back (c.answer_frame-answer.ensures.back h);
@@ -58,7 +58,8 @@ pub returns-in-Err-write_response-clause-ran : goal.returns-in-Err-write_respons
 returns-in-Err-write_response-clause-ran g c =
     let was = c.loop-frame.invariant in
     let turn = turned g (goal.at.returns-in-Err-write_response-clause-ran g c).After-answer_frame-answer in
-    stuck was.in_run (g.W.Sink.end c.write_response.new.sink) turn c.in-Err-write_response.ensures.err (omega (arith, was.written_on, c.in-Err-write_response.ensures.cause.failed))
+    let goes = rw c.in-Ok-Some.field-0-is at c.in-Ok-Some.ensures.goes_on in
+    stuck was.in_run (g.W.Sink.end c.write_response.new.sink) turn c.next.new.self goes c.next.ensures.limit c.in-Err-write_response.ensures.err (omega (arith, was.written_on, c.in-Err-write_response.ensures.cause.failed))
 
 pub returns-in-Ok-None-clause-ran : goal.returns-in-Ok-None-clause-ran
 returns-in-Ok-None-clause-ran g c =

@@ -3,7 +3,6 @@ use Rattle.wb_model.specs.Commands.{fits_command}
 use Rattle.wb_model.specs.Requests.{Frame}
 use Rattle.wb_model.specs.Rows.{rows_of}
 use Rattle.wb_tables.specs.Standing.{hosts_of}
-use Rattle.wb_desk.proofs.FirstTurns.{first_made}
 use Rattle.wb_desk.proofs.Steps.{Ensured, Withheld, booked_after, turned_by}
 use Rattle.wb_desk.proofs.kept.Kept.turn.Goals as goal
 
@@ -46,11 +45,7 @@ returns g c =
       sealed = λ below is t r. record {
         reply = c.step-told.ensures.alike_reply below is.0 is.1 t r;
         hosts = c.step-told.ensures.alike_hosts below is.0 is.1 t r;
-        first = λ b.
-            let past = c.stands.ensures.past in
-            let took = c.step-told.ensures.turn below past.past past.stands in
-            first_made c.alike_scripts_get_the_same_replies.ensures.replies c.alike_scripts_get_the_same_replies.ensures.hosts c.hosts_stand_for_their_past.ensures.reply c.hosts_stand_for_their_past.ensures.turn
-            t r past.past f b (hosts_of c.self.inside.desk) (hosts_of c.step-told.new.self) c.step-told.result took.0 past.stands is took.1.possible took.1.told took.1.stands;
+        first = c.step-told.ensures.alike_first below is.0 is.1 t r;
       };
       absent = λ below is t r past stands gone. c.step-told.ensures.absence below is.0 is.1 t r past stands gone;
     } in
