@@ -125,7 +125,9 @@ impl<D: Dial> Keeper for EtcdKeeper<D> {
         ensures idle { held_since self.old.standing ≡ None → (result ≡ Err KeepErr.Failed) × (self.new ≡ after_fault self.old) }
         ensures many { operation_limit < sum_by operations changes.now → (result ≡ Err KeepErr.Failed) × (self.new ≡ after_fault self.old) }
         ensures unreached { (x : Dialed) → self.old.told ≡ Some x → (connection self.old.endpoints x).line ≡ None → self.new.standing ≡ self.old.standing }
-        ensures unsure { (x : Dialed) → self.old.told ≡ Some x → sum_by operations changes.now ≤ operation_limit → IsSome (connection self.old.endpoints x).line → result ≡ Err KeepErr.Failed → held_since self.new.standing ≡ None }
+        ensures reached { (x : Dialed) → self.old.told ≡ Some x → sum_by operations changes.now ≤ operation_limit → IsSome (connection self.old.endpoints x).line → result ≡ Err KeepErr.Failed → held_since self.new.standing ≡ None }
+        // It ended, or no endpoint gave it a link: nothing was sent.
+        ensures unsure { (x : Dialed) → self.old.told ≡ Some x → OnErr result ((self.new.standing ≡ HasEnded) ⊎ (self.new.told ≡ Some x)) }
     {
         let Standing::Holds(revision) = self.standing else {
             return Err(counted(&mut self.faults, KeepErr::Failed));

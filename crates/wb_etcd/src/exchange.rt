@@ -1,17 +1,20 @@
 //! One exchange with a store.
-ghost use Rattle.std.specs.Prelude.{◌≡◌, ◌++◌, ℕ, List, [], Some, None, IfOk, OnOk, OnErr};
+ghost use Rattle.std.specs.Prelude.{◌≡◌, ◌++◌, ℕ, List, [], Some, None, IfOk, OnOk, OnErr, Err};
 ghost use Rattle.std.specs.Io.KnownBytes.{Appends};
+ghost use Rattle.std.specs.String.{string_bytes};
 ghost use Rattle.serde_json.specs.View.{view};
+ghost use Rattle.wb_base.specs.declared.faults.KeepErr.TheVariants.{Failed as StoreFailed};
 ghost use Rattle.wb_transport.specs.Lines.{Line, IsLine};
 ghost use Rattle.wb_etcd.specs.Answers.{IsAnswer};
 ghost use Rattle.wb_transport.specs.Dials.{Dialed};
+ghost use Rattle.wb_etcd.specs.Transactions.{request_text};
 ghost use Rattle.wb_etcd.specs.Exchanges.{connection, exchanged, Asks};
 
 use crate::requests::request;
 use crate::responses::read_answer;
 use serde_json::Value;
 use std::alloc::Global;
-use wb_base::{Failed, KeepErr, Memory, Text};
+use wb_base::{KeepErr, Memory, Text};
 use wb_transport::{Dial, Link};
 
 /// How many bytes an answer may have, its head among them.
@@ -59,22 +62,28 @@ pub(crate) fn exchange<L: Link>(
     read_answer(alloc, bytes.as_slice())
 }
 
-/// A link to the first endpoint that gives one, and that endpoint.
-pub(crate) fn connect<'a, D: Dial>(
+/// A link to the first endpoint that gives one, and the request that brings a text to a path of it. It is had before the endpoint is
+/// called, so that no memory is wanted between a link and what is sent over it.
+pub(crate) fn connect<D: Dial>(
+    alloc: Global,
     dial: &mut D,
-    endpoints: &'a [Text],
-) -> Result<(D::End, &'a str), Failed>
-    ensures found { (x : Dialed) → (D.end dial.old).told ≡ Some x → IfOk result (λ found. (line : Line) × ((connection endpoints.now x).line ≡ Some line) × IsLine (D.End.end found.0) line × (found.1.now ≡ (connection endpoints.now x).endpoint)) }
-    ensures none { (x : Dialed) → (D.end dial.old).told ≡ Some x → OnErr result ((connection endpoints.now x).line ≡ None) }
-    ensures after { (x : Dialed) → (D.end dial.old).told ≡ Some x → (D.end dial.new).told ≡ Some (connection endpoints.now x).after }
-    ensures untold { (D.end dial.old).told ≡ None → (D.end dial.new).told ≡ None }
+    endpoints: &[Text],
+    path: &str,
+    body: &str,
+) -> Result<(D::End, String), KeepErr>
+    ensures found { (x : Dialed) → (D.end dial.old).told ≡ Some x → IfOk result (λ found. (line : Line) × ((connection endpoints.now x).line ≡ Some line) × IsLine (D.End.end found.0) line) }
+    ensures request { (x : Dialed) → (D.end dial.old).told ≡ Some x → IfOk result (λ found. string_bytes found.1 ≡ request_text (connection endpoints.now x).endpoint path.now body.now) }
+    ensures after { (x : Dialed) → (D.end dial.old).told ≡ Some x → OnOk result ((D.end dial.new).told ≡ Some (connection endpoints.now x).after) }
+    ensures none { (x : Dialed) → (D.end dial.old).told ≡ Some x → OnErr result ((D.end dial.new).told ≡ Some x) }
+    ensures failed { (x : Dialed) → (D.end dial.old).told ≡ Some x → result ≡ Err StoreFailed → (connection endpoints.now x).line ≡ None }
 {
     for endpoint in endpoints {
+        let request = request(alloc, endpoint.as_str(), path, body)?;
         if let Ok(link) = dial.dial(endpoint.as_str()) {
-            return Ok((link, endpoint.as_str()));
+            return Ok((link, request));
         }
     }
-    Err(Failed)
+    Err(KeepErr::Failed)
 }
 
 /// Sends a text to a path of the store, and reads the answer.
@@ -87,8 +96,7 @@ pub(crate) fn ask<D: Dial>(
 ) -> Result<Value, KeepErr>
     ensures asked { (x : Dialed) → (D.end dial.old).told ≡ Some x → IfOk result (λ answer. (y : Dialed) × ((D.end dial.new).told ≡ Some y) × Asks endpoints.now path.now body.now x y (view answer)) }
 {
-    let (mut link, endpoint) = connect(dial, endpoints)?;
-    let request = request(alloc, endpoint, path, body)?;
+    let (mut link, request) = connect(alloc, dial, endpoints, path, body)?;
     let answer = exchange(alloc, &mut link, request.as_str())?;
     dial.close(link);
     Ok(answer)

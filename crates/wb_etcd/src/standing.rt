@@ -1,9 +1,9 @@
 //! How a keeper stands with its store, and why changes were not kept.
 ghost use Rattle.std.specs.Prelude.{◌≡◌};
-ghost use Rattle.wb_base.specs.declared.faults.KeepErr.TheVariants.{Memory as NoMemory, Failed as StoreFailed};
+ghost use Rattle.wb_base.specs.declared.faults.KeepErr.TheVariants.{Memory as NoMemory};
 ghost use Rattle.wb_etcd.specs.declared.standing.NotKept.TheVariants.{Unsent as WasUnsent};
 
-use wb_base::{Failed, KeepErr, Memory};
+use wb_base::{KeepErr, Memory};
 
 /// How a keeper stands with its store.
 #[derive(Clone, Copy, Debug, PartialEq, Eq)]
@@ -19,7 +19,7 @@ pub enum Standing {
 /// Why changes were not kept.
 #[derive(Clone, Copy, Debug, PartialEq, Eq)]
 pub(crate) enum NotKept {
-    /// Nothing was sent.
+    /// Nothing was sent: no endpoint gave a link.
     Unsent(KeepErr),
     /// They were sent, and no answer says that they were made.
     Sent(KeepErr),
@@ -33,10 +33,10 @@ impl From<Memory> for NotKept {
     }
 }
 
-impl From<Failed> for NotKept {
-    ghost from_gives = { λ _ e. e ≡ WasUnsent StoreFailed };
+impl From<KeepErr> for NotKept {
+    ghost from_gives = { λ why e. e ≡ WasUnsent why };
 
-    fn from(_: Failed) -> NotKept {
-        NotKept::Unsent(KeepErr::Failed)
+    fn from(why: KeepErr) -> NotKept {
+        NotKept::Unsent(why)
     }
 }

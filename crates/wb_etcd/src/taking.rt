@@ -14,7 +14,7 @@ ghost use Rattle.wb_etcd.specs.Holding.{keys_after, operation_limit, ReadsAll, T
 use crate::answers::{add_rows, has_more, is_made, items, put_at, revision};
 use crate::exchange::{ask, connect, exchange};
 use crate::keys::{KeyRange, all_rows, holder_key, key_text};
-use crate::requests::{RANGE, TRANSACTION, batch, fits, one, range, request, take_over};
+use crate::requests::{RANGE, TRANSACTION, batch, fits, one, range, take_over};
 use crate::standing::NotKept;
 use std::alloc::Global;
 use wb_base::{Change, KeepErr, Memory, Row, Text};
@@ -105,14 +105,14 @@ pub(crate) fn commit<D: Dial>(
     ensures made { (x : Dialed) → (D.end dial.old).told ≡ Some x → OnOk result ((y : Dialed) × ((D.end dial.new).told ≡ Some y) × Commits endpoints.now prefix.now revision x y changes.now) }
     ensures many { operation_limit < sum_by operations changes.now → (result ≡ Err (WasUnsent StoreFailed)) × ((D.end dial.new).told ≡ (D.end dial.old).told) }
     ensures unreached { (x : Dialed) → (D.end dial.old).told ≡ Some x → (connection endpoints.now x).line ≡ None → (why : KeepError) → ¬ (result ≡ Err (WasSent why)) }
-    ensures sent { (x : Dialed) → (D.end dial.old).told ≡ Some x → sum_by operations changes.now ≤ operation_limit → IsSome (connection endpoints.now x).line → ¬ (result ≡ Err (WasUnsent StoreFailed)) }
+    ensures reached { (x : Dialed) → (D.end dial.old).told ≡ Some x → sum_by operations changes.now ≤ operation_limit → IsSome (connection endpoints.now x).line → ¬ (result ≡ Err (WasUnsent StoreFailed)) }
+    ensures unsent { (x : Dialed) → (D.end dial.old).told ≡ Some x → (why : KeepError) → result ≡ Err (WasUnsent why) → (D.end dial.new).told ≡ Some x }
 {
     if !fits(changes) {
         return Err(NotKept::Unsent(KeepErr::Failed));
     }
     let text = batch(alloc, prefix, revision, changes)?;
-    let (mut link, endpoint) = connect(dial, endpoints)?;
-    let request = request(alloc, endpoint, TRANSACTION, text.as_str())?;
+    let (mut link, request) = connect(alloc, dial, endpoints, TRANSACTION, text.as_str())?;
     match exchange(alloc, &mut link, request.as_str()) {
         Ok(answer) => {
             dial.close(link);

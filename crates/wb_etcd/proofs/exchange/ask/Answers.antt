@@ -12,12 +12,12 @@ returns g c = record {
   asked = λ x is.
       let found = c.in_ok-link.ensures.found x is in
       let line : Line = found.0 in
-      let told = c.connect.ensures.after x is in
+      let told = c.in_ok-link.ensures.after x is in
       let answered = c.in_ok-answer.ensures line found.2 in
-      let text : c.as_str.result.now ≡ request_text c.in_ok-link.endpoint.now c.args.path.now c.args.body.now = c.as_str.ensures.value ∙ c.in_ok-request.ensures in
+      let text : c.as_str.result.now ≡ request_text (connection c.args.endpoints.now x).endpoint c.args.path.now c.args.body.now = c.as_str.ensures.value ∙ c.in_ok-link.ensures.request x is in
       let closed = c.close.ensures.after (connection c.args.endpoints.now x).after (exchanged c.as_str.result.now line) told (is_out c.args.endpoints.now x line found.1) answered.1 in (
         after_close (exchanged c.as_str.result.now line) (connection c.args.endpoints.now x).after,
         closed,
-        asks c.args.endpoints.now c.args.path.now c.args.body.now c.as_str.result.now c.in_ok-link.endpoint.now x line (view c.in_ok-answer.answer) found.1 found.3 text answered.0,
+        asks c.args.endpoints.now c.args.path.now c.args.body.now c.as_str.result.now x line (view c.in_ok-answer.answer) found.1 text answered.0,
       );
 }

@@ -14,10 +14,10 @@ pub returns-then-is_made-clause-made : goal.returns-then-is_made-clause-made
 returns-then-is_made-clause-made g c = λ x is.
     let found = c.in_ok-link.ensures.found x is in
     let line : Line = found.0 in
-    let told = c.connect.ensures.after x is in
+    let told = c.in_ok-link.ensures.after x is in
     let answered = c.in-Ok.ensures line found.2 in
     let body : c.as_str.result.now ≡ batch_text c.args.prefix.now c.args.revision c.args.changes.now = c.as_str.ensures.value ∙ c.in_ok-text.ensures in
-    let text : c.as_str-2.result.now ≡ request_text c.in_ok-link.endpoint.now transaction_path (batch_text c.args.prefix.now c.args.revision c.args.changes.now) = c.as_str-2.ensures.value ∙ c.in_ok-request.ensures ∙ ap (λ (b : List ℕ). request_text c.in_ok-link.endpoint.now transaction_path b) body in
+    let text : c.as_str-2.result.now ≡ request_text (connection c.args.endpoints.now x).endpoint transaction_path (batch_text c.args.prefix.now c.args.revision c.args.changes.now) = c.as_str-2.ensures.value ∙ c.in_ok-link.ensures.request x is ∙ ap (λ (b : List ℕ). request_text (connection c.args.endpoints.now x).endpoint transaction_path b) body in
     let closed = c.close.ensures.after (connection c.args.endpoints.now x).after (exchanged c.as_str-2.result.now line) told (is_out c.args.endpoints.now x line found.1) answered.1 in
     let small : sum_by operations c.args.changes.now ≤ operation_limit = search rules in
     let made : is_made (view c.in-Ok.answer) ≡ true = search rules in (
@@ -26,7 +26,7 @@ returns-then-is_made-clause-made g c = λ x is.
       record {
         fits = small;
         answer = view c.in-Ok.answer;
-        asks = asks c.args.endpoints.now transaction_path (batch_text c.args.prefix.now c.args.revision c.args.changes.now) c.as_str-2.result.now c.in_ok-link.endpoint.now x line (view c.in-Ok.answer) found.1 found.3 text answered.0;
+        asks = asks c.args.endpoints.now transaction_path (batch_text c.args.prefix.now c.args.revision c.args.changes.now) c.as_str-2.result.now x line (view c.in-Ok.answer) found.1 text answered.0;
         made = made;
       },
     )
