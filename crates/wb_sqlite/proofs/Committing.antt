@@ -1,13 +1,15 @@
 -- A transaction that was begun, in which statements were made: what its commit leaves, and what it leaves where it fails.
-use Rattle.std.proofs.Common.{◌≡◌, List, ◌++◌, IsTrue, inl, inr, refl, sym, subst, ap, ◌∙◌, true, false}
+use Rattle.std.proofs.Common.{◌≡◌, ℕ, List, ◌++◌, All, IsOk, IsTrue, inl, inr, refl, sym, subst, ap, ◌∙◌, true, false}
 use Rattle.sqlite_trees.specs.declared.store.Store.{Ghosts}
 use Rattle.sqlite_trees.specs.Tree.{Trees}
+use Rattle.sqlite.specs.Effect.{Database}
 use Rattle.sqlite.specs.Held.{Held, state}
+use Rattle.sqlite.specs.Listing.{understood}
 use Rattle.sqlite.specs.State.{State, Survives, HasCleanDisk, KeepsCommit, Shows}
 use Rattle.sqlite.specs.Steps.{FailsToCommit}
 use Rattle.sqlite.specs.declared.error.Error.{Error}
 use Rattle.wb_base.specs.declared.rows.Change.{Change}
-use Rattle.wb_sqlite.specs.Statements.{Statement, Makes, make_tables, all_statements, CommitsAll, IsAsCommitted, LeavesAsBefore}
+use Rattle.wb_sqlite.specs.Statements.{Statement, Makes, make_tables, all_statements, CommitsAll, IsAsCommitted, LeavesAsBefore, Understands}
 use Rattle.wb_sqlite.proofs.Making.{makes_inside, makes_keeps, clean_before}
 
 -- what a commit that fails leaves
@@ -71,3 +73,12 @@ module _ {S : Type 0} (g : Ghosts S) where
       let undone = commit_failed (state g last) (state g end) e (fails clean_end) it.inside (subst (λ (h : Held S). IsTrue (state g h).is_open) (sym same) up) in
       let kept = it.committed undone.was_open in
       subst (IsAsCommitted g before) same (record { now = undone.now ∙ kept; committed = undone.committed ∙ kept })
+
+  -- what was understood before the commit is understood after it
+  pub still_understands : (texts : List (List ℕ)) (mid last end new : Held S) (Commits : Trees → Type 0) → (HasCleanDisk (state g last) → Understands g mid texts) → (HasCleanDisk (state g last) → (state g last).now ≡ (state g mid).now) → Survives (state g last) (state g end) Commits
+      → (HasCleanDisk (state g end) → Shows (state g last) (state g end) (state g last).now (state g last).now false) → end ≡ new → HasCleanDisk (state g new) → Understands g new texts
+  still_understands texts mid last end new Commits told same ends shows is clean =
+      let clean_end : HasCleanDisk (state g end) = subst (λ (h : Held S). HasCleanDisk (state g h)) (sym is) clean in
+      let clean_last : HasCleanDisk (state g last) = clean_before (state g last) (state g end) Commits ends clean_end in
+      let now : (state g end).now ≡ (state g mid).now = (shows clean_end).now_is ∙ same clean_last in
+      subst (λ (h : Held S). Understands g h texts) is (subst (λ (d : Database). All (λ text. IsOk (understood d.schema text)) texts) (sym now) (told clean_last))

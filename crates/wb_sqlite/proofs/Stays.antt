@@ -1,14 +1,17 @@
 -- A query changes nothing, however it ends.
-use Rattle.std.proofs.Common.{◌≡◌, ◌⊎◌, List, ℕ, [], Option, Some, None, Result, Err, IfErr, OnErr, IsTrue, inl, inr, refl, sym, subst, ◌∙◌}
+use Rattle.std.proofs.Common.{◌≡◌, ◌⊎◌, List, ℕ, [], Option, Some, None, Result, Ok, Err, IfErr, IsOk, OnErr, IsTrue, inl, inr, refl, sym, subst, ◌∙◌}
 use Rattle.sqlite_value.specs.Order.{Row as SqlRow}
 use Rattle.sqlite_trees.specs.declared.store.Store.{Ghosts}
 use Rattle.sqlite_schema.specs.declared.command.Returning.{Returning}
 use Rattle.sqlite_resolve.specs.declared.compiled.Compiled.{Compiled}
+use Rattle.sqlite_resolve.specs.declared.error.CompileError.{CompileError}
 use Rattle.sqlite.specs.declared.error.Error.{Error}
 use Rattle.sqlite.specs.Effect.{Database}
 use Rattle.sqlite.specs.Held.{Held, state}
 use Rattle.sqlite.specs.Given.{IsPlain, HasBegun, IsRefused}
 use Rattle.sqlite.specs.Listing.{understood}
+use Rattle.sqlite.specs.Outline.{Outline}
+use Rattle.sqlite.specs.Steps.{Outlines}
 use Rattle.sqlite.specs.State.{State, IsUnchanged, IsRolledBack, Fails, FailsToQuery, FailsToShow, IsNotRun, Shown, ShowsRows, HasCleanDisk, KeepsCommit}
 use Rattle.sqlite.proofs.Callers.{begun_plain}
 use Rattle.wb_base.specs.declared.rows.Row.{Row}
@@ -87,3 +90,8 @@ unprepared_keeps sql a b r e is h = not_run_keeps sql [] a b e (subst (λ (r : R
 
 pub unchanged_keeps : (a b : State) → IsUnchanged a b → KeepsCommit a b
 unchanged_keeps a b same = record { was_open = λ _. same.0.was_open; committed = λ _. same.0.committed_is }
+
+-- a text that is prepared is understood
+pub outlined : (r : Result Compiled CompileError) (outline : Outline) → Outlines r outline → IsOk r
+outlined (Ok c) outline is = refl
+outlined (Err e) outline none = absurd none

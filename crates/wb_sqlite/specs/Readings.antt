@@ -5,7 +5,7 @@ use Rattle.sqlite_trees.specs.declared.store.Store.{Ghosts}
 use Rattle.sqlite.specs.Held.{Held, state}
 use Rattle.sqlite.specs.State.{HasCleanDisk, Shown}
 use Rattle.wb_base.specs.declared.rows.Row.{Row}
-use Rattle.wb_sqlite.specs.Statements.{CommitsAll}
+use Rattle.wb_sqlite.specs.Statements.{CommitsAll, Understands, six_texts}
 use Rattle.wb_stored.specs.StoredRows.{IsRecordRow, IsSealedRow, AreInTurn}
 use Rattle.wb_stored.specs.Texts.{read_record, read_sealed}
 use Rattle.wb_sqlite.specs.declared.table.Table.{Table}
@@ -32,11 +32,12 @@ pub record Reads {S : Type 0} (g : Ghosts S) (IsOf : SqlRow → Row → Type 0) 
   pub each : AreInTurn IsOf shown added
   pub behind : after ≡ before ++ added
 
--- the tables were made where they were not there, and committed; then each was read whole. The rows are all of `record`, and all of `sealed` at
+-- the tables were made where they were not there, and committed; all statements are understood over them; then each was read whole. The rows are all of `record`, and all of `sealed` at
 -- one place between them
 pub record LoadsAll {S : Type 0} (g : Ghosts S) (old new : Held S) (rows : List Row) : Type 0 where
   pub made : Held S
   pub tables : CommitsAll g [] old made
+  pub understood : Understands g made six_texts
   pub low : List Row
   pub sealed : List Row
   pub high : List Row

@@ -1,10 +1,11 @@
 -- What a batch of changes is in the database: its statements in turn, in one transaction.
-use Rattle.std.specs.Prelude.{◌≡◌, ◌⊎◌, ℕ, pos, List, [], ◌∷◌, ◌++◌, Option, Some, None, Result, Ok, OnOk, OnErr, IsTrue, ◌==◌, if◌then◌else◌, true, ⊤}
+use Rattle.std.specs.Prelude.{◌≡◌, ◌⊎◌, ℕ, pos, List, [], ◌∷◌, ◌++◌, All, Option, Some, None, Result, Ok, IsOk, OnOk, OnErr, IsTrue, ◌==◌, if◌then◌else◌, true, ⊤}
 use Rattle.sqlite_value.specs.declared.value.Value.TheVariants.{Int, Text}
 use Rattle.sqlite_value.specs.Order.{Row as SqlRow}
 use Rattle.sqlite_trees.specs.declared.store.Store.{Ghosts}
 use Rattle.sqlite_trees.specs.Tree.{Trees}
 use Rattle.sqlite.specs.Held.{Held, state}
+use Rattle.sqlite.specs.Listing.{understood}
 use Rattle.sqlite.specs.State.{ExecutesInside, IsUnchanged, HasCleanDisk, KeepsCommit, Survives}
 use Rattle.wb_base.specs.declared.rows.Row.{Row}
 use Rattle.wb_base.specs.declared.rows.Change.{Change}
@@ -88,6 +89,14 @@ pub record CommitsAll {S : Type 0} (g : Ghosts S) (changes : List Change) (old n
   pub made : Makes g (make_tables ++ all_statements changes) (record old { in_transaction = true }) last
   pub committed : (state g new).committed ≡ (state g last).now
   pub now : (state g new).now ≡ (state g last).now
+
+-- the texts of the statements that set the rows of a report, drop them, and read all rows
+abbrev pub six_texts : List (List ℕ)
+six_texts = sql.put_record ∷ sql.put_sealed ∷ sql.drop_trail ∷ sql.drop_sealed ∷ sql.read_record ∷ sql.read_sealed ∷ []
+
+-- texts are understood over the tables that a database has
+abbrev pub Understands : {S : Type 0} → Ghosts S → Held S → List (List ℕ) → Type 0
+Understands g held texts = All (λ text. IsOk (understood (state g held).now.schema text)) texts
 
 -- the database is as it was last committed
 pub record IsAsCommitted {S : Type 0} (g : Ghosts S) (old new : Held S) : Type 0 where

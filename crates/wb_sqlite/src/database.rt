@@ -8,7 +8,7 @@ ghost use Rattle.wb_list.specs.Keyed.{IsAscending};
 ghost use Rattle.wb_base.specs.declared.rows.Row.{Row as KeptRow};
 ghost use Rattle.wb_base.specs.KeptRows.{key_cmp, key_of, IsGoodChange};
 ghost use Rattle.wb_sqlite.specs.Readings.{LoadsAll, Reads, IsRowOf, selection_of};
-ghost use Rattle.wb_sqlite.specs.Statements.{CommitsAll, IsAsCommitted, LeavesChanged};
+ghost use Rattle.wb_sqlite.specs.Statements.{CommitsAll, IsAsCommitted, LeavesChanged, Understands, six_texts};
 ghost use Rattle.wb_sqlite.specs.Staying.{StaysAs};
 ghost use Rattle.wb_stored.specs.Told.{HoldsRows};
 
@@ -47,6 +47,7 @@ fn make_tables<S: Alter>(conn: &mut Connection<S>) -> Result<(), Refusal>
     ensures clean { HasCleanDisk (state S.Store conn.new) → HasCleanDisk (state S.Store conn.old) }
     ensures back { HasCleanDisk (state S.Store conn.new) → IsTrue (state S.Store conn.new).is_open → IsTrue (state S.Store conn.old).is_open }
     ensures made { HasCleanDisk (state S.Store conn.new) → OnOk result (CommitsAll S.Store [] conn.old conn.new) }
+    ensures understood { HasCleanDisk (state S.Store conn.new) → OnOk result (Understands S.Store conn.new six_texts) }
     ensures kept { HasCleanDisk (state S.Store conn.new) → IsTrue (state S.Store conn.new).is_open → OnErr result (IsAsCommitted S.Store conn.old conn.new) }
 {
     let mut tx = conn.transaction();

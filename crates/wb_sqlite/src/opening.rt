@@ -2,7 +2,8 @@
 ghost use Rattle.std.specs.Prelude.{◌≡◌, false, List, IfOk};
 ghost use Rattle.sqlite.specs.Held.{state};
 ghost use Rattle.sqlite.specs.State.{HasCleanDisk};
-ghost use Rattle.sqlite.specs.Files.{over_files};
+ghost use Rattle.sqlite.specs.Files.{over_files, IsBlankAs};
+ghost use Rattle.sqlite_store.specs.FileStore.{view};
 ghost use Rattle.sqlite_wal.specs.Files.{image_at};
 ghost use Rattle.wb_base.specs.declared.rows.Row.{Row as KeptRow};
 ghost use Rattle.wb_stored.specs.Told.{HoldsRows};
@@ -20,6 +21,8 @@ pub(crate) fn open_file<S: Start>(
     start: S,
 ) -> Result<Connection<FileStore<FileFrom<S>>>, Refusal>
     ensures idle { IfOk result (λ conn. conn.in_transaction ≡ false) }
+    // A file that was new has no sums in its pages, which a plain sqlite3 would spoil.
+    ensures plain { IfOk result (λ conn. HasCleanDisk (state over_files conn) → IsBlankAs false (image_at S.Start) → (view conn.store).has_sums ≡ false) }
     ensures told { IfOk result (λ conn. HasCleanDisk (state over_files conn) → (rows : List KeptRow) → FilesHold (image_at S.Start) rows → HoldsRows (state over_files conn) rows) }
 {
     if is_foreign_byte(rt, path)? {

@@ -3,7 +3,8 @@ ghost use Rattle.std.specs.Prelude.{◌≡◌, false, [], List, All, IfOk, OnOk,
 ghost use Rattle.sqlite.specs.Held.{state};
 ghost use Rattle.sqlite.specs.State.{HasCleanDisk};
 ghost use Rattle.sqlite.specs.Steps.{IsEmpty, over_memory};
-ghost use Rattle.sqlite.specs.Files.{over_files, image_of};
+ghost use Rattle.sqlite.specs.Files.{over_files, image_of, IsBlankAs};
+ghost use Rattle.sqlite_store.specs.FileStore.{view};
 ghost use Rattle.sqlite_wal.specs.Files.{image_at};
 ghost use Rattle.sqlite_wal.specs.Reads.{AreClean};
 ghost use Rattle.wb_list.specs.Keyed.{IsAscending};
@@ -92,6 +93,8 @@ impl<S: Start> SqlKeeper<FileStore<FileFrom<S>>> {
         path: &str,
         start: S,
     ) -> Result<SqlKeeper<FileStore<FileFrom<S>>>, KeepErr>
+        // A file that was new has no sums in its pages, which a plain sqlite3 would spoil.
+        ensures plain { IfOk result (λ keeper. HasCleanDisk (state over_files keeper.conn) → IsBlankAs false (image_at S.Start) → (view keeper.conn.store).has_sums ≡ false) }
         ensures told { IfOk result (λ keeper. IsHonest (state over_files keeper.conn) → (rows : List KeptRow) → FilesHold (image_at S.Start) rows → HoldsRows (state over_files keeper.conn) rows) }
         ensures count { IfOk result (λ keeper. keeper.faults ≡ 0) }
     {

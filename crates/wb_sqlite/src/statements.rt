@@ -1,10 +1,11 @@
 //! The statements over the two tables, and what is made of changes with them.
-ghost use Rattle.std.specs.Prelude.{◌≡◌, ◌==◌, ◌∷◌, ◌++◌, [], if◌then◌else◌, false, Some, None, OnOk, OnErr};
+ghost use Rattle.std.specs.Prelude.{◌≡◌, ◌<◌, ◌==◌, ◌∷◌, ◌++◌, [], get_or, if◌then◌else◌, false, Some, None, IsOk, OnOk, OnErr};
 ghost use Rattle.sqlite.specs.Held.{state};
+ghost use Rattle.sqlite.specs.Listing.{understood};
 ghost use Rattle.sqlite.specs.State.{HasCleanDisk, IsUnchanged, KeepsCommit};
 ghost use Rattle.sqlite.specs.Values.{bound};
 ghost use Rattle.wb_base.specs.declared.rows.Change.TheVariants.{Put};
-ghost use Rattle.wb_sqlite.specs.Statements.{OkMakes, ErrKeeps, LeavesAsBefore, make_tables, statements_of, all_statements, on_report, drop_trail, drop_sealed, put_record, put_entry, put_sealed};
+ghost use Rattle.wb_sqlite.specs.Statements.{OkMakes, ErrKeeps, LeavesAsBefore, Understands, six_texts, make_tables, statements_of, all_statements, on_report, drop_trail, drop_sealed, put_record, put_entry, put_sealed};
 
 use crate::refusal::Refusal;
 use sqlite::types::ValueRef;
@@ -48,6 +49,14 @@ const SIX: [&str; 6] = [
     READ_RECORD,
     READ_SEALED,
 ];
+
+// The text of one of the six.
+fn text_at(at: usize) -> &'static str
+    requires { at < 6 }
+    ensures { result.now ≡ get_or six_texts at [] }
+{
+    SIX[at]
+}
 
 // Makes one statement.
 fn run<S: Alter>(
@@ -98,6 +107,7 @@ pub(crate) fn make<S: Alter>(tx: &mut Transaction<'_, S>) -> Result<(), Refusal>
 // Asks whether a statement can be made over the tables as they stand.
 fn expect<S: Alter>(tx: &mut Transaction<'_, S>, text: &str) -> Result<(), Refusal>
     ensures same_reference { tx.new.conn.ghost_name ≡ tx.old.conn.ghost_name }
+    ensures understood { HasCleanDisk (state S.Store tx.new.conn.now) → OnOk result (IsOk (understood (state S.Store tx.old.conn.now).now.schema text.now)) }
     ensures same { HasCleanDisk (state S.Store tx.new.conn.now) → OnOk result (IsUnchanged (state S.Store tx.old.conn.now) (state S.Store tx.new.conn.now)) }
     ensures kept { HasCleanDisk (state S.Store tx.new.conn.now) → OnErr result (KeepsCommit (state S.Store tx.old.conn.now) (state S.Store tx.new.conn.now)) }
     ensures survives { LeavesAsBefore S.Store tx.old.conn.now tx.new.conn.now }
@@ -110,13 +120,14 @@ fn expect<S: Alter>(tx: &mut Transaction<'_, S>, text: &str) -> Result<(), Refus
 /// other columns or no key.
 pub(crate) fn expect_all<S: Alter>(tx: &mut Transaction<'_, S>) -> Result<(), Refusal>
     ensures same_reference { tx.new.conn.ghost_name ≡ tx.old.conn.ghost_name }
+    ensures understood { HasCleanDisk (state S.Store tx.new.conn.now) → OnOk result (Understands S.Store tx.old.conn.now six_texts) }
     ensures same { HasCleanDisk (state S.Store tx.new.conn.now) → OnOk result ((state S.Store tx.new.conn.now).now ≡ (state S.Store tx.old.conn.now).now) }
     ensures inside { HasCleanDisk (state S.Store tx.new.conn.now) → OnOk result (tx.new.conn.now.in_transaction ≡ tx.old.conn.now.in_transaction) }
     ensures keeps { HasCleanDisk (state S.Store tx.new.conn.now) → KeepsCommit (state S.Store tx.old.conn.now) (state S.Store tx.new.conn.now) }
     ensures survives { LeavesAsBefore S.Store tx.old.conn.now tx.new.conn.now }
 {
-    for text in SIX {
-        expect(tx, text)?;
+    for at in 0..SIX.len() {
+        expect(tx, text_at(at))?;
     }
     Ok(())
 }

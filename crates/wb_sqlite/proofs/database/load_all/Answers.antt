@@ -29,6 +29,7 @@ returns-clause-loads g c clean =
     record {
       made = made;
       tables = c.in_ok-make_tables.ensures.made clean_made;
+      understood = c.in_ok-make_tables.ensures.understood clean_made;
       low = low;
       sealed = sealed.added;
       high = high;
