@@ -66,21 +66,21 @@ module _ (setup : Lists) (h : Held) (read : AreRead h)
   whole = with_setup setup h
 
   -- a tenant that is there
-  pub old_tables : (t : ℕ) → has_tenant h.lists t ≡ true → tables_of whole t ≡ tables_of h t
+  old_tables : (t : ℕ) → has_tenant h.lists t ≡ true → tables_of whole t ≡ tables_of h t
   old_tables t there = ap (λ (g : Registry). with_registry g (tables_of h t)) (stays t there)
 
   -- a tenant that the setup adds, or that is not there
-  pub new_tables : (t : ℕ) → has_tenant h.lists t ≡ false → tables_of whole t ≡ empty_tables (registry_of whole.lists t)
+  new_tables : (t : ℕ) → has_tenant h.lists t ≡ false → tables_of whole t ≡ empty_tables (registry_of whole.lists t)
   new_tables t none = ap (with_registry (registry_of whole.lists t)) (read.others t none)
 
   sound_by : (t : ℕ) (b : Bool) → has_tenant h.lists t ≡ b → AreOpened (time_of h) (tables_of whole t)
   sound_by t true there = subst (AreOpened (time_of h)) (sym (old_tables t there)) (kept_rows (time_of h) h.lists t (tables_of h t) (read.kept t))
   sound_by t false none = subst (AreOpened (time_of h)) (sym (new_tables t none)) (later_empty (time_of h) (registry_of whole.lists t) (setups whole.lists set_up t))
 
-  pub sound : (t : ℕ) → AreOpened (time_of h) (tables_of whole t)
+  sound : (t : ℕ) → AreOpened (time_of h) (tables_of whole t)
   sound t = sound_by t (has_tenant h.lists t) refl
 
-  abbrev pub opening : AllOpened
+  abbrev opening : AllOpened
   opening = record { at = time_of h; tenants = tenant_ids whole.lists; ids = set_up.order; tables = tables_of whole; sound = sound }
 
   -- the hosts of the opening
@@ -89,7 +89,7 @@ module _ (setup : Lists) (h : Held) (read : AreRead h)
     same_list [] = refl
     same_list (t ∷ ts) = λ i. record { id = t; tables = record { plain = (tables_of whole t).plain; sealed = λ n. sym sealed i t n } } ∷ same_list ts i
 
-    pub stands : StandsFor (hosts_of (standing 0 (time_of h) (held_places whole) items)) (Opening opening)
+    stands : StandsFor (hosts_of (standing 0 (time_of h) (held_places whole) items)) (Opening opening)
     stands = ap (λ (xs : List Tenancy). record { turns = 0; now = time_of h; list = xs }) (same_list (tenant_ids whole.lists))
 
     -- a tenant of the opening is listed

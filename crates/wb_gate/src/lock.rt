@@ -1,8 +1,9 @@
 //! A gate that is a lock.
-ghost use Rattle.std.specs.Prelude.{◌≡◌, ◌≢◌, ◌+◌, IfOk, IfErr, IsOk, ◌↔◌};
+ghost use Rattle.std.specs.Prelude.{◌≡◌, ◌≢◌, ◌+◌, IfOk, IfErr, IsOk};
 ghost use Rattle.wb_desk.specs.GoneOn.{IsLater};
 ghost use Rattle.wb_desk.specs.Hosted.{Hosted, parts_of, turns_of, numbers_drawn};
 ghost use Rattle.wb_desk.specs.Whole.{IsWholeHost};
+ghost use Rattle.wb_gate.specs.Closing.{ClosesExactly};
 ghost use Rattle.wb_model.specs.Drawn.{numbers_of};
 ghost use Rattle.wb_model.specs.Rows.{rows_of};
 ghost use Rattle.wb_tables.specs.Standing.{hosts_of};
@@ -71,8 +72,7 @@ pub fn close<K: Keeper, A: Origin, B: Ledger>(
     ensures back { IfErr result (λ k. k.passes.items ≡ passes.items) }
     ensures sums { IfErr result (λ k. (k.sum.turns ≡ turns_of passes.items) × (k.sum.numbers ≡ numbers_drawn passes.items)) }
     ensures differ { IfErr result (λ k. k.sum.turns ≡ k.book.turns → k.sum.numbers ≢ k.book.numbers) }
-    // For some whole host that was opened with that desk: the answer is Ok exactly where the shares add up to its books, and Err tells these books.
-    ensures exact { (host : Hosted) × (host.opened ≡ A.desk) × IsWholeHost host × (IsOk result ↔ ((turns_of passes.items ≡ host.turns) × (numbers_drawn passes.items ≡ host.numbers))) × IfErr result (λ k. (k.book.turns ≡ host.turns) × (k.book.numbers ≡ host.numbers)) }
+    ensures exact { ClosesExactly A.desk (turns_of passes.items) (numbers_drawn passes.items) (λ k. k.book) result }
     ensures all { parts_of passes.items ≡ A.parts → parts_of passes.items ≡ B.parts → IsOk result }
 {
     let LockGate { host } = gate;

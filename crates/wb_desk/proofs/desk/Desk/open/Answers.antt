@@ -7,18 +7,19 @@ use Rattle.wb_base.specs.declared.rows.Change.{Change}
 use Rattle.wb_model.specs.Rows.{rows, rows_of, rows_in}
 use Rattle.wb_model.specs.Tenants.{Hosts}
 use Rattle.wb_rows.specs.Held.{held_by}
-use Rattle.wb_rows.specs.Judged.{format_of}
-use Rattle.wb_rows.specs.Left.{HoldsWhatIsLeft, left}
+use Rattle.wb_rows.specs.Judged.{format_of, judged}
 use Rattle.wb_rows.specs.Openings.{tables_of, tenancies_of, time_of, with_setup}
 use Rattle.wb_tables.specs.Kept.{place_of, tenancy_of}
 use Rattle.wb_tables.specs.Standing.{hosts_of}
 use Rattle.wb_desk.specs.Desks.{IsDesk}
 use Rattle.wb_recovery.specs.HeldPlaces.{held_places}
-use Rattle.wb_desk.specs.Openings.{IsOpenedOver, IsReopened}
+use Rattle.wb_desk.specs.Openings.{IsOpenedOver}
 use Rattle.wb_desk.specs.Turns.{standing}
-use Rattle.wb_desk.proofs.KeptOpenings.{AreRead, is_desk, old_tables, opened_over, opening, same_tenancies, stands}
+use Rattle.wb_desk.proofs.KeptOpenings.{AreRead, is_desk, opened_over, same_tenancies}
 use Rattle.wb_desk.proofs.Reopened.{reopened}
+use Rattle.wb_desk.proofs.desk.Desk.open.Given as given
 use Rattle.wb_desk.proofs.desk.Desk.open.Goals as goal
+use Rattle.wb_desk.proofs.desk.Desk.open.Goals.{In_ok-time}
 
 pub keep-requires : goal.keep-requires
 keep-requires g c = subst (λ (changes : List Change). All IsGoodChange changes) (sym c.as_slice-2.ensures.value) c.in_ok-time.ensures.good
@@ -40,21 +41,26 @@ invariant_of-result g c =
     subst IsDesk (sym same) (is_desk setup h read (c.a_kept_tenant_stays_whole.ensures setup h.lists) (c.kept_rows_and_a_setup_make_an_opening.ensures setup h.lists c.requires.set_up told.set_up) c.setups_and_kept_rows_make_openings.ensures.setups c.setups_and_kept_rows_make_openings.ensures.kept_rows
     c.in_ok-kept.kept.sealed.items refl (subst (λ n. n ≤ 99_999_999_999) made.time c.seconds-seconds.ensures.high) (c.openings_are_read_back.ensures setup h c.requires.set_up c.requires.stored told.set_up told.stored told.readable told.others))
 
-pub returns-clause-past : goal.returns-clause-past
-returns-clause-past g c =
+-- the desk is opened over the rows that were read
+opened_here : (g : given.Over) (c : In_ok-time g) → IsOpenedOver c.in_ok-rows.rows.items c.args.setup.now.lists (hosts_of (standing 0 c.in_ok-time.field-0.time (map place_of c.in_ok-time.field-0.tenancies.items) c.in_ok-time.field-0.sealed.items))
+opened_here g c =
     let setup = c.args.setup.now.lists in
     let h = held_by c.in_ok-kept.kept in
     let told = c.in_ok-kept.ensures in
     let read : AreRead h = record { set_up = told.set_up; kept = told.kept; others = told.others } in
     let made = c.in_ok-time.ensures in
     let same : standing 0 c.in_ok-time.field-0.time (map place_of c.in_ok-time.field-0.tenancies.items) c.in_ok-time.field-0.sealed.items ≡ standing 0 (time_of h) (held_places (with_setup setup h)) c.in_ok-kept.kept.sealed.items =
-    λ i. standing 0 (made.time i) (made.places i) (made.sealed i).items in (
-      c.in_ok-rows.rows.items,
-      (λ honest before held. sym (c.in_ok-rows.ensures.all (c.keep.ensures.back honest) before held)),
-      subst (λ (hosts : Hosts). IsOpenedOver c.in_ok-rows.rows.items setup hosts) (ap hosts_of (sym same))
-          (opened_over setup h read (c.a_kept_tenant_stays_whole.ensures setup h.lists) (c.kept_rows_and_a_setup_make_an_opening.ensures setup h.lists c.requires.set_up told.set_up) c.setups_and_kept_rows_make_openings.ensures.setups c.setups_and_kept_rows_make_openings.ensures.kept_rows
-          c.in_ok-kept.kept.sealed.items refl c.in_ok-rows.rows.items told.ok),
-    )
+    λ i. standing 0 (made.time i) (made.places i) (made.sealed i).items in
+    subst (λ (hosts : Hosts). IsOpenedOver c.in_ok-rows.rows.items setup hosts) (ap hosts_of (sym same))
+    (opened_over setup h read (c.a_kept_tenant_stays_whole.ensures setup h.lists) (c.kept_rows_and_a_setup_make_an_opening.ensures setup h.lists c.requires.set_up told.set_up) c.setups_and_kept_rows_make_openings.ensures.setups c.setups_and_kept_rows_make_openings.ensures.kept_rows
+    c.in_ok-kept.kept.sealed.items refl c.in_ok-rows.rows.items told.ok)
+
+pub returns-clause-past : goal.returns-clause-past
+returns-clause-past g c = (
+  c.in_ok-rows.rows.items,
+  (λ honest before held. sym (c.in_ok-rows.ensures.all (c.keep.ensures.back honest) before held)),
+  opened_here g (goal.at.returns-clause-past g c).In_ok-time,
+)
 
 pub returns-clause-kept : goal.returns-clause-kept
 returns-clause-kept g c = λ honest rows held_before.
@@ -77,18 +83,6 @@ returns-clause-kept g c = λ honest rows held_before.
 
 pub returns-clause-reopened : goal.returns-clause-reopened
 returns-clause-reopened g c = λ before is honest held.
-    let setup = c.args.setup.now.lists in
-    let h = held_by c.in_ok-kept.kept in
-    let told = c.in_ok-kept.ensures in
-    let read : AreRead h = record { set_up = told.set_up; kept = told.kept; others = told.others } in
-    let made = c.in_ok-time.ensures in
-    let same : standing 0 c.in_ok-time.field-0.time (map place_of c.in_ok-time.field-0.tenancies.items) c.in_ok-time.field-0.sealed.items ≡ standing 0 (time_of h) (held_places (with_setup setup h)) c.in_ok-kept.kept.sealed.items =
-    λ i. standing 0 (made.time i) (made.places i) (made.sealed i).items in
-    let stays = c.a_kept_tenant_stays_whole.ensures setup h.lists in
-    let set_up = c.kept_rows_and_a_setup_make_an_opening.ensures setup h.lists c.requires.set_up told.set_up in
-    let law = c.setups_and_kept_rows_make_openings.ensures in
-    let is_left : h ≡ left before = told.left before is (sym (c.in_ok-rows.ensures.all (c.keep.ensures.back honest) (rows before) held)) in
-    let all_left = subst (HoldsWhatIsLeft before) (sym is_left) (c.what_hosts_leave_is_read.ensures.left before is) in
-    subst (λ (hosts : Hosts). IsReopened before hosts) (ap hosts_of (sym same))
-    (reopened before setup h all_left stays (old_tables setup h read stays set_up law.setups law.kept_rows) (opening setup h read stays set_up law.setups law.kept_rows) (hosts_of (standing 0 (time_of h) (held_places (with_setup setup h)) c.in_ok-kept.kept.sealed.items))
-    (record { at = refl; tenants = refl; tables = λ t. refl }) (stands setup h read stays set_up law.setups law.kept_rows c.in_ok-kept.kept.sealed.items refl))
+    let law = c.what_hosts_leave_is_read.ensures in
+    let loaded = c.in_ok-rows.ensures.all (c.keep.ensures.back honest) (rows before) held in
+    reopened before c.args.setup.now.lists c.in_ok-rows.rows.items _ (opened_here g (goal.at.returns-clause-reopened g c).In_ok-time) (ap judged loaded ∙ law.read before is) (law.left before is) (c.a_kept_tenant_stays_whole.ensures c.args.setup.now.lists)
