@@ -13,6 +13,3 @@ pub use faults::AccessFault;
 pub use receipts::ReceiptBox;
 pub use secrets::{draw, secret};
 pub use sessions::{Session, SessionTable};
-
-#[cfg(test)]
-mod tests;

@@ -15,6 +15,3 @@ pub use laws::{a_legal_entry_names_few_readers, a_legal_trail_has_early_days};
 pub use readers::Readers;
 pub use summary::Summary;
 pub use terms::Terms;
-
-#[cfg(test)]
-mod tests;

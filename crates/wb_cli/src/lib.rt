@@ -16,6 +16,3 @@ pub use places::Place;
 pub use plans::{Lock, Plan, PlanFault};
 pub use status::{Status, exit_line};
 pub use store_word::StoreWord;
-
-#[cfg(test)]
-mod command_line_tests;

@@ -11,6 +11,3 @@ mod sealed;
 pub use desk::AccessDesk;
 pub use laws::what_legal_trails_say_of_requests;
 pub use sealed::{SealedItem, SealedTable};
-
-#[cfg(test)]
-mod tests;

@@ -11,8 +11,6 @@ mod responses;
 mod standing;
 mod store;
 mod taking;
-#[cfg(test)]
-mod tests;
 
 pub use etcd_keeper::EtcdKeeper;
 pub use exchange::MAX_ANSWER;

@@ -11,6 +11,3 @@ pub use exports::{export_forecast, export_register};
 pub use forecasts::{Expiring, forecast};
 pub use laws::{a_forecast_is_what_goes, exports_tell_no_identity_answer};
 pub use registers::register;
-
-#[cfg(test)]
-mod tests;

@@ -3,6 +3,20 @@
 #![tactic(auto)]
 
 #[cfg(test)]
+mod access;
+#[cfg(test)]
+mod cases;
+#[cfg(test)]
+mod custody;
+#[cfg(test)]
 mod heads;
 #[cfg(test)]
+mod lists;
+#[cfg(test)]
 mod outside;
+#[cfg(test)]
+mod terms;
+#[cfg(test)]
+mod ticket_locks;
+#[cfg(test)]
+mod trails;

@@ -12,6 +12,3 @@ pub use memory::Memory;
 pub use roomy::Roomy;
 pub use sorted::{ItemChange, ItemRun, ItemTest, Keyed, Sorted};
 pub use try_clone::TryClone;
-
-#[cfg(test)]
-mod tests;

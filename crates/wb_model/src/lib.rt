@@ -44,6 +44,3 @@ pub use setting::AdminFault;
 pub use trail::Trail;
 pub use view::{Custodied, Due, DueKind, Listed};
 pub use wire::{PathNo, ScriptFrame, WireFault};
-
-#[cfg(test)]
-mod tests;

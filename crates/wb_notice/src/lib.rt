@@ -20,6 +20,3 @@ pub use notice::{Notice, NoticeKind, notice_row};
 pub use notifying::notify;
 pub use outbox::{NoticeNo, deliver};
 pub use owing::owed;
-
-#[cfg(test)]
-mod tests;

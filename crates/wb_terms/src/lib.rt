@@ -7,8 +7,6 @@ mod days;
 mod laws;
 mod term_index;
 mod terms;
-#[cfg(test)]
-mod tests;
 
 pub use date_texts::{date_text, read_date};
 pub use days::day_of;

@@ -11,8 +11,6 @@ mod opening;
 mod plays;
 mod seat;
 mod steps;
-#[cfg(test)]
-mod tests;
 
 pub use closing::{SeatsOut, close};
 pub use deed::{ByWork, Deed, Work};

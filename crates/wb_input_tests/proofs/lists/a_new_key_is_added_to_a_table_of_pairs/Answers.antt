@@ -1,5 +1,5 @@
 use Rattle.std.specs.List.Sorted.{IsStrictlySortedBy}
-use Rattle.wb_list.proofs.tests.a_new_key_is_added_to_a_table_of_pairs.Goals as goal
+use Rattle.wb_input_tests.proofs.lists.a_new_key_is_added_to_a_table_of_pairs.Goals as goal
 
 pub of-table-requires : goal.of-table-requires
 unfolding IsStrictlySortedBy

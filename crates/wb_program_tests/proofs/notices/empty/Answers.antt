@@ -1,5 +1,5 @@
 use Rattle.std.specs.List.Sorted.{IsStrictlySortedBy}
-use Rattle.wb_notice.proofs.tests.empty.Goals as goal
+use Rattle.wb_program_tests.proofs.notices.empty.Goals as goal
 
 pub new-requires : goal.new-requires
 unfolding IsStrictlySortedBy

@@ -1,10 +1,8 @@
-use crate::command_line::plan;
-use crate::places::Place;
-use crate::plans::{Lock, Plan, PlanFault};
-use crate::store_word::StoreWord;
+//! Command lines, and what they ask.
 use std::alloc::Global;
 use std::test::Fail;
 use wb_base::Text;
+use wb_cli::{Lock, Place, Plan, PlanFault, StoreWord, plan};
 
 // Words, and what they ask.
 const FORMS: &[(&[&str], &str)] = &[

@@ -1,8 +1,9 @@
-use super::*;
+//! Identity answers under their report, and the requests for them.
 use std::alloc::Global;
 use std::process::Abort;
 use std::test::Fail;
 use wb_base::{Answers, Given, Moment, Number, Tenant, Text, UserId};
+use wb_custody::{AccessDesk, SealedTable};
 use wb_list::Items;
 use wb_model::{Actor, CustodyFault, Deed, Entry, Move, State, Trail};
 

@@ -1,13 +1,14 @@
+//! What is owed of kept rows, and what an outbox takes of it.
 ghost use Rattle.std.specs.Prelude.{ℕ, IfOk};
 ghost use Rattle.wb_model.specs.KeptRules.{AreKept};
 ghost use Rattle.wb_rows.specs.Held.{held_by};
 ghost use Rattle.wb_rows.specs.Openings.{tables_of, time_of};
 
-use super::*;
 use std::alloc::Global;
 use std::str;
 use std::test::Fail;
 use wb_base::{Change, Keeper, Key, MemKeeper, MemSink, Moment, Row, Text};
+use wb_notice::{NoticeNo, deliver, notify, owed};
 use wb_rows::{Tables, read};
 
 // A key: kind, tenant and two numbers.
@@ -238,5 +239,17 @@ fn a_delivery_that_failed_is_tried_again(rt: HostRuntime) -> Result<(), Fail> {
     }
     keep(alloc, &mut outbox, (6, 1, 1, 14), "{}")?;
     assert_eq!(rt; delivered(alloc, &mut outbox)?.as_str(), "6/14 2");
+    Ok(())
+}
+
+// The second delivery has nothing to change: it asks for the rows alone, by the outbox's third call.
+#[test]
+fn an_outbox_is_not_called_to_change_nothing(rt: HostRuntime) -> Result<(), Fail> {
+    let alloc = rt.alloc();
+    let mut outbox = empty(alloc, [4].to_vec(alloc)?);
+    for held in ["1", "1"] {
+        assert!(rt; delivered(alloc, &mut outbox)?.ends_with(held));
+    }
+    assert_eq!(rt; outbox.faults(), 0);
     Ok(())
 }

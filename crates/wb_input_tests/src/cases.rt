@@ -1,13 +1,14 @@
+//! What a report takes and refuses, and what its trail rebuilds.
 ghost use Rattle.std.specs.Prelude.{◌≡◌};
 ghost use Rattle.wb_base.specs.Days.{IsEarlyDay};
 ghost use Rattle.wb_model.specs.declared.act.Act.TheVariants.{Postpone};
 ghost use Rattle.wb_case.specs.Plans.{IsInRange};
 
-use super::*;
 use std::alloc::Global;
 use std::process::Abort;
 use std::test::Fail;
 use wb_base::{Answers, Calendar, Day, Digest, Moment, Number, Tenant, Text, UserId};
+use wb_case::Case;
 use wb_list::Items;
 use wb_model::{Act, Actor, CaseFault, Deed, Entry, Status, Trail, Was};
 use wb_terms::{ack_due, expiry, feedback_due, read_date};

@@ -1,6 +1,7 @@
-use super::*;
+//! A table with a key of two parts, one of pairs, and a list.
 use std::cmp::Ordering;
 use std::test::Fail;
+use wb_list::{ItemTest, Items, Keyed, Memory, Roomy, Sorted, TryClone};
 
 /// An item of a table with a key of two parts.
 #[derive(Debug, PartialEq, Eq, Drop)]

@@ -1,11 +1,12 @@
+//! Registers and forecasts of kept rows.
 ghost use Rattle.std.specs.Prelude.{◌≡◌, true, IfOk};
 ghost use Rattle.std.specs.List.{list_all};
 ghost use Rattle.wb_model.specs.SetUps.{is_tenant_item};
 
-use super::*;
 use std::alloc::Global;
 use std::test::Fail;
 use wb_base::{Change, Keeper, Key, MemKeeper, Moment, Row, Tenant, Text, UserId};
+use wb_export::{forecast, register};
 use wb_rows::{Tables, read};
 use wb_terms::read_date;
 

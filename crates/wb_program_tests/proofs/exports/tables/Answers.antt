@@ -1,5 +1,5 @@
 use Rattle.std.specs.List.Sorted.{IsStrictlySortedBy}
-use Rattle.wb_export.proofs.tests.tables.Goals as goal
+use Rattle.wb_program_tests.proofs.exports.tables.Goals as goal
 
 pub new-keeper-requires : goal.new-keeper-requires
 unfolding IsStrictlySortedBy

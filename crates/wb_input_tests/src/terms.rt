@@ -1,9 +1,12 @@
+//! Days as they are written, the ends of terms, and an index of terms.
 ghost use Rattle.wb_base.specs.Days.{IsEarlyDay};
 
-use super::*;
 use std::process::Abort;
 use std::test::Fail;
 use wb_base::{Day, Moment, Number, Tenant, are_holidays};
+use wb_terms::{
+    Calendar, Kind, Term, TermIndex, ack_due, date_text, day_of, expiry, feedback_due, read_date,
+};
 
 // A day to which terms may be added, by its text.
 fn early(rt: &impl Abort, text: &str) -> Day

@@ -2,10 +2,10 @@
 ghost use Rattle.std.specs.Prelude.{All, IfOk};
 ghost use Rattle.wb_base.specs.KeptRows.{IsGoodChange};
 
-use crate::{EtcdKeeper, Store};
 use std::alloc::Global;
 use std::test::Fail;
 use wb_base::{Change, Keeper, Key, Number, Row, Tenant, Text};
+use wb_etcd::{EtcdKeeper, Store};
 use wb_transport::{MemDial, MemLink};
 
 const NAME: &str = "etcd://a:1,b:2/w";

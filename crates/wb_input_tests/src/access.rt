@@ -1,8 +1,11 @@
+//! Receipts and secrets as they are drawn and checked, and the sessions of principals.
 ghost use Rattle.std.specs.Prelude.{◌≡◌};
 
-use super::*;
 use std::process::Abort;
 use std::test::Fail;
+use wb_access::{
+    AccessFault, ReceiptBox, Session, SessionTable, check_secret, digest, draw, secret,
+};
 use wb_base::{Digest, Moment, Number, Presented, Principal, Role, Salt, Tenant, UserId, Words};
 
 const SALT: Salt = Salt([7; 16]);

@@ -1,13 +1,13 @@
 //! A count behind a lock: two threads, each with a seat, and a lock that some seats cannot close.
 ghost use Rattle.std.specs.Prelude.{◌≡◌, ◌<◌, All, length};
 
-use crate::{ByWork, Deed, LockSeat, SeatsOut, TicketLock, Work, close, enter, over};
 use std::alloc::Global;
 use std::process::Abort;
 use std::sync::Wait;
 use std::test::*;
 use std::thread;
 use std::thread::Threads;
+use wb_ticket_lock::{ByWork, Deed, LockSeat, SeatsOut, TicketLock, Work, close, enter, over};
 
 // Adds to a count, and tells what it was.
 struct Adding;
