@@ -33,6 +33,7 @@ pub mod SetUpsReadable
 pub mod SettingsRight
 pub mod TurnLaw
 pub mod TurnRows
+pub mod Unwinding
 mod AbsentOpenings
 mod AbsentPast
 mod AbsentScripts
@@ -94,5 +95,4 @@ mod TargetsServed
 mod TargetsWithout
 mod TurnsServed
 mod Unchanged
-mod Unwinding
 mod WithoutOpenings

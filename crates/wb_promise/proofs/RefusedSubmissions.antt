@@ -1,14 +1,11 @@
 -- Two submissions that differ in valid identity answers alone: where the first is not accepted, both get the same reply and leave the same past.
-use Rattle.std.proofs.Common.{◌≡◌, ◌≢◌, ◌⊎◌, inl, inr, ℕ, ◌+◌, Bool, true, false, cond, eqb, not, List, [], ◌∷◌, Option, Some, None, refl, sym, ap, ◌∙◌, subst, arith}
+use Rattle.std.proofs.Common.{◌≡◌, ◌≢◌, ◌⊎◌, inl, inr, ℕ, ◌+◌, Bool, true, false, cond, eqb, not, List, [], ◌∷◌, Some, None, refl, sym, ap, ◌∙◌, subst, arith}
 use Rattle.std.specs.Prelude.{find, map, max, ◌&&◌}
 use Rattle.std.specs.List.{list_any}
-use Rattle.wb_base.specs.AnswerList.{Answered}
-use Rattle.wb_base.specs.declared.faults.AnswerFault.{AnswerFault}
 use Rattle.wb_model.specs.declared.body.Told.{Told}
 use Rattle.wb_model.specs.declared.command.Asked.{Asked}
 use Rattle.wb_model.specs.declared.event.What.TheVariants.{Idle, Lost}
 use Rattle.wb_model.specs.Alike.{SubmissionsAlike, is_refused}
-use Rattle.wb_model.specs.AskingForms.{asking_form}
 use Rattle.wb_model.specs.Changes.{Verdict, Refused, Accepted}
 use Rattle.wb_model.specs.Host.{Sealed, Tables, Host, purge_at, ruling, ruling_at, reply_by}
 use Rattle.wb_model.specs.Opened.{Opened}
@@ -16,44 +13,23 @@ use Rattle.wb_model.specs.Past.{Past, Turn, turns, now, held, plain}
 use Rattle.wb_model.specs.PastTurns.{at_frame, verdict_at, reply_at, target_at, what_by, what_at}
 use Rattle.wb_model.specs.Pasts.{AllOpened, part, tenants, has_tenant, time, held_tenancy, standing_hosts, reply_in, what_in}
 use Rattle.wb_model.specs.Refusals.{keeper_failed, no_memory}
-use Rattle.wb_model.specs.Requests.{Frame, Checked, Request, outline, outcome, submission_outcome, submission_fault, public, mark, plain_part}
+use Rattle.wb_model.specs.Requests.{Frame, plain_part}
 use Rattle.wb_model.specs.Rules.{verdict}
 use Rattle.wb_model.specs.Scripts.{Loss, NotLost, ByKeeper, ByMemory, Unread, Place, frame_of, replying, play_asked, play_by, play}
 use Rattle.wb_model.specs.ScriptsAlike.{AskAlike, is_made, is_accepted}
-use Rattle.wb_model.specs.Tables.{Plain, context}
-use Rattle.wb_model.specs.Targets.{Target, target, trail_at}
+use Rattle.wb_model.specs.Targets.{Target, target}
 use Rattle.wb_model.specs.Tenants.{one, tenant_at, has_id, without_tenant, refused_in, OnTenant, FirstAlike}
 use Rattle.wb_model.proofs.Found.{decide, other_number}
 use Rattle.wb_model.proofs.HeldTables.{held_now}
 use Rattle.wb_model.proofs.PartLaw.{part_stands, found_tenancy}
+use Rattle.wb_model.proofs.Unwinding.{submissions_frames}
 
 -- ---- one tenant
-
-same_request : (a b : Request) → a.session ≡ b.session → a.command ≡ b.command → a.outcome ≡ b.outcome → a ≡ b
-same_request a b s c o = λ i. record { session = s i; command = c i; outcome = o i }
-
-same_checked : (f g : Option AnswerFault) (x y : Answered) (m n : Bool) → f ≡ g → x ≡ y → m ≡ n → Checked f x m ≡ Checked g y n
-same_checked f g x y m n a b c = λ i. Checked (a i) (b i) (c i)
-
--- two valid submissions with equal public answers and marks are one request to the tables
-one_request : (p : Plain) (a b : Frame) → SubmissionsAlike p a b → plain_part p a.asked ≡ plain_part p b.asked
-one_request p a b s = same_request _ _ s.session (ap outline s.left ∙ sym (ap outline s.right)) outcomes
-  where
-    checked : (answers : Answered) → submission_outcome (asking_form (context s.context p.registry.contexts) p.registry.forms) answers ≡ Checked (submission_fault s.item.form answers) (public s.item.form answers) (mark s.item.form answers)
-    checked answers = ap (λ o. submission_outcome o answers) s.asks
-
-    outcomes : (plain_part p a.asked).outcome ≡ (plain_part p b.asked).outcome
-    outcomes =
-        ap (outcome p.registry (trail_at (target p a.asked.session (outline a.asked.command)))) s.left
-        ∙ (checked s.given
-        ∙ (same_checked (submission_fault s.item.form s.given) (submission_fault s.item.form s.other) (public s.item.form s.given) (public s.item.form s.other) (mark s.item.form s.given) (mark s.item.form s.other) (s.valid ∙ sym s.other_valid) s.publics s.marks
-        ∙ (sym (checked s.other)
-        ∙ sym (ap (outcome p.registry (trail_at (target p b.asked.session (outline b.asked.command)))) s.right))))
 
 -- so one verdict is on both
 one_ruling : (past : Past Opened) (f g : Frame) → f.moment ≡ g.moment → f.words ≡ g.words → SubmissionsAlike (plain past (at_frame past f).time) f g → verdict_at past f ≡ verdict_at past g
 one_ruling past f g moment words alike =
-    ap (verdict (plain past (at_frame past f).time) (at_frame past f)) (one_request (plain past (at_frame past f).time) f g alike)
+    ap (verdict (plain past (at_frame past f).time) (at_frame past f)) (submissions_frames (plain past (at_frame past f).time) f g alike).asked
     ∙ (λ i. verdict (plain past (max (now past) (moment i))) (record { time = max (now past) (moment i); turn = turns past + 1; words = words i }) (plain_part (plain past (max (now past) (moment i))) g.asked))
 
 -- a refusal is told whatever identity answers are held
