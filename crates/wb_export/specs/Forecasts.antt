@@ -1,14 +1,15 @@
 -- What expires by a day.
-use Rattle.std.specs.Prelude.{◌≡◌, ℕ, ℤ, Bool, not, int_lt, List, [], ◌∷◌, map, filter, codes, decimal}
+use Rattle.std.specs.Prelude.{◌≡◌, ◌==◌, ◌&&◌, ℕ, ℤ, Bool, not, int_lt, List, [], ◌∷◌, map, filter, codes, decimal}
+use Rattle.std.specs.List.{list_any}
 use Rattle.std.specs.List.Sorted.{IsSortedBy}
 use Rattle.std.specs.Ordering.{int_eq}
 use Rattle.wb_base.specs.DateTexts.{date_text}
 use Rattle.wb_base.specs.Days.{day_of}
 use Rattle.wb_model.specs.declared.event.What.TheVariants.{Idle}
 use Rattle.wb_model.specs.Opened.{Opened}
-use Rattle.wb_model.specs.Past.{Past, Turn}
+use Rattle.wb_model.specs.Past.{Past, Turn, held}
 use Rattle.wb_model.specs.Requests.{Frame}
-use Rattle.wb_model.specs.Tables.{Case, Plain}
+use Rattle.wb_model.specs.Tables.{Case}
 use Rattle.wb_model.specs.Trails.{expires}
 use Rattle.wb_export.specs.Csv.{CsvLine, csv_text}
 use Rattle.wb_export.specs.declared.forecasts.Expiring.{Expiring}
@@ -41,10 +42,18 @@ forecast_line x = decimal x.number ∷ date_text x.expires ∷ []
 abbrev pub forecast_text : List Expiring → List ℕ
 forecast_text found = csv_text (forecast_header ∷ map forecast_line found)
 
+-- the tenant's day of a frame's moment
+abbrev pub day_at : Past Opened → Frame → ℤ
+day_at past f = day_of f.moment (held past).plain.registry.settings.offset
+
 -- a turn that changes nothing, with the moment and the words of a frame
 abbrev pub after_idle : Past Opened → Frame → Past Opened
 after_idle past f = Turn (record { moment = f.moment; words = f.words; what = Idle }) past
 
--- the reports of a tenant but those that expire by its day of a moment
-abbrev pub without_expired : ℕ → Plain → List Case
-without_expired moment p = filter (λ c. not (expires_by (day_of moment p.registry.settings.offset) c)) p.cases
+-- a row of a forecast names a report: its number and its expiry
+abbrev pub names : Case → Expiring → Bool
+names c x = (x.number == c.number) && expires_on (expires c.trail) x
+
+-- the reports that no row of a forecast names
+abbrev pub without : List Expiring → List Case → List Case
+without found cases = filter (λ c. not (list_any (names c) found)) cases

@@ -1,18 +1,18 @@
 //! Laws of the definitions, each a function with no body.
 ghost use Rattle.std.specs.Prelude.{◌≡◌, ◌≤◌, ℕ, ℤ, List, Option};
 ghost use Rattle.wb_base.specs.AnswerList.{Answered};
-ghost use Rattle.wb_model.specs.ByVerdicts.{AreByVerdicts};
 ghost use Rattle.wb_model.specs.Opened.{Opened};
 ghost use Rattle.wb_model.specs.Past.{Past, held, now};
 ghost use Rattle.wb_model.specs.Requests.{Frame};
 ghost use Rattle.wb_rows.specs.Held.{Held};
 ghost use Rattle.wb_export.specs.Exports.{IsForecastOf, IsRegisterOf};
-ghost use Rattle.wb_export.specs.Forecasts.{after_idle, without_expired};
+ghost use Rattle.wb_export.specs.Forecasts.{IsForecast, after_idle, day_at, without};
+ghost use Rattle.wb_export.specs.declared.forecasts.Expiring.{Expiring as Row};
 
-/// What expires by the day of a moment is what goes in a turn at it that changes nothing, and nothing else goes in such a turn. The moment is not
+/// What is forecast for the day of a moment is what goes in a turn at it that changes nothing, and nothing else goes in such a turn. The moment is not
 /// before the host's time.
 pub fn a_forecast_is_what_goes()
-    ensures { (t : ℕ) (past : Past Opened) (f : Frame) → AreByVerdicts t past → now past ≤ f.moment → (held (after_idle past f)).plain.cases ≡ without_expired f.moment (held past).plain }
+    ensures { (past : Past Opened) (f : Frame) (found : List Row) → now past ≤ f.moment → IsForecast (day_at past f) (held past).plain.cases found → (held (after_idle past f)).plain.cases ≡ without found (held past).plain.cases }
 {}
 
 /// What is written over kept rows is the same with any other identity answers.
