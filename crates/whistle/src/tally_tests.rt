@@ -1,7 +1,7 @@
 //! What a tally tells where its keeper or its sink fails.
 
-use crate::tests::{ROOM, keeper_failing_at};
-use crate::{Status, run};
+use crate::Status;
+use crate::tests::{ROOM, call, keeper_failing_at};
 use std::alloc::Global;
 use std::test::Fail;
 use wb_base::{MemSink, MemSource, Text};
@@ -29,7 +29,7 @@ fn tally_over(alloc: Global, calls: &[u64], writes: &[u64]) -> Result<(Status, V
     let mut source = MemSource::new(Vec::new(alloc), Vec::new(alloc), Vec::new(alloc));
     let mut sink = MemSink::new(Vec::new(alloc), ROOM, writes.to_vec(alloc)?)?;
     let mut keeper = keeper_failing_at(alloc, calls.to_vec(alloc)?);
-    let status = run(alloc, &words, &mut source, &mut sink, &mut keeper);
+    let status = call(alloc, &words, &mut source, &mut sink, &mut keeper);
     Ok((status, sink.held().to_vec(alloc)?))
 }
 

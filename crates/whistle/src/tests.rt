@@ -146,6 +146,17 @@ fn source(alloc: Global, bytes: &[u8], size: usize, fail: &[u64]) -> Result<MemS
     Ok(MemSource::new(bytes.to_vec(alloc)?, pieces, fail.to_vec(alloc)?))
 }
 
+/// The call, in a function of its own, so that what it ensures stands in no other proof.
+pub(crate) fn call(
+    alloc: Global,
+    words: &[Text],
+    source: &mut MemSource,
+    sink: &mut MemSink,
+    keeper: &mut MemKeeper,
+) -> Status {
+    run(alloc, words, source, sink, keeper)
+}
+
 // Plays the script over a keeper, with reads and writes that fail at these calls, and gives the status and the output.
 fn play(
     alloc: Global,
@@ -156,7 +167,7 @@ fn play(
     let mut source = source(alloc, &script(alloc)?, 1_000, reads)?;
     let mut sink = MemSink::new(Vec::new(alloc), ROOM, writes.to_vec(alloc)?)?;
     let words = [Text::from_str(alloc, "play")?];
-    let status = run(alloc, &words, &mut source, &mut sink, keeper);
+    let status = call(alloc, &words, &mut source, &mut sink, keeper);
     Ok((status, sink.held().to_vec(alloc)?))
 }
 
