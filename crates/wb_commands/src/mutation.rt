@@ -83,7 +83,8 @@ impl Mutation {
         requires fit { (time : ℕ) × IsFit time tenancy.old self }
         requires room { HasRoomFor tenancy.old sealed.old.spare self }
         requires own { IsOwnMutation (plain_of tenancy.old) self }
-        ensures tables { (time : ℕ) → IsFit time tenancy.old self → tables_of sealed.new.items (place_of tenancy.new) ≡ changed time (planned_change tenancy.old self) (given_of self) (tables_of sealed.old.items (place_of tenancy.old)) }
+        ensures tables { (time : ℕ) → IsFit time tenancy.old self → tables_of sealed.new.items (place_of tenancy.new)
+            ≡ changed time (planned_change tenancy.old self) (given_of self) (tables_of sealed.old.items (place_of tenancy.old)) }
         ensures id { (place_of tenancy.new).id ≡ (place_of tenancy.old).id }
         ensures others { (t n : ℕ) → t ≢ (place_of tenancy.old).id → answers_of sealed.new.items t n ≡ answers_of sealed.old.items t n }
     {

@@ -35,6 +35,10 @@ TookTurn keeper keeper' h f told h' = (past : Past AllOpened) → StandsFor h pa
 abbrev pub IsMade : Told → Type 0
 IsMade told = (told ≢ no_memory) × (told ≢ keeper_failed)
 
+-- this holds where a turn was left to make after so many, and it was made
+abbrev pub WhereMade : ℕ → Told → Type 0 → Type 0
+WhereMade turns told claim = turns < 1_000_000_000_000_000 → IsMade told → claim
+
 -- but to its readers the reply is the same whatever identity answers report r of tenant t has
 abbrev pub HidesInReply : ℕ → ℕ → Hosts → Frame → Told → Type 0
 HidesInReply t r h f told = (k : Hosts) (b : Frame) → AllHostsAlike t r h k → OneLaterAlike t r h f b → is_report_reader t r h f ≡ false → told ≡ hosts_reply k b

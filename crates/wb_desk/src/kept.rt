@@ -44,7 +44,15 @@ impl<K: Keeper, A: Origin, B: Ledger> Model for Kept<K, A, B> {
 
     ghost view = { λ k. record { desk = k.desk; opened = A.desk; turns = k.turns; numbers = k.numbers; faults = (K.end k.keeper).count } };
 
-    ghost invariant = { λ k. (k.turn_book.total ≡ k.turns) × (k.number_book.total ≡ k.numbers) × (k.turn_mark.parts ≡ 0) × (k.turn_mark.amount ≡ 0) × (k.number_mark.parts ≡ 0) × (k.number_mark.amount ≡ 0) × IsBooked k.desk A.desk k.turns k.numbers (K.end k.keeper) × (k.first ≡ A.desk.turns) × ((K.end k.keeper).honest → A.honest) };
+    ghost invariant = { λ k. (k.turn_book.total ≡ k.turns)
+        × (k.number_book.total ≡ k.numbers)
+        × (k.turn_mark.parts ≡ 0)
+        × (k.turn_mark.amount ≡ 0)
+        × (k.number_mark.parts ≡ 0)
+        × (k.number_mark.amount ≡ 0)
+        × IsBooked k.desk A.desk k.turns k.numbers (K.end k.keeper)
+        × (k.first ≡ A.desk.turns)
+        × ((K.end k.keeper).honest → A.honest) };
 }
 
 // Whether a submission was asked and accepted.

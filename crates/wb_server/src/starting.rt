@@ -48,7 +48,8 @@ pub fn start<S: Source, K: Keeper>(
     setup: &mut S,
     keeper: &mut K,
 ) -> Result<(Routes, Desk), Status>
-    ensures ok { IfOk result (λ started. (text : _) × IsText (S.end setup.old) (S.end setup.new) text × ((loaded : List Row) × (start : Past AllOpened) × Opens (K.end keeper.old) (K.end keeper.new) loaded text start (hosts_of started.1))) }
+    ensures ok { IfOk result (λ started. (text : _) × IsText (S.end setup.old) (S.end setup.new) text
+        × ((loaded : List Row) × (start : Past AllOpened) × Opens (K.end keeper.old) (K.end keeper.new) loaded text start (hosts_of started.1))) }
     ensures err { IfErr result (λ status. ServesNone (S.end setup.old) (S.end setup.new) (K.end keeper.old) (K.end keeper.new) status) }
     ensures back { (K.end keeper.new).honest → (K.end keeper.old).honest }
     ensures stayed { result ≢ Err Status.ReadFault → (S.end setup.new).count ≡ (S.end setup.old).count }

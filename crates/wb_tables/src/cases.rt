@@ -54,7 +54,11 @@ impl Model for Cases {
 
     ghost view = { λ c. record { tenant = c.tenant; items = c.cases.items; spare = min (min c.cases.spare (min c.asked.spare c.due.spare)) (min c.terms.spare c.receipts.spare) } };
 
-    ghost invariant = { λ c. IsIndexed c.tenant (map case_of c.cases.items) c.terms.items × AreCustodied c.cases.items × AreReceipted c.tenant (map case_of c.cases.items) c.receipts.items × AreNumbersOf has_requests (map case_of c.cases.items) c.asked.items × AreNumbersOf has_dues (map case_of c.cases.items) c.due.items };
+    ghost invariant = { λ c. IsIndexed c.tenant (map case_of c.cases.items) c.terms.items
+        × AreCustodied c.cases.items
+        × AreReceipted c.tenant (map case_of c.cases.items) c.receipts.items
+        × AreNumbersOf has_requests (map case_of c.cases.items) c.asked.items
+        × AreNumbersOf has_dues (map case_of c.cases.items) c.due.items };
 }
 
 // The day on which a report expires, as a term.
@@ -263,7 +267,8 @@ impl Cases {
         requires user { is_reporter by ≡ false }
         ensures tenant { self.new.tenant ≡ self.old.tenant }
         ensures cases { map case_of self.new.items ≡ map case_of self.old.items }
-        ensures plan { (trail : List EntryData) → report_by number (map case_of self.old.items) ≡ Some (record { number = number; trail = trail }) → custody.GivesPlan (length trail) (has_identity trail) (requests trail) at by move_ result }
+        ensures plan { (trail : List EntryData) → report_by number (map case_of self.old.items) ≡ Some (record { number = number; trail = trail })
+            → custody.GivesPlan (length trail) (has_identity trail) (requests trail) at by move_ result }
         ensures ready { IfOk result (λ entry. IsReadyNote number entry self.new.items) }
     {
         self.cases.change(&number.get(), Moving { at, by, move_ })

@@ -46,7 +46,8 @@ fn push_tenant(batch: &mut Vec<Change>, tenancy: &Tenancy, time: Moment) -> Resu
 /// What a purge of all tenants drops of the kept rows. It takes no memory where all reports are live.
 pub fn dead_batch(alloc: Global, tenancies: &[Tenancy], time: Moment) -> Result<Vec<Change>, Memory>
     requires places { (turns : ℕ) × (items : List SealedItem) × ArePlaces turns 0 items (map place_of tenancies.now) }
-    ensures rows { IfOk result (λ batch. (items : List SealedItem) → all_changed (rows_of (map (tenancy_of items) (map place_of tenancies.now))) batch.items ≡ rows_of (map (purged_tenancy time) (map (tenancy_of items) (map place_of tenancies.now)))) }
+    ensures rows { IfOk result (λ batch. (items : List SealedItem) → all_changed (rows_of (map (tenancy_of items) (map place_of tenancies.now))) batch.items
+        ≡ rows_of (map (purged_tenancy time) (map (tenancy_of items) (map place_of tenancies.now)))) }
     ensures good { IfOk result (λ batch. All IsGoodChange batch.items) }
     ensures none { IfOk result (λ batch. any_dead time (map place_of tenancies.now) ≡ false → batch.items ≡ []) }
     ensures err { OnErr result (any_dead time (map place_of tenancies.now) ≡ true) }

@@ -206,7 +206,8 @@ impl Sessions {
 
     // Whether the time of the first session is over. Where it is not, that of none is, if moments do not fall.
     fn is_first_late(&self, time: Moment) -> bool
-        ensures { result ≡ false → (cases : List Case) → AreThere cases (map session_of self.now.items) → NeverFall 0 (map session_of self.now.items) → filter (lasts_at time cases) (map session_of self.now.items) ≡ map session_of self.now.items }
+        ensures { result ≡ false → (cases : List Case) → AreThere cases (map session_of self.now.items) → NeverFall 0 (map session_of self.now.items)
+            → filter (lasts_at time cases) (map session_of self.now.items) ≡ map session_of self.now.items }
     {
         match self.table.as_slice().first() {
             Some(first) => !is_timely(first, time),

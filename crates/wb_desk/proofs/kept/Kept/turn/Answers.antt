@@ -4,18 +4,26 @@ use Rattle.wb_model.specs.Requests.{Frame}
 use Rattle.wb_model.specs.Rows.{rows_of}
 use Rattle.wb_tables.specs.Standing.{hosts_of}
 use Rattle.wb_desk.proofs.Steps.{Ensured, Withheld, booked_after, turned_by}
+use Rattle.wb_desk.proofs.kept.Kept.turn.Given as given
 use Rattle.wb_desk.proofs.kept.Kept.turn.Goals as goal
+use Rattle.wb_desk.proofs.kept.Kept.turn.Goals.{After-step-told}
+
+-- what the step of the desk ensures
+stepped : (g : given.Over) (c : After-step-told g) → Ensured (g.K.Keeper.end c.self.inside.keeper) (g.K.Keeper.end c.step-told.new.keeper) c.self.inside.desk c.step-told.new.self
+    (record { moment = c.args.moment; words = c.args.words.now; asked = c.args.asked.now }) c.step-told.result
+stepped g c = record {
+  spent = λ full.
+      let left = c.step-told.ensures.spent full in
+      (left.0, left.1, ap (λ x. (g.K.Keeper.end x).count) left.2, λ is holds. subst (λ k. (g.K.Keeper.end k).holds (rows_of (hosts_of c.self.inside.desk).list)) (sym left.2) holds);
+  turn = c.step-told.ensures.turn;
+  back = c.step-told.ensures.back;
+  later = c.step-told.ensures.later;
+}
 
 pub invariant_of-self : goal.invariant_of-self
 invariant_of-self g c =
     let f : Frame = record { moment = c.args.moment; words = c.args.words.now; asked = c.args.asked.now } in
-    let step : Ensured (g.K.Keeper.end c.self.inside.keeper) (g.K.Keeper.end c.step-told.new.keeper) c.self.inside.desk c.step-told.new.self f c.step-told.result =
-    record {
-      spent = λ full. let left = c.step-told.ensures.spent full in (left.0, left.1, ap (λ x. (g.K.Keeper.end x).count) left.2, λ is holds. subst (λ k. (g.K.Keeper.end k).holds (rows_of (hosts_of c.self.inside.desk).list)) (sym left.2) holds);
-      turn = c.step-told.ensures.turn;
-      back = c.step-told.ensures.back;
-      later = c.step-told.ensures.later;
-    } in
+    let step = stepped g (goal.at.invariant_of-self g c).After-step-told in
     let fit : fits_command c.args.asked.now.command ≡ true = grind (arith, c.requires.fits) in (
       c.add.ensures.total ∙ ap (λ n. n + c.one_if-made.result) (c.audit.ensures.total ∙ c.self.invariant.0),
       c.add-2.ensures.total ∙ ap (λ n. n + c.one_if-drawn.result) (c.audit-2.ensures.total ∙ c.self.invariant.1),
@@ -34,20 +42,14 @@ invariant_of-self g c =
 pub returns : goal.returns
 returns g c =
     let f : Frame = record { moment = c.args.moment; words = c.args.words.now; asked = c.args.asked.now } in
-    let step : Ensured (g.K.Keeper.end c.self.inside.keeper) (g.K.Keeper.end c.step-told.new.keeper) c.self.inside.desk c.step-told.new.self f c.step-told.result =
-    record {
-      spent = λ full. let left = c.step-told.ensures.spent full in (left.0, left.1, ap (λ x. (g.K.Keeper.end x).count) left.2, λ is holds. subst (λ k. (g.K.Keeper.end k).holds (rows_of (hosts_of c.self.inside.desk).list)) (sym left.2) holds);
-      turn = c.step-told.ensures.turn;
-      back = c.step-told.ensures.back;
-      later = c.step-told.ensures.later;
-    } in
+    let step = stepped g (goal.at.returns g c).After-step-told in
     let withheld : Withheld c.self.inside.desk c.step-told.new.self f c.step-told.result = record {
       sealed = λ below is t r. record {
-        reply = c.step-told.ensures.alike_reply below is.0 is.1 t r;
-        hosts = c.step-told.ensures.alike_hosts below is.0 is.1 t r;
-        first = c.step-told.ensures.alike_first below is.0 is.1 t r;
+        reply = c.step-told.ensures.alike_reply below is t r;
+        hosts = c.step-told.ensures.alike_hosts below is t r;
+        first = c.step-told.ensures.alike_first below is t r;
       };
-      absent = λ below is t r past stands gone. c.step-told.ensures.absence below is.0 is.1 t r past stands gone;
+      absent = c.step-told.ensures.absence;
     } in
     let fit : fits_command c.args.asked.now.command ≡ true = grind (arith, c.requires.fits) in record {
       turned =
